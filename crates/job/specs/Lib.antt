@@ -1,0 +1,6 @@
+-- The definitions of this crate: what every check and every lent buffer shares, the stage mode, the job.
+pub mod Lists
+pub mod Verdict
+pub mod Buffers
+pub mod Mode
+pub mod Job

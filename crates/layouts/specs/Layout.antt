@@ -1,0 +1,85 @@
+-- Document 01, "Layouts and folding", first paragraph: boards, strips and stacks, their sides, and the layout rules of each mode.
+-- Assumes nothing.
+use Prim.Native.Nat.{ℕ}
+use mathlib.Core.Bool.{Bool, true, false, cond, not, _&&_, _||_}
+use mathlib.Core.List.{List, [], _∷_}
+use lib.Dec.{leb, eqb}
+use lib.ListN.{length}
+use Rattle.job.specs.Lists.{any, all, sumOf, maxOf, nonEmpty}
+use Rattle.job.specs.Verdict.{within}
+use Rattle.job.specs.Mode.{three, exact}
+use Rattle.job.specs.Job.{Job, itemAt}
+
+-- "a board is a list of strips from the bottom, a strip a list of stacks from the left, a stack a list of items from the bottom"
+abbrev pub Stack : Type 0
+Stack = List ℕ
+
+abbrev pub Strip : Type 0
+Strip = List Stack
+
+abbrev pub Board : Type 0
+Board = List Strip
+
+-- the sides of item type i, from 1
+unfoldable pub widthOf : Job → ℕ → ℕ
+widthOf job i = itemAt job i .width
+
+unfoldable pub heightOf : Job → ℕ → ℕ
+heightOf job i = itemAt job i .height
+
+-- "a stack's width is its widest item, its height the sum; a strip's height is its highest stack"
+unfoldable pub stackWidth : Job → Stack → ℕ
+stackWidth job s = maxOf (widthOf job) s
+
+unfoldable pub stackHeight : Job → Stack → ℕ
+stackHeight job s = sumOf (heightOf job) s
+
+unfoldable pub stripHeight : Job → Strip → ℕ
+stripHeight job s = maxOf (stackHeight job) s
+
+-- stack widths of a strip, strip heights of a board, added up
+unfoldable pub stripWidth : Job → Strip → ℕ
+stripWidth job s = sumOf (stackWidth job) s
+
+unfoldable pub boardHeight : Job → Board → ℕ
+boardHeight job b = sumOf (stripHeight job) b
+
+-- a stack that is one item
+unfoldable pub single : Stack → Bool
+single [] = false
+single (i ∷ []) = true
+single (i ∷ i′ ∷ is) = false
+
+-- "a single item of the strip's height", which is h
+unfoldable pub fullStack : Job → ℕ → Stack → Bool
+fullStack job h s = single s && eqb (stackHeight job s) h
+
+-- "in 2E all items of a strip are equally high"
+unfoldable pub sameHeights : Job → Strip → Bool
+sameHeights job s = all (λ k. eqb (stackHeight job k) (stripHeight job s)) s
+
+-- "in 3E all items of a stack are equally wide"
+unfoldable pub sameWidths : Job → Stack → Bool
+sameWidths job s = all (λ i. eqb (widthOf job i) (stackWidth job s)) s
+
+-- the stage rule of a strip, by the mode
+unfoldable pub stageRule : Job → Strip → Bool
+stageRule job s =
+    cond (three (job .mode))
+    (any (fullStack job (stripHeight job s)) s && (not (exact (job .mode)) || all (sameWidths job) s))
+    (all single s && (not (exact (job .mode)) || sameHeights job s))
+
+-- the rules of one board: nothing is empty, the items are of the job, the stage rule holds of each strip, and the sums are at most W and H
+unfoldable pub boardRules : Job → Board → Bool
+boardRules job b =
+    nonEmpty b
+    && all nonEmpty b
+    && all (all nonEmpty) b
+    && all (all (all (within 1 (length (job .items))))) b
+    && all (stageRule job) b
+    && all (λ s. leb (stripWidth job s) (job .width)) b
+    && leb (boardHeight job b) (job .height)
+
+-- "the layout rules" of a set of layouts, which is a list of boards
+unfoldable pub layoutRules : Job → List Board → Bool
+layoutRules job bs = all (boardRules job) bs

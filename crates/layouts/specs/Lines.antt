@@ -1,0 +1,132 @@
+-- Document 01, "Texts" and "Layouts and folding": layouts as words, refusals 1, 2 and 15 of their lines, and the set that lines in turn make.
+-- Assumes nothing.
+use Prim.Native.Nat.{ℕ, suc, _/_, _%_}
+use mathlib.Core.Bool.{Bool, true, false, not, _&&_, _||_}
+use mathlib.Core.List.{List, [], _∷_}
+use mathlib.Core.Option.{Option, none, some}
+use lib.Dec.{eqb}
+use lib.ListN.{length}
+use Rattle.job.specs.Verdict.{Verdict, pass, refuse, _then_, refuseIf, within, lowest}
+use Rattle.job.specs.Job.{Job, maxSide, maxPieces}
+use Rattle.layouts.specs.Layout.{Stack, Strip, Board}
+use Rattle.layouts.specs.Placement.{Turn, turn, Placement}
+
+-- the whole lines of layout words, seven words each
+unfoldable pub rowsOf : List ℕ → List Placement
+rowsOf [] = []
+rowsOf (b ∷ []) = []
+rowsOf (b ∷ s ∷ []) = []
+rowsOf (b ∷ s ∷ k ∷ []) = []
+rowsOf (b ∷ s ∷ k ∷ p ∷ []) = []
+rowsOf (b ∷ s ∷ k ∷ p ∷ i ∷ []) = []
+rowsOf (b ∷ s ∷ k ∷ p ∷ i ∷ x ∷ []) = []
+rowsOf (b ∷ s ∷ k ∷ p ∷ i ∷ x ∷ y ∷ ws) = record { turn = turn b s k p; item = i; x = x; y = y } ∷ rowsOf ws
+
+-- "board, strip, stack, place 1 to 4,000"
+abbrev pub counted : ℕ → Bool
+counted k = within 1 maxPieces k
+
+-- the numbers of a line are within their limits: "type 1 to n", "x, y 0 to 10,000"
+unfoldable pub rowRight : Job → Placement → Bool
+rowRight job r =
+    counted (r .turn .board)
+    && counted (r .turn .strip)
+    && counted (r .turn .stack)
+    && counted (r .turn .place)
+    && within 1 (length (job .items)) (r .item)
+    && within 0 maxSide (r .x)
+    && within 0 maxSide (r .y)
+
+-- the line row of layout words: 1 "a line cut short"; 2 a value outside its limits; both name the line
+unfoldable pub layoutWords : Job → List ℕ → Verdict
+layoutWords job ws =
+    refuseIf (not (eqb (length ws % 7) 0)) 1 (suc (length ws / 7))
+    then lowest 2 (λ _ r. not (rowRight job r)) 1 (rowsOf ws)
+
+unfoldable pub sameTurn : Turn → Turn → Bool
+sameTurn t u =
+    eqb (t .board) (u .board) && eqb (t .strip) (u .strip) && eqb (t .stack) (u .stack) && eqb (t .place) (u .place)
+
+-- u is the next in turn after t: the next place, stack, strip or board, what lies below it from 1 again
+unfoldable pub follows : Turn → Turn → Bool
+follows t u =
+    sameTurn u (turn (t .board) (t .strip) (t .stack) (suc (t .place)))
+    || sameTurn u (turn (t .board) (t .strip) (suc (t .stack)) 1)
+    || sameTurn u (turn (t .board) (suc (t .strip)) 1 1)
+    || sameTurn u (turn (suc (t .board)) 1 1 1)
+
+-- 15 at the lowest line, from line k on, that is not the next in turn after t
+unfoldable pub inTurn : ℕ → Turn → List Placement → Verdict
+inTurn k t [] = pass
+inTurn k t (r ∷ rs) =
+    elim (follows t (r .turn)) [
+      | false ↦ refuse 15 k
+      | true ↦ inTurn (suc k) (r .turn) rs
+    ]
+
+-- 15: "board, strip, stack, place not the next in turn from 1"; the first line is 1, 1, 1, 1
+unfoldable pub turns : ℕ → List Placement → Verdict
+turns k [] = pass
+turns k (r ∷ rs) =
+    elim (sameTurn (r .turn) (turn 1 1 1 1)) [
+      | false ↦ refuse 15 k
+      | true ↦ inTurn (suc k) (r .turn) rs
+    ]
+
+-- what a line begins where it does not go on with a stack
+pub data Level : Type 0 where
+  stack strip board : Level
+
+unfoldable pub levelOf : Turn → Option Level
+levelOf t =
+    elim (eqb (t .place) 1) [
+      | false ↦ none
+      | true ↦
+          elim (eqb (t .stack) 1) [
+            | false ↦ some stack
+            | true ↦ elim (eqb (t .strip) 1) [ false ↦ some strip | true ↦ some board ]
+          ]
+    ]
+
+-- what the first of some lines begins; past the last line only another board could begin
+unfoldable pub begun : List Placement → Option Level
+begun [] = some board
+begun (r ∷ rs) = levelOf (r .turn)
+
+-- an item below the first stack of a strip, of a board, of a set
+unfoldable pub inStrip : ℕ → Strip → Strip
+inStrip i [] = (i ∷ []) ∷ []
+inStrip i (k ∷ ks) = (i ∷ k) ∷ ks
+
+unfoldable pub inBoard : ℕ → Board → Board
+inBoard i [] = ((i ∷ []) ∷ []) ∷ []
+inBoard i (s ∷ ss) = inStrip i s ∷ ss
+
+unfoldable pub inSet : ℕ → List Board → List Board
+inSet i [] = (((i ∷ []) ∷ []) ∷ []) ∷ []
+inSet i (b ∷ bs) = inBoard i b ∷ bs
+
+-- a stack before the first strip of a board
+unfoldable pub beside : Stack → Board → Board
+beside k [] = (k ∷ []) ∷ []
+beside k (s ∷ ss) = (k ∷ s) ∷ ss
+
+-- a stack before a set whose first line begins a stack, a strip or a board
+unfoldable pub before : Level → Stack → List Board → List Board
+before v k [] = ((k ∷ []) ∷ []) ∷ []
+before stack k (b ∷ bs) = beside k b ∷ bs
+before strip k (b ∷ bs) = ((k ∷ []) ∷ b) ∷ bs
+before board k (b ∷ bs) = ((k ∷ []) ∷ []) ∷ b ∷ bs
+
+-- the set of layouts of lines that run in turn
+unfoldable pub grouped : List Placement → List Board
+grouped [] = []
+grouped (r ∷ rs) =
+    elim (begun rs) [
+      | none ↦ inSet (r .item) (grouped rs)
+      | some v ↦ before v (r .item ∷ []) (grouped rs)
+    ]
+
+-- the set of layouts of layout words
+unfoldable pub setOf : List ℕ → List Board
+setOf ws = grouped (rowsOf ws)

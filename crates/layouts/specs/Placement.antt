@@ -1,0 +1,80 @@
+-- Document 01, "Layouts and folding" and "The words of demand 3": item positions, the lines of a set of layouts, its pieces and demands.
+-- Assumes nothing.
+use Prim.Native.Nat.{ℕ, suc, _+_}
+use mathlib.Core.Bool.{Bool, true, _&&_}
+use mathlib.Core.List.{List, [], _∷_, _++_, flatMap}
+use lib.Dec.{leb}
+use Rattle.job.specs.declared.item.Item.{Item}
+use Rattle.job.specs.Lists.{occurs}
+use Rattle.job.specs.Job.{Job}
+use Rattle.layouts.specs.Layout.{Stack, Strip, Board, heightOf, stackWidth, stripHeight}
+
+-- board, strip, stack and place of an item, each from 1
+pub record Turn : Type 0 where
+  pub board : ℕ
+  pub strip : ℕ
+  pub stack : ℕ
+  pub place : ℕ
+
+abbrev pub turn : ℕ → ℕ → ℕ → ℕ → Turn
+turn b s k p = record { board = b; strip = s; stack = k; place = p }
+
+-- an item of a set: where it comes in turn, its type, and its position
+pub record Placement : Type 0 where
+  pub turn : Turn
+  pub item : ℕ
+  pub x : ℕ
+  pub y : ℕ
+
+-- a placement as words: "the seven numbers after the kind" of line 7
+unfoldable pub placementWords : List Placement → List ℕ
+placementWords ps =
+    flatMap
+    (λ p. p .turn .board ∷ p .turn .strip ∷ p .turn .stack ∷ p .turn .place ∷ p .item ∷ p .x ∷ p .y ∷ [])
+    ps
+
+-- "y the strips below plus the items below it in its stack": the items of a stack from place p on, at x, from y upwards
+unfoldable pub stackLines : Job → ℕ → ℕ → ℕ → ℕ → ℕ → ℕ → Stack → List Placement
+stackLines job b s k p x y [] = []
+stackLines job b s k p x y (i ∷ is) =
+    record { turn = turn b s k p; item = i; x = x; y = y } ∷ stackLines job b s k (suc p) x (y + heightOf job i) is
+
+-- "x the widths of the stacks before it": the items of a strip from stack k on, at the strip's y, from x rightwards
+unfoldable pub stripLines : Job → ℕ → ℕ → ℕ → ℕ → ℕ → Strip → List Placement
+stripLines job b s k x y [] = []
+stripLines job b s k x y (stack ∷ stacks) =
+    stackLines job b s k 1 x y stack ++ stripLines job b s (suc k) (x + stackWidth job stack) y stacks
+
+-- the items of a board from strip s on, from y upwards
+unfoldable pub boardLines : Job → ℕ → ℕ → ℕ → Board → List Placement
+boardLines job b s y [] = []
+boardLines job b s y (strip ∷ strips) =
+    stripLines job b s 1 0 y strip ++ boardLines job b (suc s) (y + stripHeight job strip) strips
+
+-- the items of a set from board b on
+unfoldable pub setLines : Job → ℕ → List Board → List Placement
+setLines job b [] = []
+setLines job b (board ∷ boards) = boardLines job b 1 0 board ++ setLines job (suc b) boards
+
+-- the lines of a set: "board, strip, stack and place run in turn from 1, x and y are the item positions"
+unfoldable pub linesOf : Job → List Board → List Placement
+linesOf job bs = setLines job 1 bs
+
+-- the items of a strip, of a board, of a set; "its pieces are its items"
+unfoldable pub itemsOfStrip : Strip → List ℕ
+itemsOfStrip ss = flatMap (λ s. s) ss
+
+unfoldable pub itemsOfBoard : Board → List ℕ
+itemsOfBoard ss = flatMap itemsOfStrip ss
+
+unfoldable pub itemsOfSet : List Board → List ℕ
+itemsOfSet bs = flatMap itemsOfBoard bs
+
+-- each item type from i on is among the pieces at least as often as demanded
+unfoldable pub meetsFrom : ℕ → List Item → List ℕ → Bool
+meetsFrom i [] is = true
+meetsFrom i (item ∷ items) is = leb (item .demand) (occurs i is) && meetsFrom (suc i) items is
+
+-- "it meets the demands if each type lies in it at least as often as demanded"
+unfoldable pub meetsDemands : Job → List Board → Bool
+meetsDemands job bs = meetsFrom 1 (job .items) (itemsOfSet bs)

@@ -1,0 +1,6 @@
+-- The definitions of this crate: plates and cuts, the walk that numbers them, the listing call.
+pub mod Plate
+pub mod Listing
+pub mod Model
+pub mod Records
+pub mod ListCall

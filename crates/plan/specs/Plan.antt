@@ -1,0 +1,58 @@
+-- Document 01, "Plan": a count for each cut, the boards that it opens, and when it is refused.
+-- Assumes nothing.
+use Prim.Native.Nat.{ℕ, suc, _+_}
+use mathlib.Core.Bool.{Bool, cond, not, _||_}
+use mathlib.Core.List.{List, [], _∷_}
+use lib.Dec.{ltb, eqb}
+use lib.ListN.{length, drop}
+use Rattle.job.specs.declared.item.Item.{Item}
+use Rattle.job.specs.Lists.{sumOf}
+use Rattle.job.specs.Verdict.{Verdict, _then_, refuseIf, lowest}
+use Rattle.job.specs.Job.{Job, maxPieces}
+use Rattle.listing.specs.declared.plate.Plate.{Plate}
+use Rattle.listing.specs.Listing.{Cut, Listing}
+
+-- the counts of the cuts that pass a test, added up; the counts stand in the order of the cuts
+unfoldable pub countOf : (Cut → Bool) → List Cut → List ℕ → ℕ
+countOf test [] ns = 0
+countOf test (c ∷ cs) [] = 0
+countOf test (c ∷ cs) (n ∷ ns) = cond (test c) n 0 + countOf test cs ns
+
+-- the cut is of item type i
+unfoldable pub ofItem : ℕ → Cut → Bool
+ofItem i c = eqb (c .item) i
+
+-- the cut is on plate type j
+unfoldable pub onPlate : ℕ → Cut → Bool
+onPlate j c = eqb (c .plate) j
+
+-- the cut leaves residual type j, from 1
+unfoldable pub leavesPlate : ℕ → Cut → Bool
+leavesPlate j c = eqb (c .top) j || eqb (c .right) j
+
+-- "boards opened: the counts of cuts on type 0 added up"
+unfoldable pub boards : Listing → List ℕ → ℕ
+boards l ns = countOf (onPlate 0) (l .cuts) ns
+
+-- all counts together
+unfoldable pub total : List ℕ → ℕ
+total ns = sumOf (λ n. n) ns
+
+-- item type i: its counts do not reach its demand
+unfoldable pub short : Listing → List ℕ → ℕ → Item → Bool
+short l ns i item = ltb (countOf (ofItem i) (l .cuts) ns) (item .demand)
+
+-- residual type j: the counts on it are more than the counts of cuts that leave it
+unfoldable pub overdrawn : Listing → List ℕ → ℕ → Plate → Bool
+overdrawn l ns j p = ltb (countOf (leavesPlate j) (l .cuts) ns) (countOf (onPlate j) (l .cuts) ns)
+
+-- 8 for counts passed as words: "a nonzero word past the last cut", naming the cut that it would be
+unfoldable pub countsRow : Listing → List ℕ → Verdict
+countsRow l ns = lowest 8 (λ _ n. not (eqb n 0)) (suc (length (l .cuts))) (drop (length (l .cuts)) ns)
+
+-- the plan row from 10 on: 10 total above 4,000; 11 type short; 12 residual type overdrawn
+unfoldable pub planRow : Job → Listing → List ℕ → Verdict
+planRow job l ns =
+    refuseIf (ltb maxPieces (total ns)) 10 0
+    then lowest 11 (short l ns) 1 (job .items)
+    then lowest 12 (overdrawn l ns) 1 (drop 1 (l .plates))

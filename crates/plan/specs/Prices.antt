@@ -1,0 +1,87 @@
+-- Document 01, "Prices": a denominator and prices, when they are refused, and the bound that they give.
+-- Assumes nothing.
+use Prim.Native.Nat.{ℕ, zero, suc, _+_, _*_, _-_}
+use mathlib.Core.Bool.{Bool, cond, not, _||_}
+use mathlib.Core.List.{List, [], _∷_}
+use lib.Dec.{ltb, eqb}
+use lib.ListN.{length, getD, take, drop}
+use Rattle.job.specs.declared.item.Item.{Item}
+use Rattle.job.specs.Verdict.{Verdict, refuseIf, within, lowest}
+use Rattle.job.specs.Job.{Job}
+use Rattle.listing.specs.Listing.{Cut, Listing, residualTypes}
+
+-- the greatest price, and the greatest denominator
+abbrev pub maxPrice : ℕ
+maxPrice = 9999
+
+-- the denominator D; a price for each item type and each residual type, both in order
+pub record Prices : Type 0 where
+  pub denominator : ℕ
+  pub items : List ℕ
+  pub residuals : List ℕ
+
+-- as words "prices are D, the n, the m"
+unfoldable pub pricesOf : Job → List ℕ → Prices
+pricesOf job ws =
+    record {
+      denominator = getD ws 0 0;
+      items = take (length (job .items)) (drop 1 ws);
+      residuals = drop (1 + length (job .items)) ws;
+    }
+
+-- the lowest value of word k, from 1: D is at least 1, a price at least 0
+unfoldable pub lowestPrice : ℕ → ℕ
+lowestPrice k = cond (eqb k 1) 1 0
+
+-- the line row of price words: 2 "a price above 9,999, or a D outside its limits", naming the word from 1
+unfoldable pub priceWords : List ℕ → Verdict
+priceWords ws = lowest 2 (λ k x. not (within (lowestPrice k) maxPrice x)) 1 ws
+
+-- the price of item type i, from 1
+unfoldable pub itemPrice : Prices → ℕ → ℕ
+itemPrice ps zero = 0
+itemPrice ps (suc i) = getD (ps .items) i 0
+
+-- the price of residual type j, from 1; 0 stands for a residual that is not kept, which has no price
+unfoldable pub residualPrice : Prices → ℕ → ℕ
+residualPrice ps zero = 0
+residualPrice ps (suc j) = getD (ps .residuals) j 0
+
+-- what a cut may come to: "at most D for a cut on type 0, else at most the price of the plate cut"
+unfoldable pub priceLimit : Prices → ℕ → ℕ
+priceLimit ps zero = ps .denominator
+priceLimit ps (suc j) = residualPrice ps (suc j)
+
+-- "the item's price plus the prices of its kept residuals"
+unfoldable pub worth : Prices → Cut → ℕ
+worth ps c = itemPrice ps (c .item) + residualPrice ps (c .top) + residualPrice ps (c .right)
+
+unfoldable pub overLimit : Prices → Cut → Bool
+overLimit ps c = ltb (priceLimit ps (c .plate)) (worth ps c)
+
+-- 13: "n or m not the model's"
+unfoldable pub modelSized : Job → Listing → ℕ → ℕ → Verdict
+modelSized job l n m =
+    refuseIf (not (eqb n (length (job .items))) || not (eqb m (residualTypes l))) 13 0
+
+-- 13 for price words, of which another length says so
+unfoldable pub pricesSized : Job → Listing → List ℕ → Verdict
+pricesSized job l ws = refuseIf (not (eqb (length ws) (1 + length (job .items) + residualTypes l))) 13 0
+
+-- the prices row from 14 on: 14 a cut over its limit
+unfoldable pub pricesRow : Listing → Prices → Verdict
+pricesRow l ps = lowest 14 (λ _ c. overLimit ps c) 1 (l .cuts)
+
+-- price times demand, added up over item types and their prices
+unfoldable pub priced : List Item → List ℕ → ℕ
+priced [] ps = 0
+priced (item ∷ items) [] = 0
+priced (item ∷ items) (p ∷ ps) = p * item .demand + priced items ps
+
+-- "the sum of price times demand"; the bound is this over D
+unfoldable pub priceSum : Job → Prices → ℕ
+priceSum job ps = priced (job .items) (ps .items)
+
+-- "Fewest is 1 exactly if (boards−1)×D is below that sum"
+unfoldable pub fewest : Job → Prices → ℕ → Bool
+fewest job ps n = ltb ((n - 1) * ps .denominator) (priceSum job ps)

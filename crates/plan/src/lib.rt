@@ -1,0 +1,1 @@
+// The plan and the prices of a job.

@@ -1,0 +1,54 @@
+//! The fold text: job and layouts as lines, answered by the lines of a plan (document 01,
+//! "Texts").
+
+use crate::columns::{refusal_text, write_line};
+use crate::folding::fold;
+use crate::job::Job;
+use crate::layout::Placement;
+use crate::layout_lines;
+use crate::listing::{Listing, FULL};
+use crate::refusal::Refusal;
+use crate::text_lines::Lines;
+
+/// Answers a fold text: lines of kind 3, cuts rising, or one line of kind 9 alone.
+pub fn fold_text(text: &[u8]) -> Vec<u8> {
+    match answer(text) {
+        Ok(output) => output,
+        Err(refusal) => refusal_text(refusal),
+    }
+}
+
+/// The rows from the line row to the layouts row, and the output where none refuses.
+fn answer(text: &[u8]) -> Result<Vec<u8>, Refusal> {
+    let (job, lines) = read(text)?;
+    job.admit()?;
+    let listing = Listing::walk(&job, FULL)?;
+    let first = job.items.len() + 2;
+    let set = layout_lines::test(&job, &lines, first)?;
+    Ok(output(&listing, &fold(&job, &listing, &set)))
+}
+
+/// The line row: kinds 1 and 2, and then any number of kind 7.
+fn read(text: &[u8]) -> Result<(Job, Vec<Placement>), Refusal> {
+    let mut lines = Lines::new(text);
+    let job = lines.job()?;
+    let mut layouts = Vec::new();
+    while !lines.is_at_end() {
+        let line = lines.line_of(7)?;
+        let placement = Placement::from_numbers(line.values, job.items.len());
+        layouts.push(placement.ok_or(line.outside_limits())?);
+    }
+    Ok((job, layouts))
+}
+
+/// Lines of kind 3 for the cuts that are counted.
+fn output(listing: &Listing, counts: &[u16]) -> Vec<u8> {
+    let mut out = Vec::new();
+    for (cut, &count) in listing.cuts.iter().zip(counts) {
+        if count > 0 {
+            let line = [cut.plate, cut.item, count].map(u32::from);
+            write_line(&mut out, &[3, line[0], line[1], line[2]]);
+        }
+    }
+    out
+}

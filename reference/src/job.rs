@@ -1,0 +1,122 @@
+//! The job: board, item types and stage mode (document 01, "The job").
+
+use crate::limits::{DEMAND, ITEM_TYPES, MOST_PIECES, SIDE};
+use crate::mode::Mode;
+use crate::plate::Plate;
+use crate::refusal::{
+    ensure, Refusal, DEMANDS_TOO_HIGH, ITEM_TOO_LARGE, NOT_OF_THE_FORM, OUTSIDE_LIMITS,
+};
+
+/// An item type: its sides and its demand.
+#[derive(Debug, Clone, Copy, PartialEq, Eq)]
+pub struct Item {
+    pub width: u16,
+    pub height: u16,
+    pub demand: u16,
+}
+
+impl Item {
+    /// The item of these three numbers, if each is within its limits.
+    pub fn from_numbers([width, height, demand]: [u32; 3]) -> Option<Item> {
+        let within = SIDE.contains(&width) && SIDE.contains(&height) && DEMAND.contains(&demand);
+        within.then_some(Item {
+            width: width as u16,
+            height: height as u16,
+            demand: demand as u16,
+        })
+    }
+}
+
+/// What precedes the item types: the numbers of line 1 after its kind, the first five job words.
+#[derive(Debug, Clone, Copy, PartialEq, Eq)]
+pub struct Head {
+    pub mode: Mode,
+    pub width: u16,
+    pub height: u16,
+    pub types: u16,
+}
+
+impl Head {
+    /// The head of stages, exact, W, H and n, if each is within its limits.
+    pub fn from_numbers([stages, exact, width, height, types]: [u32; 5]) -> Option<Head> {
+        let mode = Mode::from_numbers(stages, exact)?;
+        let within = SIDE.contains(&width) && SIDE.contains(&height) && ITEM_TYPES.contains(&types);
+        within.then_some(Head {
+            mode,
+            width: width as u16,
+            height: height as u16,
+            types: types as u16,
+        })
+    }
+}
+
+/// A job whose values are within their limits. Item types are numbered from 1.
+#[derive(Debug, Clone, PartialEq, Eq)]
+pub struct Job {
+    pub mode: Mode,
+    pub width: u16,
+    pub height: u16,
+    pub items: Vec<Item>,
+}
+
+impl Job {
+    /// The job of a head and as many items as the head announces.
+    pub fn new(head: Head, items: Vec<Item>) -> Job {
+        debug_assert_eq!(items.len(), usize::from(head.types));
+        Job {
+            mode: head.mode,
+            width: head.width,
+            height: head.height,
+            items,
+        }
+    }
+
+    /// Reads job words: stages, exact, W, H, n, then width, height, demand of each type.
+    /// Another length is 1, place 0; then a value outside its limits is 2, naming 0 for the
+    /// board and else the type.
+    pub fn from_words(words: &[u16]) -> Result<Job, Refusal> {
+        let types = words.get(4).map_or(0, |&n| usize::from(n));
+        ensure(words.len() == 5 + 3 * types, NOT_OF_THE_FORM, 0)?;
+        let (head, items) = words.split_at(5);
+        let head = Head::from_numbers(std::array::from_fn(|k| u32::from(head[k])))
+            .ok_or(Refusal::new(OUTSIDE_LIMITS, 0))?;
+        let mut read = Vec::with_capacity(types);
+        for (index, item) in items.chunks_exact(3).enumerate() {
+            let item = Item::from_numbers(std::array::from_fn(|k| u32::from(item[k])));
+            read.push(item.ok_or(Refusal::new(OUTSIDE_LIMITS, index + 1))?);
+        }
+        Ok(Job::new(head, read))
+    }
+
+    /// The job row of the table: an item larger than the board is 3, demands above 4,000 are 4.
+    pub fn admit(&self) -> Result<(), Refusal> {
+        for (index, item) in self.items.iter().enumerate() {
+            let fits = item.width <= self.width && item.height <= self.height;
+            ensure(fits, ITEM_TOO_LARGE, index + 1)?;
+        }
+        let demands: u32 = self.items.iter().map(|item| u32::from(item.demand)).sum();
+        ensure(demands <= MOST_PIECES, DEMANDS_TOO_HIGH, 0)
+    }
+
+    /// The item of this type, from 1.
+    pub fn item(&self, number: u16) -> &Item {
+        &self.items[usize::from(number) - 1]
+    }
+
+    /// Plate type 0: the whole board, at stage 1.
+    pub fn board_plate(&self) -> Plate {
+        Plate {
+            width: self.width,
+            height: self.height,
+            stage: 1,
+        }
+    }
+
+    /// Whether a residual is kept: at least one item type may be cut from it
+    /// (document 01, "Plates and cuts"). Demand plays no part.
+    pub fn keeps(&self, residual: &Plate) -> bool {
+        self.items
+            .iter()
+            .any(|item| residual.admits(self.mode, item))
+    }
+}

@@ -1,0 +1,159 @@
+//! Layouts: boards of strips of stacks of items, their measures, rules and item positions
+//! (document 01, "Layouts and folding", first paragraph).
+
+use crate::job::Job;
+use crate::limits::{POSITION, TURN};
+use crate::mode::Mode;
+
+/// Item types from the bottom.
+pub type Stack = Vec<u16>;
+/// Stacks from the left.
+pub type Strip = Vec<Stack>;
+/// Strips from the bottom.
+pub type Board = Vec<Strip>;
+
+/// An item's board, strip, stack and place, its type and its position: the seven numbers of a
+/// line of kind 7 after the kind.
+#[derive(Debug, Clone, Copy, PartialEq, Eq, Hash)]
+pub struct Placement {
+    pub board: u16,
+    pub strip: u16,
+    pub stack: u16,
+    pub place: u16,
+    pub item: u16,
+    pub x: u16,
+    pub y: u16,
+}
+
+impl Placement {
+    /// The placement of these seven numbers, if each is within its limits for a job of so many
+    /// item types.
+    pub fn from_numbers(numbers: [u32; 7], types: usize) -> Option<Placement> {
+        let [.., item, x, y] = numbers;
+        let within = numbers[..4].iter().all(|number| TURN.contains(number))
+            && (1..=types as u32).contains(&item)
+            && POSITION.contains(&x)
+            && POSITION.contains(&y);
+        within.then(|| Placement::from_words(numbers.map(|number| number as u16)))
+    }
+
+    /// The placement of seven words.
+    pub fn from_words([board, strip, stack, place, item, x, y]: [u16; 7]) -> Placement {
+        Placement {
+            board,
+            strip,
+            stack,
+            place,
+            item,
+            x,
+            y,
+        }
+    }
+
+    /// The seven words of a placement.
+    pub fn words(&self) -> [u16; 7] {
+        [
+            self.board, self.strip, self.stack, self.place, self.item, self.x, self.y,
+        ]
+    }
+}
+
+/// A stack's width: its widest item.
+pub fn stack_width(job: &Job, stack: &[u16]) -> u32 {
+    let widths = stack.iter().map(|&item| u32::from(job.item(item).width));
+    widths.max().unwrap_or(0)
+}
+
+/// A stack's height: the sum of its items' heights.
+pub fn stack_height(job: &Job, stack: &[u16]) -> u32 {
+    let heights = stack.iter().map(|&item| u32::from(job.item(item).height));
+    heights.sum()
+}
+
+/// The stack widths of a strip, added up.
+pub fn strip_width(job: &Job, strip: &[Stack]) -> u32 {
+    strip.iter().map(|stack| stack_width(job, stack)).sum()
+}
+
+/// A strip's height: that of its highest stack.
+pub fn strip_height(job: &Job, strip: &[Stack]) -> u32 {
+    let heights = strip.iter().map(|stack| stack_height(job, stack));
+    heights.max().unwrap_or(0)
+}
+
+/// The place in its strip of the leftmost stack that is a single item of the strip's height.
+pub fn leading_stack(job: &Job, strip: &[Stack]) -> Option<usize> {
+    let height = strip_height(job, strip);
+    strip
+        .iter()
+        .position(|stack| stack.len() == 1 && stack_height(job, stack) == height)
+}
+
+/// Whether a strip keeps the rule of the job's mode. Two-stage: each stack is one item, in 2E
+/// all equally high. Three-stage: some stack is a single item of the strip's height, in 3E the
+/// items of each stack are equally wide.
+pub fn keeps_stage_rule(job: &Job, strip: &[Stack]) -> bool {
+    let height = strip_height(job, strip);
+    let single = |stack: &Stack| stack.len() == 1;
+    let as_high_as_strip = |stack: &Stack| stack_height(job, stack) == height;
+    let one_width = |stack: &Stack| {
+        let width = stack_width(job, stack);
+        let same = |&item: &u16| u32::from(job.item(item).width) == width;
+        stack.iter().all(same)
+    };
+    match job.mode {
+        Mode::TwoExact => strip.iter().all(single) && strip.iter().all(as_high_as_strip),
+        Mode::TwoNonExact => strip.iter().all(single),
+        Mode::ThreeExact => leading_stack(job, strip).is_some() && strip.iter().all(one_width),
+        Mode::ThreeNonExact => leading_stack(job, strip).is_some(),
+    }
+}
+
+/// Whether a board keeps all layout rules of the job's mode: no list is empty, every item is of
+/// a type of the job, each strip keeps the stage rule, stack widths of a strip add up to at most
+/// the board's width and strip heights to at most its height.
+pub fn keeps_rules(job: &Job, board: &[Strip]) -> bool {
+    let known = |&item: &u16| (1..=job.items.len()).contains(&usize::from(item));
+    let full = |strip: &Strip| {
+        let stack_full = |stack: &Stack| !stack.is_empty() && stack.iter().all(known);
+        !strip.is_empty() && strip.iter().all(stack_full)
+    };
+    let fits = |strip: &Strip| strip_width(job, strip) <= u32::from(job.width);
+    let height = |strip: &Strip| strip_height(job, strip);
+    !board.is_empty()
+        && board.iter().all(full)
+        && board.iter().all(|strip| keeps_stage_rule(job, strip))
+        && board.iter().all(fits)
+        && board.iter().map(height).sum::<u32>() <= u32::from(job.height)
+}
+
+/// The placements of a set of layouts whose strips lie on their boards: board, strip, stack and
+/// place in turn from 1; x the widths of the stacks before, y the strips below plus the items
+/// below in the stack.
+pub fn placements(job: &Job, set: &[Board]) -> Vec<Placement> {
+    let mut placed = Vec::new();
+    for (board_number, board) in (1..).zip(set) {
+        let mut below = 0;
+        for (strip_number, strip) in (1..).zip(board) {
+            let mut x = 0;
+            for (stack_number, stack) in (1..).zip(strip) {
+                let mut y = below;
+                for (place, &item) in (1..).zip(stack) {
+                    placed.push(Placement {
+                        board: board_number,
+                        strip: strip_number,
+                        stack: stack_number,
+                        place,
+                        item,
+                        x: x as u16,
+                        y: y as u16,
+                    });
+                    y += u32::from(job.item(item).height);
+                }
+                x += stack_width(job, stack);
+            }
+            below += strip_height(job, strip);
+        }
+    }
+    placed
+}

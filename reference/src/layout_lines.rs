@@ -1,0 +1,117 @@
+//! Layout lines: reading them from words, and the layouts row of the table "Where each number is
+//! given".
+
+use crate::job::Job;
+use crate::layout::{
+    keeps_stage_rule, placements, strip_height, strip_width, Board, Placement, Strip,
+};
+use crate::limits::MOST_PIECES;
+use crate::plan::ensure_demands;
+use crate::refusal::{
+    ensure, Refusal, NOT_NEXT_IN_TURN, NOT_OF_THE_FORM, OUTSIDE_LIMITS, PAST_THE_BOARD,
+    POSITION_WRONG, STAGE_RULE, TOTAL_TOO_HIGH,
+};
+
+/// Reads layout words, seven to a line. A line cut short is 1, naming it; then a value outside
+/// its limits is 2, naming its line.
+pub fn lines_of_words(words: &[u16], types: usize) -> Result<Vec<Placement>, Refusal> {
+    let lines = words.chunks_exact(7);
+    ensure(
+        lines.remainder().is_empty(),
+        NOT_OF_THE_FORM,
+        lines.len() + 1,
+    )?;
+    let mut read = Vec::with_capacity(lines.len());
+    for (number, line) in (1..).zip(lines) {
+        let numbers = std::array::from_fn(|k| u32::from(line[k]));
+        let line = Placement::from_numbers(numbers, types);
+        read.push(line.ok_or(Refusal::new(OUTSIDE_LIMITS, number))?);
+    }
+    Ok(read)
+}
+
+/// The layouts row, over lines that are counted from `first`, and the set that they describe:
+/// 10 over 4,000 lines; 15 not the next in turn; 16 stage rule; 17 past the board; 18 x or y
+/// wrong; then 11, an item type that lies there less often than demanded.
+pub fn test(job: &Job, lines: &[Placement], first: usize) -> Result<Vec<Board>, Refusal> {
+    ensure(lines.len() <= MOST_PIECES as usize, TOTAL_TOO_HIGH, 0)?;
+    for index in 0..lines.len() {
+        let in_turn = follows(&lines[..index], &lines[index]);
+        ensure(in_turn, NOT_NEXT_IN_TURN, first + index)?;
+    }
+    let set = set_of(lines);
+    for (line, _, strip) in strips_with_lines(&set, first) {
+        ensure(keeps_stage_rule(job, strip), STAGE_RULE, line)?;
+    }
+    ensure_inside(job, &set, first)?;
+    for (index, (line, true_line)) in lines.iter().zip(placements(job, &set)).enumerate() {
+        ensure(*line == true_line, POSITION_WRONG, first + index)?;
+    }
+    let mut laid = vec![0; job.items.len() + 1];
+    for line in lines {
+        laid[usize::from(line.item)] += 1;
+    }
+    ensure_demands(job, &laid)?;
+    Ok(set)
+}
+
+/// Whether a line is the next in turn after the lines before it: the next place, or place 1 of
+/// the next stack, the next strip or the next board; the first line is 1, 1, 1, 1.
+fn follows(before: &[Placement], line: &Placement) -> bool {
+    let turn = (line.board, line.strip, line.stack, line.place);
+    let Some(last) = before.last() else {
+        return turn == (1, 1, 1, 1);
+    };
+    turn == (last.board, last.strip, last.stack, last.place + 1)
+        || turn == (last.board, last.strip, last.stack + 1, 1)
+        || turn == (last.board, last.strip + 1, 1, 1)
+        || turn == (last.board + 1, 1, 1, 1)
+}
+
+/// The set of layouts that lines in turn describe. x and y play no part.
+pub fn set_of(lines: &[Placement]) -> Vec<Board> {
+    let mut set: Vec<Board> = Vec::new();
+    for line in lines {
+        if usize::from(line.board) > set.len() {
+            set.push(Board::new());
+        }
+        let board = set.last_mut().expect("line 1 begins a board");
+        if usize::from(line.strip) > board.len() {
+            board.push(Strip::new());
+        }
+        let strip = board.last_mut().expect("a board begins with a strip");
+        if usize::from(line.stack) > strip.len() {
+            strip.push(Vec::new());
+        }
+        let stack = strip.last_mut().expect("a strip begins with a stack");
+        stack.push(line.item);
+    }
+    set
+}
+
+/// All strips of a set in turn, each with the number of its first line and with whether it is
+/// the lowest of its board.
+fn strips_with_lines(set: &[Board], first: usize) -> impl Iterator<Item = (usize, bool, &Strip)> {
+    let strips = set.iter().flat_map(|board| board.iter().enumerate());
+    strips.scan(first, |next, (index, strip)| {
+        let line = *next;
+        *next += strip.iter().map(Vec::len).sum::<usize>();
+        Some((line, index == 0, strip))
+    })
+}
+
+/// Refuses with 17 the first strip whose stacks reach past the board's width or whose own top
+/// edge, the strips below it plus its height, lies above the board's height.
+fn ensure_inside(job: &Job, set: &[Board], first: usize) -> Result<(), Refusal> {
+    let mut top = 0;
+    for (line, lowest, strip) in strips_with_lines(set, first) {
+        if lowest {
+            top = 0;
+        }
+        top += strip_height(job, strip);
+        let inside =
+            strip_width(job, strip) <= u32::from(job.width) && top <= u32::from(job.height);
+        ensure(inside, PAST_THE_BOARD, line)?;
+    }
+    Ok(())
+}

@@ -1,0 +1,34 @@
+//! Reference implementation of the beam saw plan engine, written from document 01.
+//!
+//! Layers, bottom up: the job and its limits; plates, cuts and their listing; plans, prices,
+//! layouts, unfolding and folding as structures; the five calls over words; the two texts.
+
+pub mod buffers;
+pub mod calls;
+pub mod columns;
+pub mod fold_text;
+pub mod folding;
+pub mod job;
+pub mod layout;
+pub mod layout_lines;
+pub mod limits;
+pub mod listing;
+pub mod mode;
+pub mod plan;
+pub mod plate;
+pub mod prices;
+pub mod refusal;
+pub mod saw_text;
+pub mod text_lines;
+pub mod unfolding;
+
+pub use calls::{fold, list, test_plan, test_prices, unfold, Listed, Unfolded};
+pub use fold_text::fold_text;
+pub use job::{Item, Job};
+pub use layout::{Board, Placement, Stack, Strip};
+pub use listing::{Cut, Listing};
+pub use mode::Mode;
+pub use plate::Plate;
+pub use prices::{Bound, Prices};
+pub use refusal::Refusal;
+pub use saw_text::saw_text;

@@ -1,0 +1,152 @@
+//! The listing: the walk that numbers plate types and cuts (document 01, "Plates and cuts").
+
+use crate::job::Job;
+use crate::limits::{MOST_CUTS, MOST_PLATE_TYPES};
+use crate::plate::Plate;
+use crate::refusal::{ensure, Refusal, TOO_MANY_CUTS, TOO_MANY_PLATE_TYPES};
+use std::collections::HashMap;
+use std::ops::Range;
+
+/// A cut: the plate type cut, the item type obtained, and the kept residuals.
+#[derive(Debug, Clone, Copy, PartialEq, Eq)]
+pub struct Cut {
+    pub plate: u16,
+    pub item: u16,
+    pub top: Option<u16>,
+    pub right: Option<u16>,
+}
+
+/// The most plate types (type 0 among them) and cuts that a walk may meet: those of document 01,
+/// or lower ones.
+#[derive(Debug, Clone, Copy, PartialEq, Eq)]
+pub struct Limits {
+    pub plate_types: usize,
+    pub cuts: usize,
+}
+
+/// The limits that document 01 sets.
+pub const FULL: Limits = Limits {
+    plate_types: MOST_PLATE_TYPES,
+    cuts: MOST_CUTS,
+};
+
+/// Plate types numbered from 0 and cuts numbered from 1, in the order of the walk.
+#[derive(Debug, Clone, PartialEq, Eq)]
+pub struct Listing {
+    pub plates: Vec<Plate>,
+    pub cuts: Vec<Cut>,
+    /// For each plate type the index of its first cut, and one entry more: all cuts.
+    /// The cuts on one plate type are consecutive, since the walk goes plate by plate.
+    first: Vec<usize>,
+}
+
+impl Listing {
+    /// Walks plate types in rising number and at each the item types in rising number.
+    /// Each permitted pair is the next cut; then its top and its right, if kept and new,
+    /// are the next plate types. Refuses a plate type too many with 6 and a cut too many with
+    /// 7, whichever the walk meets first.
+    pub fn walk(job: &Job, limits: Limits) -> Result<Listing, Refusal> {
+        let mut met = MetPlates::new(job, limits.plate_types);
+        let mut cuts = Vec::new();
+        let mut first = Vec::new();
+        while let Some(&plate) = met.plates.get(first.len()) {
+            let number = first.len() as u16;
+            first.push(cuts.len());
+            for (item_type, item) in (1..).zip(&job.items) {
+                if !plate.admits(job.mode, item) {
+                    continue;
+                }
+                ensure(cuts.len() < limits.cuts, TOO_MANY_CUTS, 0)?;
+                let left = plate.residuals(job.mode, item);
+                let top = met.number(left.top)?;
+                let right = met.number(left.right)?;
+                cuts.push(Cut {
+                    plate: number,
+                    item: item_type,
+                    top,
+                    right,
+                });
+            }
+        }
+        first.push(cuts.len());
+        let plates = met.plates;
+        Ok(Listing {
+            plates,
+            cuts,
+            first,
+        })
+    }
+
+    /// The number of residual types: plate types without type 0.
+    pub fn residual_types(&self) -> usize {
+        self.plates.len() - 1
+    }
+
+    /// The indices (from 0) of the cuts on a plate type.
+    pub fn cuts_on(&self, plate: u16) -> Range<usize> {
+        let plate = usize::from(plate);
+        self.first[plate]..self.first[plate + 1]
+    }
+
+    /// The index (from 0) of the cut of this item type from this plate type, if there is one.
+    pub fn cut_of(&self, plate: u16, item: u16) -> Option<usize> {
+        if usize::from(plate) >= self.plates.len() {
+            return None;
+        }
+        let on = self.cuts_on(plate);
+        let found = self.cuts[on.clone()].binary_search_by_key(&item, |cut| cut.item);
+        found.ok().map(|offset| on.start + offset)
+    }
+
+    /// The plates as words: width, height, stage of each.
+    pub fn plate_words(&self) -> Vec<u16> {
+        let record = |plate: &Plate| [plate.width, plate.height, plate.stage];
+        self.plates.iter().flat_map(record).collect()
+    }
+
+    /// The cuts as words: plate, item, top and right of each, 0 for a residual not kept.
+    pub fn cut_words(&self) -> Vec<u16> {
+        let number = |residual: Option<u16>| residual.unwrap_or(0);
+        let record = |cut: &Cut| [cut.plate, cut.item, number(cut.top), number(cut.right)];
+        self.cuts.iter().flat_map(record).collect()
+    }
+}
+
+/// The plate types met so far, with the number of each.
+struct MetPlates<'a> {
+    job: &'a Job,
+    most: usize,
+    plates: Vec<Plate>,
+    numbers: HashMap<Plate, u16>,
+}
+
+impl<'a> MetPlates<'a> {
+    /// Type 0 alone.
+    fn new(job: &'a Job, most: usize) -> Self {
+        let board = job.board_plate();
+        MetPlates {
+            job,
+            most,
+            plates: vec![board],
+            numbers: HashMap::from([(board, 0)]),
+        }
+    }
+
+    /// The number of a residual, a fresh one if it is new; none if it is not kept.
+    fn number(&mut self, residual: Option<Plate>) -> Result<Option<u16>, Refusal> {
+        let Some(plate) = residual else {
+            return Ok(None);
+        };
+        if let Some(&number) = self.numbers.get(&plate) {
+            return Ok(Some(number));
+        }
+        if !self.job.keeps(&plate) {
+            return Ok(None);
+        }
+        ensure(self.plates.len() < self.most, TOO_MANY_PLATE_TYPES, 0)?;
+        let number = self.plates.len() as u16;
+        self.plates.push(plate);
+        self.numbers.insert(plate, number);
+        Ok(Some(number))
+    }
+}

@@ -1,0 +1,146 @@
+//! The saw text: job, plan and prices as lines, answered by placements and a bound (document 01,
+//! "Texts").
+
+use crate::columns::{refusal_text, write_line};
+use crate::job::Job;
+use crate::limits::{COUNT, DENOMINATOR, ITEM_TYPES, PLATE_NUMBER, PRICE, RESIDUAL_TYPES};
+use crate::listing::{Listing, FULL};
+use crate::plan;
+use crate::prices::{Bound, Prices};
+use crate::refusal::{ensure, Refusal, CUT_NOT_RISING, NO_SUCH_CUT};
+use crate::text_lines::{Line, Lines};
+use crate::unfolding::{unfold, Unfolding};
+
+/// Answers a saw text: lines of kind 7 and one of kind 8, or one line of kind 9 alone.
+pub fn saw_text(text: &[u8]) -> Vec<u8> {
+    match answer(text) {
+        Ok(output) => output,
+        Err(refusal) => refusal_text(refusal),
+    }
+}
+
+/// A line of kind 3 whose values are within their limits.
+struct CountLine {
+    number: usize,
+    plate: u16,
+    item: u16,
+    count: u16,
+}
+
+/// What a saw text says: kinds 1 and 2, kind 3, and kinds 4 to 6 if they are there.
+struct SawText {
+    job: Job,
+    plan: Vec<CountLine>,
+    prices: Option<Prices>,
+}
+
+/// The rows from the line row to the prices row, and the output where none refuses.
+fn answer(text: &[u8]) -> Result<Vec<u8>, Refusal> {
+    let SawText { job, plan, prices } = read(text)?;
+    job.admit()?;
+    let listing = Listing::walk(&job, FULL)?;
+    let counts = counts_of_lines(&listing, &plan)?;
+    plan::test(&job, &listing, &counts)?;
+    let bound = match prices {
+        Some(prices) => prices.test(&job, &listing)?,
+        None => Bound::NONE,
+    };
+    let unfolding = unfold(&job, &listing, &counts);
+    Ok(output(&unfolding, bound))
+}
+
+/// The line row: kinds 1 and 2, any number of kind 3, and then nothing or kinds 4, 5 and 6.
+fn read(text: &[u8]) -> Result<SawText, Refusal> {
+    let mut lines = Lines::new(text);
+    let job = lines.job()?;
+    let mut plan = Vec::new();
+    let mut prices = None;
+    while !lines.is_at_end() {
+        let line = lines.line()?;
+        match line.kind {
+            3 if prices.is_none() => plan.push(count_line(line, job.items.len())?),
+            4 if prices.is_none() => prices = Some(read_prices(&mut lines, line)?),
+            _ => return Err(line.out_of_order()),
+        }
+    }
+    Ok(SawText { job, plan, prices })
+}
+
+/// A line of kind 3, if its plate, item and count are within their limits.
+fn count_line(line: Line, types: usize) -> Result<CountLine, Refusal> {
+    let [plate, item, count, ..] = line.values;
+    let within = PLATE_NUMBER.contains(&plate)
+        && (1..=types as u32).contains(&item)
+        && COUNT.contains(&count);
+    match within {
+        true => Ok(CountLine {
+            number: line.number,
+            plate: plate as u16,
+            item: item as u16,
+            count: count as u16,
+        }),
+        false => Err(line.outside_limits()),
+    }
+}
+
+/// The prices that a line of kind 4 announces: as many lines of kinds 5 and 6 as it says,
+/// whether or not that is the model's number.
+fn read_prices(lines: &mut Lines, head: Line) -> Result<Prices, Refusal> {
+    let [denominator, types, residual_types, ..] = head.values;
+    let within = DENOMINATOR.contains(&denominator)
+        && ITEM_TYPES.contains(&types)
+        && RESIDUAL_TYPES.contains(&residual_types);
+    if !within {
+        return Err(head.outside_limits());
+    }
+    Ok(Prices {
+        denominator: denominator as u16,
+        items: read_price_lines(lines, 5, types)?,
+        residuals: read_price_lines(lines, 6, residual_types)?,
+    })
+}
+
+/// The prices of lines of one kind, numbered from 1 to the last.
+fn read_price_lines(lines: &mut Lines, kind: u32, last: u32) -> Result<Vec<u16>, Refusal> {
+    let mut prices = Vec::with_capacity(last as usize);
+    for running in 1..=last {
+        let line = lines.running_line(kind, running)?;
+        let price = line.values[1];
+        if !PRICE.contains(&price) {
+            return Err(line.outside_limits());
+        }
+        prices.push(price as u16);
+    }
+    Ok(prices)
+}
+
+/// The counts of the lines of kind 3. A line that names no cut is 8, over all lines first; a
+/// line whose cut does not come after the last line's is 9.
+fn counts_of_lines(listing: &Listing, plan: &[CountLine]) -> Result<Vec<u16>, Refusal> {
+    let mut cuts = Vec::with_capacity(plan.len());
+    for line in plan {
+        let cut = listing.cut_of(line.plate, line.item);
+        cuts.push(cut.ok_or(Refusal::new(NO_SUCH_CUT, line.number))?);
+    }
+    for (pair, line) in cuts.windows(2).zip(plan.iter().skip(1)) {
+        ensure(pair[0] < pair[1], CUT_NOT_RISING, line.number)?;
+    }
+    let mut counts = vec![0; listing.cuts.len()];
+    for (cut, line) in cuts.into_iter().zip(plan) {
+        counts[cut] = line.count;
+    }
+    Ok(counts)
+}
+
+/// Lines of kind 7, one for each item, and the line of kind 8.
+fn output(unfolding: &Unfolding, bound: Bound) -> Vec<u8> {
+    let mut out = Vec::new();
+    for placement in &unfolding.placements {
+        let [board, strip, stack, place, item, x, y] = placement.words().map(u32::from);
+        write_line(&mut out, &[7, board, strip, stack, place, item, x, y]);
+    }
+    let boards = u32::from(unfolding.boards);
+    let fewest = u32::from(bound.is_fewest(boards));
+    write_line(&mut out, &[8, boards, bound.sum, bound.d, fewest]);
+    out
+}

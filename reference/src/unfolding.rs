@@ -1,0 +1,125 @@
+//! Unfolding: from the counts of a plan to the items' places on boards (document 01, "Unfolding").
+
+use crate::job::Job;
+use crate::layout::Placement;
+use crate::listing::Listing;
+
+/// The placements of an unfolding, the boards opened, and the counts that were not spent.
+#[derive(Debug, Clone, PartialEq, Eq)]
+pub struct Unfolding {
+    pub placements: Vec<Placement>,
+    pub boards: u16,
+    pub left: Vec<u16>,
+}
+
+/// A piece of plate that waits, with the position of its lower left corner.
+#[derive(Debug, Clone, Copy)]
+struct Piece {
+    plate: u16,
+    x: u16,
+    y: u16,
+}
+
+/// The pieces waiting: at most one of each stage.
+struct Waiting {
+    by_stage: [Option<Piece>; 3],
+}
+
+impl Waiting {
+    /// A board just opened: one piece of type 0, and nothing else.
+    fn board() -> Waiting {
+        let whole = Piece {
+            plate: 0,
+            x: 0,
+            y: 0,
+        };
+        Waiting {
+            by_stage: [Some(whole), None, None],
+        }
+    }
+
+    /// Takes the piece of the highest stage.
+    fn take_highest(&mut self) -> Option<Piece> {
+        self.by_stage.iter_mut().rev().find_map(Option::take)
+    }
+
+    /// Lets a kept residual wait at its position.
+    fn put(&mut self, listing: &Listing, residual: Option<u16>, x: u16, y: u16) {
+        if let Some(plate) = residual {
+            let stage = usize::from(listing.plates[usize::from(plate)].stage);
+            self.by_stage[stage - 1] = Some(Piece { plate, x, y });
+        }
+    }
+}
+
+/// Board, strip, stack and place of the item laid last.
+#[derive(Debug, Clone, Copy)]
+struct Turn {
+    board: u16,
+    strip: u16,
+    stack: u16,
+    place: u16,
+}
+
+impl Turn {
+    /// A cut at stage 1 begins a strip, one at stage 2 a stack, one at stage 3 takes the next
+    /// place of its stack.
+    fn advance(&mut self, stage: u16) {
+        match stage {
+            1 => (self.strip, self.stack, self.place) = (self.strip + 1, 1, 1),
+            2 => (self.stack, self.place) = (self.stack + 1, 1),
+            _ => self.place += 1,
+        }
+    }
+}
+
+/// Unfolds an accepted plan: opens boards one after another until the counts on type 0 are spent.
+pub fn unfold(job: &Job, listing: &Listing, counts: &[u16]) -> Unfolding {
+    let mut unfolding = Unfolding {
+        placements: Vec::new(),
+        boards: 0,
+        left: counts.to_vec(),
+    };
+    while lowest_left(listing, &unfolding.left, 0).is_some() {
+        unfolding.boards += 1;
+        unfold_board(job, listing, &mut unfolding);
+    }
+    unfolding
+}
+
+/// Cuts up one board: the piece of the highest stage is taken until nothing waits; the lowest
+/// cut on its type with a count left is done, and without one the piece is left over.
+fn unfold_board(job: &Job, listing: &Listing, unfolding: &mut Unfolding) {
+    let mut turn = Turn {
+        board: unfolding.boards,
+        strip: 0,
+        stack: 0,
+        place: 0,
+    };
+    let mut waiting = Waiting::board();
+    while let Some(piece) = waiting.take_highest() {
+        let Some(index) = lowest_left(listing, &unfolding.left, piece.plate) else {
+            continue;
+        };
+        unfolding.left[index] -= 1;
+        let cut = listing.cuts[index];
+        turn.advance(listing.plates[usize::from(piece.plate)].stage);
+        unfolding.placements.push(Placement {
+            board: turn.board,
+            strip: turn.strip,
+            stack: turn.stack,
+            place: turn.place,
+            item: cut.item,
+            x: piece.x,
+            y: piece.y,
+        });
+        let item = job.item(cut.item);
+        waiting.put(listing, cut.top, piece.x, piece.y + item.height);
+        waiting.put(listing, cut.right, piece.x + item.width, piece.y);
+    }
+}
+
+/// The index of the lowest-numbered cut on a plate type that has a count left.
+fn lowest_left(listing: &Listing, left: &[u16], plate: u16) -> Option<usize> {
+    listing.cuts_on(plate).find(|&index| left[index] > 0)
+}
