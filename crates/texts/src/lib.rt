@@ -1,1 +1,1 @@
-// The texts crate.
+// The saw text and the fold text.

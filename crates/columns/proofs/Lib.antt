@@ -1,0 +1,3 @@
+-- The laws of this crate: a group and a line, both ways.
+pub mod GroupLaws
+pub mod LineLaws

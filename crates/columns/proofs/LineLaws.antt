@@ -1,0 +1,178 @@
+-- The laws of a line, by those of a group: read what was written, write what was read.
+-- Assumes nothing.
+use Prim.Native.Nat.{ℕ, zero, suc, _+_, _-_, _*_, _≤_, _<_}
+use mathlib.Core.Path.{_≡_, refl, sym, ap, _∙_, subst}
+use mathlib.Core.Bool.{Bool, true, false}
+use mathlib.Core.List.{List, [], _∷_, _++_, append-assoc, append-nil}
+use mathlib.Core.Option.{Option, none, some}
+use native.Mathlib.Nat.{add-zero, sub-zero, suc-sub-suc}
+use native.Mathlib.Numerals.{add-one}
+use native.Mathlib.Omega.{arith}
+use lib.ListN.{length, take, drop, getD, set, replicate, length-append, length-take, length-drop}
+use lib.Seq.{take-nil, take-take, getD-take, length-take-le, take-suc, take-all, set-at, getD-drop, take-at, drop-at, take-add, drop-drop}
+use lib.Dec.{eqb}
+use borrow.Author.Tests.{eqb-true, eq-eqb, ne-eqb}
+use Rattle.columns.specs.declared.group.Number.{Number}
+use Rattle.columns.specs.declared.group.Number.the-variants.{Value, Malformed}
+use Rattle.columns.specs.Group.{limit, group, numberOf, put}
+use Rattle.columns.proofs.GroupLaws.{length-group, number-group, number-value, put-put, put-more}
+use Rattle.columns.specs.Line.{groups, lineOf, Fit, ends, also, numbersOf, malformedLine, lineFrom}
+use Rattle.columns.specs.declared.line.Line.{Line}
+
+-- xs before the numbers of the rest of a line
+abbrev pub before : List ℕ → Option (List ℕ) → Option (List ℕ)
+before xs (some ns) = some (xs ++ ns)
+before xs none = none
+
+-- i of the k numbers of the line at `at` have been read, and stand in numbers
+pub record Reading (s : List ℕ) (at k i : ℕ) (numbers : List ℕ) : Type 0 where
+  pub read : List ℕ
+  pub size : length read ≡ i
+  pub here : numbersOf k (drop at s) ≡ before read (numbersOf (k - i) (drop (at + 9 * i) s))
+  pub held : numbers ≡ read ++ replicate (8 - i) 0
+
+pub drop-take : (m n : ℕ) (l : List ℕ) → m ≤ n → drop m (take n l) ≡ take (n - m) (drop m l)
+drop-take zero n l h = rw (sub-zero n)
+drop-take (suc m) zero l h = absurd (omega arith)
+drop-take (suc m) (suc n) [] h = sym (take-nil (suc n - suc m))
+drop-take (suc m) (suc n) (x ∷ l) h = drop-take m n l (omega arith) ∙ rw suc-sub-suc refl
+
+pub length-groups : (ns : List ℕ) → length (groups ns) ≡ 9 * length ns
+unfolding groups
+length-groups [] = refl
+length-groups (n ∷ ns) = simp (length-append, length-group, length-groups ns) (omega arith)
+
+pub groups-append : (ms ns : List ℕ) → groups (ms ++ ns) ≡ groups ms ++ groups ns
+unfolding groups
+groups-append [] ns = refl
+groups-append (m ∷ ms) ns = rw (groups-append ms ns, append-assoc)
+
+-- reading a line that was written gives its numbers, whatever follows
+pub numbers-line : (ns rest : List ℕ) → Fit ns → numbersOf (length ns) (lineOf ns ++ rest) ≡ some ns
+unfolding lineOf groups Fit numbersOf
+numbers-line [] rest f = refl
+numbers-line (n ∷ ns) rest f =
+    let e : (group n ++ groups ns) ++ (10 ∷ []) ++ rest ≡ group n ++ (groups ns ++ (10 ∷ []) ++ rest) = simp append-assoc in
+    rw (e, take-at (group n) _ 9 (length-group n), drop-at (group n) _ 9 (length-group n), number-group n (f .0), numbers-line ns rest (f .1))
+
+-- what was read, written again, gives the bytes of the line
+pub line-numbers : (k : ℕ) (bs ns : List ℕ) → numbersOf k bs ≡ some ns → (length ns ≡ k) × Fit ns × (take (9 * k + 1) bs ≡ lineOf ns)
+unfolding lineOf groups Fit numbersOf
+line-numbers zero bs ns h = go bs (eqb (getD bs 0 0) 10) refl h
+  where
+    go : (bs : List ℕ) (t : Bool) → eqb (getD bs 0 0) 10 ≡ t → ends t ≡ some ns → (length ns ≡ 0) × Fit ns × (take 1 bs ≡ lineOf ns)
+    go [] true e p = let z : _≡_ {A = ℕ} 0 10 = eqb-true 0 10 e in absurd (omega arith)
+    go (b ∷ bs) true e p = let z : [] ≡ ns = cc in rw (← z) (refl, tt, rw (eqb-true b 10 e))
+    go bs false e p = let z : _≡_ {A = ℕ} 0 1 = cc in absurd (omega arith)
+line-numbers (suc k) bs ns h = go (λ ms e. line-numbers k (drop 9 bs) ms e) (numberOf (take 9 bs)) refl (numbersOf k (drop 9 bs)) refl h
+  where
+    go : ((ms : List ℕ) → numbersOf k (drop 9 bs) ≡ some ms → (length ms ≡ k) × Fit ms × (take (9 * k + 1) (drop 9 bs) ≡ lineOf ms))
+        → (r : Number) → numberOf (take 9 bs) ≡ r → (o : Option (List ℕ)) → numbersOf k (drop 9 bs) ≡ o → also r o ≡ some ns
+        → (length ns ≡ suc k) × Fit ns × (take (9 * suc k + 1) bs ≡ lineOf ns)
+    go ih (Value n) e (some ms) q p =
+        let z : n ∷ ms ≡ ns = cc in
+        let v = number-value (take 9 bs) n e in
+        let w = ih ms q in
+        let j : 9 * suc k + 1 ≡ 9 + (9 * k + 1) = omega arith in
+        rw (← z) (ap suc (w .0), (v .1, w .1), rw (j, take-add 9 (9 * k + 1) bs, w .2, v .0, append-assoc))
+    go ih (Value n) e none q p = let z : _≡_ {A = ℕ} 0 1 = cc in absurd (omega arith)
+    go ih Malformed e o q p = let z : _≡_ {A = ℕ} 0 1 = cc in absurd (omega arith)
+
+pub length-line : (ns : List ℕ) → length (lineOf ns) ≡ 9 * length ns + 1
+unfolding lineOf
+length-line ns = simp (length-append, length-groups)
+
+-- a line that is of the form lies within the text
+pub line-fits : (s : List ℕ) (at k : ℕ) (ns : List ℕ) → numbersOf k (drop at s) ≡ some ns → at + (9 * k + 1) ≤ length s
+unfolding lineOf
+line-fits s at k ns h =
+    let w = line-numbers k (drop at s) ns h in
+    let q : length (take (9 * k + 1) (drop at s)) ≡ 9 * k + 1 = ap length (w .2) ∙ simp (length-append, length-groups, w .0) in
+    omega (arith, simp (length-take, length-drop) at q)
+
+pub good-fits : (s : List ℕ) (at k : ℕ) → lineFrom (numbersOf k (drop at s)) .good ≡ true → at + (9 * k + 1) ≤ length s
+good-fits s at k h = go (numbersOf k (drop at s)) refl h
+  where
+    go : (o : Option (List ℕ)) → numbersOf k (drop at s) ≡ o → lineFrom o .good ≡ true → at + (9 * k + 1) ≤ length s
+    go (some ns) e p = line-fits s at k ns e
+    go none e p = let z : _≡_ {A = ℕ} 0 1 = cc in absurd (omega arith)
+
+-- a line is read from its own bytes alone
+pub numbers-take : (k n : ℕ) (bs : List ℕ) → 9 * k + 1 ≤ n → numbersOf k (take n bs) ≡ numbersOf k bs
+unfolding numbersOf
+numbers-take zero n bs h = rw (getD-take n bs 0 0 (omega arith))
+numbers-take (suc k) n bs h =
+    let d : drop 9 (take n bs) ≡ take (n - 9) (drop 9 bs) = drop-take 9 n bs (omega arith) in
+    rw (take-take 9 n bs (omega arith), d, numbers-take k (n - 9) (drop 9 bs) (omega arith))
+
+-- ---- number by number
+
+numbers-next : (s : List ℕ) (p k : ℕ) → numbersOf (suc k) (drop p s) ≡ also (numberOf (take 9 (drop p s))) (numbersOf k (drop (p + 9) s))
+unfolding numbersOf
+numbers-next s p k = rw drop-drop
+
+numbers-end : (s : List ℕ) (p : ℕ) → numbersOf 0 (drop p s) ≡ ends (eqb (getD s p 0) 10)
+unfolding numbersOf
+numbers-end s p = rw (getD-drop p s 0 0, add-zero p)
+
+before-also : (xs : List ℕ) (n : ℕ) (o : Option (List ℕ)) → before xs (also (Value n) o) ≡ before (xs ++ (n ∷ [])) o
+before-also xs n none = refl
+before-also xs n (some ns) = rw append-assoc
+
+before-nil : (o : Option (List ℕ)) → o ≡ before [] o
+before-nil none = refl
+before-nil (some ns) = refl
+
+pub reading-none : (s : List ℕ) (at k : ℕ) → Reading s at k 0 (replicate 8 0)
+reading-none s at k = record { read = []; size = refl; here = rw (sub-zero k, add-zero at) (before-nil _); held = refl }
+
+module _ (s : List ℕ) (at k i : ℕ) (numbers : List ℕ) (r : Reading s at k i numbers) where
+  next : i < k → numbersOf k (drop at s) ≡ before (r .read) (also (numberOf (take 9 (drop (at + 9 * i) s))) (numbersOf (k - (i + 1)) (drop (at + 9 * (i + 1)) s)))
+  next l =
+      let e : k - i ≡ suc (k - (i + 1)) = omega arith in
+      let f : at + 9 * i + 9 ≡ at + 9 * (i + 1) = omega arith in
+      r .here ∙ rw (e, numbers-next, f) refl
+
+  pub reading-more : (n : ℕ) → k ≤ 8 → i < k → numberOf (take 9 (drop (at + 9 * i) s)) ≡ Value n → Reading s at k (i + 1) (set numbers i n)
+  reading-more n h l e =
+      let q : 8 - i ≡ suc (8 - (i + 1)) = omega arith in
+      record {
+        read = r .read ++ (n ∷ []);
+        size = simp length-append (omega arith);
+        here = next l ∙ rw (e, before-also);
+        held = rw (r .held, q) (set-at (r .read) 0 _ n i (r .size) ∙ rw append-assoc);
+      }
+
+  pub reading-not : i < k → numberOf (take 9 (drop (at + 9 * i) s)) ≡ Malformed → malformedLine ≡ lineFrom (numbersOf k (drop at s))
+  reading-not l e = rw (next l, e)
+
+  pub reading-all : i ≡ k → getD s (at + 9 * i) 0 ≡ 10 → record { good = true; numbers = numbers } ≡ lineFrom (numbersOf k (drop at s))
+  reading-all l e =
+      let q : k - i ≡ 0 = omega arith in
+      rw (r .here, q, numbers-end, eq-eqb _ _ e, append-nil, r .size, r .held)
+
+  pub reading-end : i ≡ k → (getD s (at + 9 * i) 0 ≡ 10 → ⊥) → malformedLine ≡ lineFrom (numbersOf k (drop at s))
+  reading-end l e =
+      let q : k - i ≡ 0 = omega arith in
+      rw (r .here, q, numbers-end, ne-eqb _ _ e)
+
+-- ---- writing
+
+module _ (d ns : List ℕ) (at i : ℕ) (h : at + (9 * length ns + 1) ≤ length d) where
+  size : i ≤ length ns → length (groups (take i ns)) ≡ 9 * i
+  size l = length-groups (take i ns) ∙ ap (λ (k : ℕ). 9 * k) (length-take-le i ns l)
+
+  pub put-groups : i < length ns → put (put d at (groups (take i ns))) (at + 9 * i) (group (getD ns i 0)) ≡ put d at (groups (take (i + 1) ns))
+  unfolding groups
+  put-groups l =
+      let e = size (omega arith) in
+      let f : put (put d at (groups (take i ns))) (at + length (groups (take i ns))) (group (getD ns i 0)) ≡ put d at (groups (take i ns) ++ group (getD ns i 0)) = put-put d at (groups (take i ns)) (group (getD ns i 0)) (omega arith) in
+      rw (add-one i, take-suc ns i 0 l, groups-append, append-nil) (rw e at f)
+
+  pub put-end : i ≡ length ns → set (put d at (groups (take i ns))) (at + 9 * i) 10 ≡ put d at (lineOf ns)
+  unfolding lineOf
+  put-end l =
+      let e = size (omega arith) in
+      let f : set (put d at (groups (take i ns))) (at + length (groups (take i ns))) 10 ≡ put d at (groups (take i ns) ++ (10 ∷ [])) = put-more d at (groups (take i ns)) 10 (omega arith) in
+      let g : take i ns ≡ ns = take-all i ns (omega arith) in
+      rw e at f ∙ rw g

@@ -1,0 +1,53 @@
+-- Document 01, "Texts": "a line is the numbers of its kind, each right-justified in nine columns .., then byte 10".
+-- Assumes nothing.
+use Prim.Native.Nat.{ℕ, zero, suc, _+_, _-_, _*_, _/_, _<_}
+use mathlib.Core.Bool.{Bool, true, false}
+use mathlib.Core.List.{List, [], _∷_, _++_}
+use mathlib.Core.Option.{Option, none, some}
+use lib.ListN.{length, take, drop, getD, replicate}
+use lib.Dec.{eqb}
+use Rattle.columns.specs.declared.group.Number.{Number}
+use Rattle.columns.specs.declared.group.Number.the-variants.{Value, Malformed}
+use Rattle.columns.specs.declared.line.Line.{Line}
+use Rattle.columns.specs.Group.{limit, group, numberOf}
+
+-- the columns of some numbers
+unfoldable pub groups : List ℕ → List ℕ
+groups [] = []
+groups (n ∷ ns) = group n ++ groups ns
+
+-- the line of some numbers
+unfoldable pub lineOf : List ℕ → List ℕ
+lineOf ns = groups ns ++ (10 ∷ [])
+
+-- each number fits nine columns
+unfoldable pub Fit : List ℕ → Type 0
+Fit [] = Unit
+Fit (n ∷ ns) = (n < limit) × Fit ns
+
+abbrev pub ends : Bool → Option (List ℕ)
+ends true = some []
+ends false = none
+
+abbrev pub also : Number → Option (List ℕ) → Option (List ℕ)
+also (Value n) (some ns) = some (n ∷ ns)
+also (Value n) none = none
+also Malformed r = none
+
+-- the k numbers of the line that bs begins with
+unfoldable pub numbersOf : ℕ → List ℕ → Option (List ℕ)
+numbersOf zero bs = ends (eqb (getD bs 0 0) 10)
+numbersOf (suc k) bs = also (numberOf (take 9 bs)) (numbersOf k (drop 9 bs))
+
+-- the numbers of a whole line, byte 10 included, if it is the line of some numbers
+unfoldable pub readLine : List ℕ → Option (List ℕ)
+readLine bs =
+    let k = length bs / 9 in elim (eqb (length bs) (9 * k + 1)) [ true ↦ numbersOf k bs | false ↦ none ]
+
+-- the answer of `line_at`: the numbers, then zeros up to eight; all zeros where there are none
+abbrev pub malformedLine : Line
+malformedLine = record { good = false; numbers = replicate 8 0 }
+
+abbrev pub lineFrom : Option (List ℕ) → Line
+lineFrom (some ns) = record { good = true; numbers = ns ++ replicate (8 - length ns) 0 }
+lineFrom none = malformedLine

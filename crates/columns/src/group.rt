@@ -1,0 +1,113 @@
+// One number in nine columns: right-justified with blanks, no leading zeros, zero is "0".
+ghost use mathlib.Core.Path.{_≡_};
+ghost use Prim.Native.Nat.{_+_, _≤_};
+ghost use lib.ListN.{length, take, drop};
+ghost use Rattle.columns.specs.Group.{lead, group, numberOf, put};
+ghost use Rattle.columns.specs.Columns.{Column, Columns};
+ghost use Rattle.columns.specs.Group.{mark as mark·of};
+
+// One past the greatest number that nine columns hold. In a value so far it says that no number begins so.
+const LIMIT: u32 = 1_000_000_000;
+
+// What nine columns hold.
+pub enum Number {
+    Value(u32),
+    Malformed,
+}
+
+// The number in the nine columns at a position.
+pub fn number_at(s: &[u8], at: usize) -> Number
+    ensures { λ r. ⌜ r ≡ numberOf (take 9 (drop at (now (s .entry)))) ⌝ }
+{
+    if s.len() < at {
+        return Number::Malformed;
+    }
+    if s.len() - at < 9 {
+        return Number::Malformed;
+    }
+    let v = lead_at(s, at);
+    let b = s[at + 8];
+    if v >= 100_000_000 {
+        return Number::Malformed;
+    }
+    if b < 48 {
+        return Number::Malformed;
+    }
+    if b > 57 {
+        return Number::Malformed;
+    }
+    Number::Value(v * 10 + ((b - 48) as u32))
+}
+
+// The value of the eight columns before the last.
+fn lead_at(s: &[u8], at: usize) -> u32
+    requires { ⌜ at + 8 ≤ length (now s) ⌝ }
+    ensures { λ r. ⌜ Columns (take 8 (drop at (now (s .entry)))) 8 r ⌝ }
+{
+    let mut v: u32 = 0;
+    let mut i: usize = 0;
+    while i < 8 {
+        v = column(v, s[at + i]);
+        i += 1;
+    }
+    v
+}
+
+// The value after one more column before the last: v, then the byte b.
+fn column(v: u32, b: u8) -> u32
+    ensures { λ r. ⌜ Column v b r ⌝ }
+{
+    if v >= 100_000_000 {
+        return LIMIT;
+    }
+    if b == 32 {
+        if v == 0 {
+            return 0;
+        }
+        return LIMIT;
+    }
+    if b < 48 {
+        return LIMIT;
+    }
+    if b > 57 {
+        return LIMIT;
+    }
+    let w = v * 10 + ((b - 48) as u32);
+    if w == 0 {
+        return LIMIT;
+    }
+    w
+}
+
+// The byte of a column before the last, where n stands in the columns up to it.
+fn mark(n: u32) -> u8
+    ensures { λ r. ⌜ r ≡ mark·of n ⌝ }
+{
+    if n == 0 {
+        return 32;
+    }
+    48 + (n % 10) as u8
+}
+
+// Writes n in the nine columns at a position.
+pub fn put_number(out: &mut [u8], at: usize, n: u32)
+    requires { ⌜ at + 9 ≤ length (now out) ⌝ }
+    ensures { λ _. ⌜ now (out .exit) ≡ put (now (out .entry)) at (group n) ⌝ }
+{
+    put_lead(out, at, n / 10);
+    out[at + 8] = 48 + (n % 10) as u8;
+}
+
+// Writes n in the eight columns before the last, from the right.
+fn put_lead(out: &mut [u8], at: usize, n: u32)
+    requires { ⌜ at + 8 ≤ length (now out) ⌝ }
+    ensures { λ _. ⌜ now (out .exit) ≡ put (now (out .entry)) at (lead 8 n) ⌝ }
+{
+    let mut rest = n;
+    let mut i: usize = 8;
+    while i > 0 {
+        i -= 1;
+        out[at + i] = mark(rest);
+        rest /= 10;
+    }
+}

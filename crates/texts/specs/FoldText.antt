@@ -1,0 +1,101 @@
+-- Document 01, "Texts": the fold text, "kinds 1, 2 and 7", and what the fold program writes, "lines of kind 3, or one line 9 alone".
+-- Assumes nothing.
+use Prim.Native.Nat.{ℕ}
+use mathlib.Core.Bool.{Bool, true, false}
+use mathlib.Core.List.{List, [], _∷_, _++_}
+use lib.Dec.{eqb}
+use lib.ListN.{drop}
+use Rattle.job.specs.Verdict.{Verdict, _then_}
+use Rattle.job.specs.Job.{Job, jobOf, admission}
+use Rattle.listing.specs.Listing.{Cut, Listing, modelRow, listingOf}
+use Rattle.layouts.specs.Lines.{rowsOf, setOf}
+use Rattle.layouts.specs.LayoutsRow.{layoutsRow}
+use Rattle.layouts.specs.Fold.{folded}
+use Rattle.columns.specs.Line.{lineOf}
+use Rattle.texts.specs.Shape.{Shape, jobLine, itemLine, layoutLine}
+use Rattle.texts.specs.Reader.{Grammar, Reader, started, fed, textRow, written}
+use Rattle.texts.specs.JobLines.{Place, first, types, body, itemPrices, platePrices, done, typesOf, afterType, bodyLine}
+
+-- a fold text so far: what comes next, the job's words, the layout words
+pub record Fold : Type 0 where
+  pub place : Place
+  pub job : List ℕ
+  pub layouts : List ℕ
+
+-- which lines are admitted
+unfoldable pub foldAdmits : Fold → List Shape
+foldAdmits f =
+    elim (f .place) [
+      | first ↦ jobLine ∷ []
+      | types i ↦ itemLine i ∷ []
+      | body ↦ layoutLine (typesOf (f .job)) ∷ []
+      | itemPrices i ↦ []
+      | platePrices j ↦ []
+      | done ↦ []
+    ]
+
+-- what an admitted line makes of the text; `ns` are its numbers, the kind first
+unfoldable pub foldAfter : Fold → List ℕ → Fold
+foldAfter f ns =
+    elim (f .place) [
+      | first ↦ record { place = types 1; job = drop 1 ns; layouts = [] }
+      | types i ↦ record { place = afterType (typesOf (f .job)) i; job = f .job ++ drop 2 ns; layouts = [] }
+      | body ↦ record { place = body; job = f .job; layouts = f .layouts ++ drop 1 ns }
+      | itemPrices i ↦ f
+      | platePrices j ↦ f
+      | done ↦ f
+    ]
+
+-- the text may end in its body
+unfoldable pub foldComplete : Fold → Bool
+foldComplete f =
+    elim (f .place) [
+      | first ↦ false
+      | types i ↦ false
+      | body ↦ true
+      | itemPrices i ↦ false
+      | platePrices j ↦ false
+      | done ↦ false
+    ]
+
+abbrev pub foldGrammar : Grammar Fold
+foldGrammar =
+    record {
+      start = record { place = first; job = []; layouts = [] };
+      admits = foldAdmits;
+      after = foldAfter;
+      complete = foldComplete;
+    }
+
+-- the rows after the line row: job, model, layouts
+unfoldable pub foldRows : Fold → Verdict
+foldRows f =
+    let job = jobOf (f .job) in
+    admission job
+    then modelRow job
+    then layoutsRow (bodyLine (f .job)) job (rowsOf (f .layouts))
+
+-- a line 3 for each cut that is counted
+unfoldable pub countLines : List Cut → List ℕ → List ℕ
+countLines [] ns = []
+countLines (c ∷ cs) [] = []
+countLines (c ∷ cs) (n ∷ ns) =
+    elim (eqb n 0) [
+      | true ↦ countLines cs ns
+      | false ↦ lineOf (3 ∷ c .plate ∷ c .item ∷ n ∷ []) ++ countLines cs ns
+    ]
+
+-- what the fold program writes of layouts that fold
+unfoldable pub foldLines : Fold → List ℕ
+foldLines f =
+    let job = jobOf (f .job) in
+    let l = listingOf job in
+    countLines (l .cuts) (folded job l (setOf (f .layouts)))
+
+-- the answer to a fold text so far, if it ends here
+unfoldable pub foldWritten : Reader Fold → List ℕ
+foldWritten r = written (textRow foldGrammar r then foldRows (r .state)) (foldLines (r .state))
+
+-- the fold text, from bytes to bytes
+unfoldable pub foldText : List ℕ → List ℕ
+foldText bs = foldWritten (fed foldGrammar (started foldGrammar) bs)

@@ -1,0 +1,6 @@
+-- The definitions of this crate: the shapes of lines, the reader of a text, the saw text and the fold text.
+pub mod Shape
+pub mod Reader
+pub mod JobLines
+pub mod SawText
+pub mod FoldText

@@ -1,0 +1,199 @@
+-- Document 01, "Texts": the saw text, "kinds 1, 2, 3 and, if present, 4, 5, 6", and what the saw program writes, "kinds 7 and 8, or one line 9 alone".
+-- Assumes nothing.
+use Prim.Native.Nat.{ℕ, zero, suc}
+use mathlib.Core.Bool.{Bool, true, false, cond}
+use mathlib.Core.List.{List, [], _∷_, _++_, flatMap}
+use mathlib.Core.Option.{Option, none, some}
+use lib.Dec.{ltb, leb, eqb}
+use lib.ListN.{length, getD, drop}
+use Rattle.job.specs.Lists.{sumOf}
+use Rattle.job.specs.Verdict.{Verdict, pass, refuse, _then_, lowest}
+use Rattle.job.specs.Job.{Job, jobOf, admission}
+use Rattle.listing.specs.Listing.{Listing, modelRow, listingOf}
+use Rattle.plan.specs.Plan.{planRow, boards}
+use Rattle.plan.specs.Prices.{Prices, pricesOf, modelSized, pricesRow, priceSum, fewest}
+use Rattle.layouts.specs.Placement.{Placement}
+use Rattle.layouts.specs.Unfold.{Run, unfolded}
+use Rattle.layouts.specs.Fold.{cutOf}
+use Rattle.columns.specs.Line.{lineOf}
+use Rattle.texts.specs.Shape.{Shape, jobLine, itemLine, planLine, pricesLine, itemPriceLine, platePriceLine}
+use Rattle.texts.specs.Reader.{Grammar, Reader, started, fed, textRow, written}
+use Rattle.texts.specs.JobLines.{Place, first, types, body, itemPrices, platePrices, done, typesOf, afterType, bodyLine}
+
+-- a line 3: plate, item, count
+pub record Counted : Type 0 where
+  pub plate : ℕ
+  pub item : ℕ
+  pub count : ℕ
+
+-- lines 4, 5 and 6 so far: the n and the m of line 4, and the price words, D first
+pub record PriceLines : Type 0 where
+  pub types : ℕ
+  pub residuals : ℕ
+  pub words : List ℕ
+
+-- a saw text so far: what comes next, the job's words, the lines 3, and the lines from 4 on if there are any
+pub record Saw : Type 0 where
+  pub place : Place
+  pub job : List ℕ
+  pub plan : List Counted
+  pub prices : Option PriceLines
+
+-- which lines are admitted
+unfoldable pub sawAdmits : Saw → List Shape
+sawAdmits s =
+    elim (s .place) [
+      | first ↦ jobLine ∷ []
+      | types i ↦ itemLine i ∷ []
+      | body ↦ planLine (typesOf (s .job)) ∷ pricesLine ∷ []
+      | itemPrices i ↦ itemPriceLine i ∷ []
+      | platePrices j ↦ platePriceLine j ∷ []
+      | done ↦ []
+    ]
+
+-- what comes after line 5 of type i, of n types and m residual types; after line 6 of plate type j
+unfoldable pub afterItemPrice : ℕ → ℕ → ℕ → Place
+afterItemPrice n m i = cond (eqb i n) (cond (eqb m 0) done (platePrices 1)) (itemPrices (suc i))
+
+unfoldable pub afterPlatePrice : ℕ → ℕ → Place
+afterPlatePrice m j = cond (eqb j m) done (platePrices (suc j))
+
+-- one price more
+abbrev pub withPrice : PriceLines → ℕ → PriceLines
+withPrice ps price = record { types = ps .types; residuals = ps .residuals; words = ps .words ++ (price ∷ []) }
+
+-- what an admitted line of prices makes of them: the next place is `next` of the n and the m of line 4
+abbrev pub priceRead : Saw → (ℕ → ℕ → Place) → ℕ → Saw
+priceRead s next price =
+    elim (s .prices) [
+      | none ↦ s
+      | some ps ↦ record { place = next (ps .types) (ps .residuals); job = s .job; plan = s .plan; prices = some (withPrice ps price) }
+    ]
+
+-- a line of the body: of kind 3 it is one more of the plan, of kind 4 it begins the prices
+unfoldable pub bodyRead : Saw → List ℕ → Saw
+bodyRead s ns =
+    elim (eqb (getD ns 0 0) 3) [
+      | true ↦
+          record {
+            place = body;
+            job = s .job;
+            plan = s .plan ++ (record { plate = getD ns 1 0; item = getD ns 2 0; count = getD ns 3 0 } ∷ []);
+            prices = none;
+          }
+      | false ↦
+          record {
+            place = itemPrices 1;
+            job = s .job;
+            plan = s .plan;
+            prices = some (record { types = getD ns 2 0; residuals = getD ns 3 0; words = getD ns 1 0 ∷ [] });
+          }
+    ]
+
+-- what an admitted line makes of the text; `ns` are its numbers, the kind first
+unfoldable pub sawAfter : Saw → List ℕ → Saw
+sawAfter s ns =
+    elim (s .place) [
+      | first ↦ record { place = types 1; job = drop 1 ns; plan = []; prices = none }
+      | types i ↦ record { place = afterType (typesOf (s .job)) i; job = s .job ++ drop 2 ns; plan = []; prices = none }
+      | body ↦ bodyRead s ns
+      | itemPrices i ↦ priceRead s (λ n m. afterItemPrice n m i) (getD ns 2 0)
+      | platePrices j ↦ priceRead s (λ n m. afterPlatePrice m j) (getD ns 2 0)
+      | done ↦ s
+    ]
+
+-- the text may end in its body, or after all of its prices
+unfoldable pub sawComplete : Saw → Bool
+sawComplete s =
+    elim (s .place) [
+      | first ↦ false
+      | types i ↦ false
+      | body ↦ true
+      | itemPrices i ↦ false
+      | platePrices j ↦ false
+      | done ↦ true
+    ]
+
+abbrev pub sawGrammar : Grammar Saw
+sawGrammar =
+    record {
+      start = record { place = first; job = []; plan = []; prices = none };
+      admits = sawAdmits;
+      after = sawAfter;
+      complete = sawComplete;
+    }
+
+-- the number of the cut that a line 3 names, 0 where there is no such cut
+unfoldable pub namedCut : Listing → Counted → ℕ
+namedCut l r = cutOf l (r .plate) (r .item)
+
+-- 8: "no such cut", naming the line; the lines 3 are numbered from k
+unfoldable pub cutsNamed : Listing → ℕ → List Counted → Verdict
+cutsNamed l k rs = lowest 8 (λ _ r. eqb (namedCut l r) 0) k rs
+
+-- 9: "cut not after the last", naming the line; the last cut is c, 0 before the first line
+unfoldable pub cutsRising : Listing → ℕ → ℕ → List Counted → Verdict
+cutsRising l c k [] = pass
+cutsRising l c k (r ∷ rs) =
+    elim (leb (namedCut l r) c) [
+      | true ↦ refuse 9 k
+      | false ↦ cutsRising l (namedCut l r) (suc k) rs
+    ]
+
+-- the count that the lines 3 give to cut k; "a missing cut counts 0"
+unfoldable pub countFor : Listing → List Counted → ℕ → ℕ
+countFor l rs k = sumOf (λ r. elim (eqb (namedCut l r) k) [ true ↦ r .count | false ↦ 0 ]) rs
+
+-- the counts of n cuts, from cut k on
+unfoldable pub countsFrom : Listing → List Counted → ℕ → ℕ → List ℕ
+countsFrom l rs k zero = []
+countsFrom l rs k (suc n) = countFor l rs k ∷ countsFrom l rs (suc k) n
+
+unfoldable pub planCounts : Listing → List Counted → List ℕ
+planCounts l rs = countsFrom l rs 1 (length (l .cuts))
+
+-- the prices row of the lines 4, 5 and 6, "only where line 4 is there"
+unfoldable pub priceLinesRow : Job → Listing → Option PriceLines → Verdict
+priceLinesRow job l none = pass
+priceLinesRow job l (some ps) =
+    modelSized job l (ps .types) (ps .residuals) then pricesRow l (pricesOf job (ps .words))
+
+-- the rows after the line row: job, model, plan, prices
+unfoldable pub sawRows : Saw → Verdict
+sawRows s =
+    let job = jobOf (s .job) in
+    let l = listingOf job in
+    admission job
+    then modelRow job
+    then cutsNamed l (bodyLine (s .job)) (s .plan)
+    then cutsRising l 0 (bodyLine (s .job)) (s .plan)
+    then planRow job l (planCounts l (s .plan))
+    then priceLinesRow job l (s .prices)
+
+-- line 7 of a placement
+unfoldable pub placementLine : Placement → List ℕ
+placementLine p =
+    lineOf (7 ∷ p .turn .board ∷ p .turn .strip ∷ p .turn .stack ∷ p .turn .place ∷ p .item ∷ p .x ∷ p .y ∷ [])
+
+-- line 8: boards, sum, D, fewest; "without prices: sum 0, D 1, fewest 0"
+unfoldable pub resultLine : Job → ℕ → Option PriceLines → List ℕ
+resultLine job n none = lineOf (8 ∷ n ∷ 0 ∷ 1 ∷ 0 ∷ [])
+resultLine job n (some pl) =
+    let ps = pricesOf job (pl .words) in
+    lineOf (8 ∷ n ∷ priceSum job ps ∷ ps .denominator ∷ cond (fewest job ps n) 1 0 ∷ [])
+
+-- what the saw program writes of a plan that is accepted
+unfoldable pub sawLines : Saw → List ℕ
+sawLines s =
+    let job = jobOf (s .job) in
+    let l = listingOf job in
+    let r = unfolded job l (planCounts l (s .plan)) in
+    flatMap placementLine (r .placements) ++ resultLine job (r .last .turn .board) (s .prices)
+
+-- the answer to a saw text so far, if it ends here
+unfoldable pub sawWritten : Reader Saw → List ℕ
+sawWritten r = written (textRow sawGrammar r then sawRows (r .state)) (sawLines (r .state))
+
+-- the saw text, from bytes to bytes
+unfoldable pub sawText : List ℕ → List ℕ
+sawText bs = sawWritten (fed sawGrammar (started sawGrammar) bs)

@@ -1,0 +1,94 @@
+-- Document 01, "Texts": the kinds of lines, the limits of their numbers, and the line row of one line, 1 and 2.
+-- Assumes nothing.
+use Prim.Native.Nat.{ℕ, _+_}
+use mathlib.Core.Bool.{Bool, true, false, not, _&&_}
+use mathlib.Core.List.{List, [], _∷_}
+use mathlib.Core.Option.{Option, none, some}
+use lib.Dec.{eqb}
+use lib.ListN.{length, drop}
+use Rattle.job.specs.Verdict.{Verdict, refuse, refuseIf, within}
+use Rattle.job.specs.Job.{maxSide, maxTypes, maxPieces}
+use Rattle.listing.specs.Listing.{maxPlates}
+use Rattle.plan.specs.Prices.{maxPrice}
+
+-- the lowest and the highest value of a number
+pub record Limit : Type 0 where
+  pub low : ℕ
+  pub high : ℕ
+
+infix 70 _to_
+abbrev pub _to_ : ℕ → ℕ → Limit
+low to high = record { low = low; high = high }
+
+-- a line that is admitted next: its kind, its running number where it has one, and the limits of its other numbers in order
+pub record Shape : Type 0 where
+  pub kind : ℕ
+  pub running : List ℕ
+  pub limits : List Limit
+
+abbrev pub shape : ℕ → List ℕ → List Limit → Shape
+shape kind running limits = record { kind = kind; running = running; limits = limits }
+
+-- kind 1: stages (2 or 3), exact (1 or 0), W, H, n
+abbrev pub jobLine : Shape
+jobLine = shape 1 [] (2 to 3 ∷ 0 to 1 ∷ 1 to maxSide ∷ 1 to maxSide ∷ 1 to maxTypes ∷ [])
+
+-- kind 2: type, width, height, demand; type i is the next in order
+abbrev pub itemLine : ℕ → Shape
+itemLine i = shape 2 (i ∷ []) (1 to maxSide ∷ 1 to maxSide ∷ 1 to maxPieces ∷ [])
+
+-- kind 3: plate, item, count; the greatest plate is 2,047, one below the number of plate types
+abbrev pub planLine : ℕ → Shape
+planLine n = shape 3 [] (0 to 2047 ∷ 1 to n ∷ 1 to maxPieces ∷ [])
+
+-- kind 4: D, n, m
+abbrev pub pricesLine : Shape
+pricesLine = shape 4 [] (1 to maxPrice ∷ 1 to maxTypes ∷ 0 to 2047 ∷ [])
+
+-- kind 5: type, price; kind 6: plate type, price; each in order
+abbrev pub itemPriceLine : ℕ → Shape
+itemPriceLine i = shape 5 (i ∷ []) (0 to maxPrice ∷ [])
+
+abbrev pub platePriceLine : ℕ → Shape
+platePriceLine j = shape 6 (j ∷ []) (0 to maxPrice ∷ [])
+
+-- kind 7: board, strip, stack, place, type, x, y
+abbrev pub layoutLine : ℕ → Shape
+layoutLine n =
+    shape 7 []
+    (1 to maxPieces ∷ 1 to maxPieces ∷ 1 to maxPieces ∷ 1 to maxPieces ∷ 1 to n ∷ 0 to maxSide ∷ 0 to maxSide ∷ [])
+
+-- the second list begins with the first
+unfoldable pub begins : List ℕ → List ℕ → Bool
+begins [] ns = true
+begins (m ∷ ms) [] = false
+begins (m ∷ ms) (n ∷ ns) = eqb m n && begins ms ns
+
+-- the numbers of a line are of the shape: its kind, its running number, and as many others as it has limits
+unfoldable pub formed : Shape → List ℕ → Bool
+formed s ns =
+    begins (s .kind ∷ s .running) ns && eqb (length ns) (1 + length (s .running) + length (s .limits))
+
+-- each value is within its limits
+unfoldable pub limited : List Limit → List ℕ → Bool
+limited [] ns = true
+limited (l ∷ ls) [] = true
+limited (l ∷ ls) (n ∷ ns) = within (l .low) (l .high) n && limited ls ns
+
+-- the numbers of a line after its kind and its running number
+unfoldable pub values : Shape → List ℕ → List ℕ
+values s ns = drop (1 + length (s .running)) ns
+
+-- the numbers of line L against the shapes that are admitted: 1 where they are of none, else 2 where a value is outside its limits
+unfoldable pub numbersRow : ℕ → List Shape → List ℕ → Verdict
+numbersRow line [] ns = refuse 1 line
+numbersRow line (s ∷ ss) ns =
+    elim (formed s ns) [
+      | true ↦ refuseIf (not (limited (s .limits) (values s ns))) 2 line
+      | false ↦ numbersRow line ss ns
+    ]
+
+-- the line row of line L, whose numbers are missing where its bytes are no line
+unfoldable pub lineRow : ℕ → List Shape → Option (List ℕ) → Verdict
+lineRow line ss none = refuse 1 line
+lineRow line ss (some ns) = numbersRow line ss ns

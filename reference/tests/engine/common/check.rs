@@ -1,0 +1,136 @@
+//! The words of demand 3, written a second time and plainly: rules, positions, rectangles.
+
+use reference::{Board, Job, Mode, Stack, Strip};
+
+/// A stack's width and height.
+fn stack_sides(job: &Job, stack: &Stack) -> (u16, u16) {
+    let mut sides = (0, 0);
+    for &item in stack {
+        sides.0 = sides.0.max(job.item(item).width);
+        sides.1 += job.item(item).height;
+    }
+    sides
+}
+
+/// A strip's width and height.
+fn strip_sides(job: &Job, strip: &Strip) -> (u16, u16) {
+    let mut sides = (0, 0);
+    for stack in strip {
+        let (width, height) = stack_sides(job, stack);
+        sides.0 += width;
+        sides.1 = sides.1.max(height);
+    }
+    sides
+}
+
+/// Whether a strip keeps the stage rule.
+fn stage_rule(job: &Job, strip: &Strip) -> bool {
+    let high = |item: &u16| job.item(*item).height;
+    let wide = |item: &u16| job.item(*item).width;
+    let (_, height) = strip_sides(job, strip);
+    let all_single = strip.iter().all(|stack| stack.len() == 1);
+    let led = strip
+        .iter()
+        .any(|stack| stack.len() == 1 && high(&stack[0]) == height);
+    let one_height = strip.iter().flatten().all(|item| high(item) == high(&strip[0][0]));
+    let one_width = strip
+        .iter()
+        .all(|stack| stack.iter().all(|item| wide(item) == wide(&stack[0])));
+    match job.mode {
+        Mode::TwoExact => all_single && one_height,
+        Mode::TwoNonExact => all_single,
+        Mode::ThreeExact => led && one_width,
+        Mode::ThreeNonExact => led,
+    }
+}
+
+/// Whether a set keeps the layout rules and leaves nothing empty.
+pub fn keeps_rules(job: &Job, set: &[Board]) -> bool {
+    set.iter().all(|board| {
+        let filled = !board.is_empty()
+            && board.iter().all(|strip| !strip.is_empty())
+            && board.iter().flatten().all(|stack| !stack.is_empty());
+        let heights: u16 = board.iter().map(|strip| strip_sides(job, strip).1).sum();
+        let strip_fits = |strip: &Strip| strip_sides(job, strip).0 <= job.width;
+        filled
+            && board.iter().all(|strip| stage_rule(job, strip))
+            && board.iter().all(strip_fits)
+            && heights <= job.height
+    })
+}
+
+/// The seven numbers of each item of a set, positions included.
+pub fn lines(job: &Job, set: &[Board]) -> Vec<[u16; 7]> {
+    let mut lines = Vec::new();
+    for (b, board) in set.iter().enumerate() {
+        for (s, strip) in board.iter().enumerate() {
+            let y: u16 = board[..s].iter().map(|below| strip_sides(job, below).1).sum();
+            for (k, stack) in strip.iter().enumerate() {
+                let x = strip_sides(job, &strip[..k].to_vec()).0;
+                for (p, &item) in stack.iter().enumerate() {
+                    let below = stack_sides(job, &stack[..p].to_vec()).1;
+                    let turn = [b, s, k, p].map(|index| index as u16 + 1);
+                    lines.push([turn[0], turn[1], turn[2], turn[3], item, x, y + below]);
+                }
+            }
+        }
+    }
+    lines
+}
+
+/// The set that lines describe, which must be in turn from 1.
+pub fn set_in_turn(lines: &[[u16; 7]]) -> Vec<Board> {
+    let mut set: Vec<Board> = Vec::new();
+    for &[b, s, k, p, item, _, _] in lines {
+        let [b, s, k, p] = [b, s, k, p].map(usize::from);
+        if p == 1 && k == 1 && s == 1 {
+            set.push(vec![]);
+        }
+        let boards = set.len();
+        let board = &mut set[boards - 1];
+        if p == 1 && k == 1 {
+            board.push(vec![]);
+        }
+        let strips = board.len();
+        let strip = &mut board[strips - 1];
+        if p == 1 {
+            strip.push(vec![]);
+        }
+        let stacks = strip.len();
+        strip[stacks - 1].push(item);
+        assert_eq!([b, s, k, p], [boards, strips, stacks, strip[stacks - 1].len()]);
+    }
+    set
+}
+
+/// Every rectangle lies inside its board, and no two on one board overlap.
+pub fn rectangles_apart(job: &Job, lines: &[[u16; 7]]) {
+    let edges = |line: &[u16; 7]| {
+        let item = job.item(line[4]);
+        let (x, y) = (line[5], line[6]);
+        (x, y, x + item.width, y + item.height)
+    };
+    for (index, line) in lines.iter().enumerate() {
+        let (x, y, x_end, y_end) = edges(line);
+        assert!(x_end <= job.width && y_end <= job.height);
+        for other in &lines[..index] {
+            let (ox, oy, ox_end, oy_end) = edges(other);
+            let apart = x_end <= ox || ox_end <= x || y_end <= oy || oy_end <= y;
+            assert!(apart || other[0] != line[0], "{line:?} overlaps {other:?}");
+        }
+    }
+}
+
+/// How often each type lies in the lines.
+pub fn laid(job: &Job, lines: &[[u16; 7]]) -> Vec<u32> {
+    let mut laid = vec![0; job.items.len()];
+    for line in lines {
+        laid[usize::from(line[4]) - 1] += 1;
+    }
+    laid
+}
+
+/// Whether each type lies there at least as often as demanded.
+pub fn meets_demands(job: &Job, laid: &[u32]) -> bool {
+    (job.items.iter().zip(laid)).all(|(item, &count)| count >= u32::from(item.demand))
+}

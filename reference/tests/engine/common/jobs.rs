@@ -1,0 +1,79 @@
+//! Jobs: those of document 01, and random ones.
+
+use super::random::Random;
+use reference::{Item, Job, Mode};
+
+/// The two words of a mode: stages and exact.
+pub fn mode_words(mode: Mode) -> [u16; 2] {
+    match mode {
+        Mode::TwoExact => [2, 1],
+        Mode::TwoNonExact => [2, 0],
+        Mode::ThreeExact => [3, 1],
+        Mode::ThreeNonExact => [3, 0],
+    }
+}
+
+/// Job words from a mode, the board's sides, and width, height, demand of each type.
+pub fn job(mode: Mode, board: [u16; 2], items: &[[u16; 3]]) -> Vec<u16> {
+    let mut words = mode_words(mode).to_vec();
+    words.extend(board);
+    words.push(items.len() as u16);
+    words.extend(items.iter().flatten());
+    words
+}
+
+/// Job A of document 01.
+pub fn job_a() -> Vec<u16> {
+    job(Mode::TwoNonExact, [9, 7], &[[5, 4, 2], [3, 3, 3]])
+}
+
+/// The plan of job A.
+pub const PLAN_A: [u16; 8] = [2, 0, 1, 1, 0, 0, 1, 0];
+
+/// The prices of job A: D 1, item 1 and plate type 3 at 1, the rest 0.
+pub const PRICES_A: [u16; 8] = [1, 1, 0, 0, 0, 1, 0, 0];
+
+/// Job B of document 01.
+pub fn job_b() -> Vec<u16> {
+    job(Mode::ThreeNonExact, [5, 5], &[[3, 5, 1], [2, 2, 2]])
+}
+
+/// The words of a structured job.
+pub fn words_of(structured: &Job) -> Vec<u16> {
+    let items: Vec<[u16; 3]> = (structured.items.iter())
+        .map(|item| [item.width, item.height, item.demand])
+        .collect();
+    job(
+        structured.mode,
+        [structured.width, structured.height],
+        &items,
+    )
+}
+
+/// A random job: any mode, a small board, up to five types whose sides are drawn from few
+/// values, so that equal widths and heights occur and the exact modes have work to do.
+pub fn random_job(random: &mut Random) -> Job {
+    let mode = random.pick(&Mode::ALL);
+    random_job_in(random, mode)
+}
+
+/// A random job in a mode.
+pub fn random_job_in(random: &mut Random, mode: Mode) -> Job {
+    let longest = random.pick(&[4, 8, 15, 30]);
+    let width = random.between(1, longest);
+    let height = random.between(1, longest);
+    let widths: Vec<u16> = (0..3).map(|_| random.between(1, width)).collect();
+    let heights: Vec<u16> = (0..3).map(|_| random.between(1, height)).collect();
+    let types = random.between(1, 5);
+    let items = (0..types).map(|_| Item {
+        width: random.pick(&widths),
+        height: random.pick(&heights),
+        demand: random.between(1, 3),
+    });
+    Job {
+        mode,
+        width,
+        height,
+        items: items.collect(),
+    }
+}

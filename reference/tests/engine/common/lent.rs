@@ -1,0 +1,117 @@
+//! Buffers lent to the calls, at full size, with old contents. Every call made through them is
+//! also checked for what it leaves there.
+
+use super::plain;
+use reference::{Bound, Listed, Refusal, Unfolded};
+
+pub const PLATES: usize = 6_144;
+pub const CUTS: usize = 32_768;
+pub const COUNTS: usize = 8_192;
+pub const PLACEMENTS: usize = 28_000;
+
+/// Words that no call writes.
+pub fn junk(length: usize) -> Vec<u16> {
+    vec![0xA5C3; length]
+}
+
+/// Counts followed by 0 up to the full size.
+pub fn full_counts(counts: &[u16]) -> Vec<u16> {
+    let mut words = counts.to_vec();
+    words.resize(COUNTS.max(counts.len()), 0);
+    words
+}
+
+/// Whether a buffer holds just these words and then 0 to its end.
+pub fn holds(buffer: &[u16], words: &[u16]) -> bool {
+    let (used, unused) = buffer.split_at(words.len());
+    used == words && unused.iter().all(|&word| word == 0)
+}
+
+pub struct Lent {
+    pub plates: Vec<u16>,
+    pub cuts: Vec<u16>,
+    pub counts: Vec<u16>,
+    pub placements: Vec<u16>,
+}
+
+impl Lent {
+    pub fn new() -> Lent {
+        Lent {
+            plates: junk(PLATES),
+            cuts: junk(CUTS),
+            counts: junk(COUNTS),
+            placements: junk(PLACEMENTS),
+        }
+    }
+
+    pub fn list(&mut self, job: &[u16]) -> Result<Listed, Refusal> {
+        let answer = reference::list(job, &mut self.plates, &mut self.cuts);
+        self.check_model(job, answer.is_ok());
+        answer
+    }
+
+    pub fn test_plan(&mut self, job: &[u16], counts: &[u16]) -> Result<u32, Refusal> {
+        let counts = full_counts(counts);
+        let answer = reference::test_plan(job, &counts, &mut self.plates, &mut self.cuts);
+        self.check_model(job, answer.is_ok());
+        answer
+    }
+
+    pub fn test_prices(&mut self, job: &[u16], prices: &[u16]) -> Result<Bound, Refusal> {
+        let answer = reference::test_prices(job, prices, &mut self.plates, &mut self.cuts);
+        self.check_model(job, answer.is_ok());
+        answer
+    }
+
+    pub fn unfold(&mut self, job: &[u16], counts: &[u16]) -> Result<Unfolded, Refusal> {
+        let counts = full_counts(counts);
+        let Lent {
+            plates,
+            cuts,
+            placements,
+            ..
+        } = self;
+        let answer = reference::unfold(job, &counts, plates, cuts, placements);
+        let pieces = answer.map_or(0, |unfolded| unfolded.pieces as usize);
+        assert!(self.placements[7 * pieces..].iter().all(|&word| word == 0));
+        self.check_model(job, answer.is_ok());
+        answer
+    }
+
+    pub fn fold(&mut self, job: &[u16], layouts: &[[u16; 7]]) -> Result<u32, Refusal> {
+        self.fold_words(job, &layouts.concat())
+    }
+
+    pub fn fold_words(&mut self, job: &[u16], layouts: &[u16]) -> Result<u32, Refusal> {
+        let Lent {
+            plates,
+            cuts,
+            counts,
+            ..
+        } = self;
+        let answer = reference::fold(job, layouts, plates, cuts, counts);
+        let used = answer.map_or(0, |_| plain::listing(job).1.len());
+        assert!(self.counts[used..].iter().all(|&word| word == 0));
+        self.check_model(job, answer.is_ok());
+        answer
+    }
+
+    /// The lines that the last unfolding wrote.
+    pub fn lines(&self) -> Vec<[u16; 7]> {
+        let lines = self
+            .placements
+            .chunks_exact(7)
+            .map(|line| line.try_into().unwrap());
+        lines.take_while(|line: &[u16; 7]| line[0] != 0).collect()
+    }
+
+    /// After success plates and cuts hold the listing, after these refusals nothing.
+    fn check_model(&self, job: &[u16], success: bool) {
+        let (plates, cuts) = match success {
+            true => plain::listing(job),
+            false => (Vec::new(), Vec::new()),
+        };
+        assert!(holds(&self.plates, &plates.concat()));
+        assert!(holds(&self.cuts, &cuts.concat()));
+    }
+}

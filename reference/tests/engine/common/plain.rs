@@ -1,0 +1,90 @@
+//! The listing, written a second time and plainly from document 01, "Plates and cuts": over job
+//! words, with every lookup a search of the whole list.
+
+type Plate = [u16; 3];
+type Cut = [u16; 4];
+
+/// Whether an item of these sides may be cut from the plate.
+fn may_cut(job: &[u16], [w, h, stage]: Plate, [wi, hi]: [u16; 2]) -> bool {
+    let (stages, exact) = (job[0], job[1] == 1);
+    if wi > w || hi > h {
+        return false;
+    }
+    if exact && stages == 2 && stage == 2 {
+        return hi == h;
+    }
+    if exact && stages == 3 && stage == 3 {
+        return wi == w;
+    }
+    true
+}
+
+/// The sides of the item types, in order.
+fn sides(job: &[u16]) -> Vec<[u16; 2]> {
+    job[5..]
+        .chunks(3)
+        .map(|item| [item[0], item[1]])
+        .collect()
+}
+
+/// Top and right of a cut; waste is a plate with a side of 0.
+fn leaves(job: &[u16], [w, h, stage]: Plate, [wi, hi]: [u16; 2]) -> [Plate; 2] {
+    const WASTE: Plate = [0, 0, 0];
+    match (job[0], stage) {
+        (_, 1) => [[w, h - hi, 1], [w - wi, hi, 2]],
+        (2, 2) => [WASTE, [w - wi, hi, 2]],
+        (3, 2) => [[wi, h - hi, 3], [w - wi, h, 2]],
+        (3, 3) => [[wi, h - hi, 3], WASTE],
+        _ => panic!("no plate has another stage"),
+    }
+}
+
+/// Plate types from 0 and cuts from 1, without limits.
+pub fn listing(job: &[u16]) -> (Vec<Plate>, Vec<Cut>) {
+    let items = sides(job);
+    let mut plates = vec![[job[2], job[3], 1]];
+    let mut cuts = Vec::new();
+    let mut number = 0;
+    while number < plates.len() {
+        let plate = plates[number];
+        for (index, &item) in items.iter().enumerate() {
+            if !may_cut(job, plate, item) {
+                continue;
+            }
+            let mut kept = [0, 0];
+            for (side, residual) in leaves(job, plate, item).into_iter().enumerate() {
+                if !items.iter().any(|&other| may_cut(job, residual, other)) {
+                    continue;
+                }
+                if !plates.contains(&residual) {
+                    plates.push(residual);
+                }
+                let met = plates.iter().position(|other| *other == residual);
+                kept[side] = met.unwrap() as u16;
+            }
+            cuts.push([number as u16, index as u16 + 1, kept[0], kept[1]]);
+        }
+        number += 1;
+    }
+    (plates, cuts)
+}
+
+/// Whether a plan is accepted, and the boards it opens: constraints 2 and 3 of the source and
+/// the total, each asked on its own.
+pub fn accepts(job: &[u16], counts: &[u16]) -> Option<u32> {
+    let (plates, cuts) = listing(job);
+    let sum = |chosen: &dyn Fn(&Cut) -> bool| -> u32 {
+        let of_cut = |(cut, &count): (&Cut, &u16)| if chosen(cut) { u32::from(count) } else { 0 };
+        cuts.iter().zip(counts).map(of_cut).sum()
+    };
+    let demands_met = job[5..]
+        .chunks(3)
+        .zip(1..)
+        .all(|(item, number)| sum(&|cut| cut[1] == number) >= u32::from(item[2]));
+    let residuals_arise = (1..plates.len() as u16).all(|plate| {
+        let leaving = sum(&|cut| cut[2] == plate) + sum(&|cut| cut[3] == plate);
+        sum(&|cut| cut[0] == plate) <= leaving
+    });
+    let accepted = demands_met && residuals_arise && sum(&|_| true) <= 4_000;
+    accepted.then(|| sum(&|cut| cut[0] == 0))
+}

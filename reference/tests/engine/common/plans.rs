@@ -1,0 +1,43 @@
+//! Random accepted plans: boards and residuals cut at random, in any order, until the demands
+//! are met.
+
+use super::random::Random;
+use reference::{Job, Listing};
+
+/// A plan of cuts that were possible when they were done.
+pub fn random_plan(random: &mut Random, job: &Job, listing: &Listing) -> Vec<u16> {
+    let mut counts = vec![0; listing.cuts.len()];
+    let mut waiting: Vec<u16> = Vec::new();
+    let mut missing: Vec<u16> = job.items.iter().map(|item| item.demand).collect();
+    let mut surplus = random.below(6);
+    for step in 0.. {
+        let open = missing.iter().any(|&count| count > 0);
+        if !open && surplus == 0 {
+            break;
+        }
+        surplus -= usize::from(!open);
+        let index = if step < 60 {
+            let plate = random_plate(random, &mut waiting);
+            let on = listing.cuts_on(plate);
+            on.start + random.below(on.len())
+        } else {
+            let short = missing.iter().position(|&count| count > 0).unwrap_or(0);
+            listing.cut_of(0, short as u16 + 1).unwrap()
+        };
+        counts[index] += 1;
+        let cut = listing.cuts[index];
+        waiting.extend(cut.top.iter().chain(&cut.right));
+        let item = &mut missing[usize::from(cut.item) - 1];
+        *item = item.saturating_sub(1);
+    }
+    counts
+}
+
+/// A waiting residual, taken away, or a fresh board.
+fn random_plate(random: &mut Random, waiting: &mut Vec<u16>) -> u16 {
+    if waiting.is_empty() || random.once_in(4) {
+        return 0;
+    }
+    let index = random.below(waiting.len());
+    waiting.swap_remove(index)
+}

@@ -1,0 +1,75 @@
+//! Price lists: by area, and random ones that are as high as the rules let them be.
+
+use super::random::Random;
+use reference::{Job, Listing, Plate, Prices};
+
+/// The words of a price list: D, the item prices, the residual prices.
+pub fn words_of(prices: &Prices) -> Vec<u16> {
+    let mut words = vec![prices.denominator];
+    words.extend(&prices.items);
+    words.extend(&prices.residuals);
+    words
+}
+
+/// Each price is the area's share of the board, in units of 1/D, rounded down.
+pub fn area_prices(job: &Job, listing: &Listing, denominator: u16) -> Prices {
+    let board = u64::from(job.width) * u64::from(job.height);
+    let price = |width: u16, height: u16| {
+        let area = u64::from(width) * u64::from(height);
+        (area * u64::from(denominator) / board) as u16
+    };
+    let of_plate = |plate: &Plate| price(plate.width, plate.height);
+    Prices {
+        denominator,
+        items: (job.items.iter())
+            .map(|item| price(item.width, item.height))
+            .collect(),
+        residuals: listing.plates[1..].iter().map(of_plate).collect(),
+    }
+}
+
+/// Random item prices; each residual, and D, at the least that its cuts allow. None if a price
+/// would leave its limits.
+pub fn least_prices(random: &mut Random, job: &Job, listing: &Listing) -> Option<Prices> {
+    let highest = random.pick(&[1, 3, 10, 100]);
+    let items: Vec<u16> = (job.items.iter())
+        .map(|_| random.between(0, highest))
+        .collect();
+    let mut least = vec![0u32; listing.plates.len()];
+    let mut by_area: Vec<usize> = (0..listing.plates.len()).collect();
+    by_area.sort_by_key(|&number| {
+        let plate = listing.plates[number];
+        u32::from(plate.width) * u32::from(plate.height)
+    });
+    // What a cut leaves is smaller than the plate cut, so it has its price already.
+    for number in by_area {
+        let cost = |index: usize| {
+            let cut = listing.cuts[index];
+            let kept = cut.top.iter().chain(&cut.right);
+            let residuals: u32 = kept.map(|&residual| least[usize::from(residual)]).sum();
+            residuals + u32::from(items[usize::from(cut.item) - 1])
+        };
+        let highest = listing.cuts_on(number as u16).map(cost).max();
+        least[number] = highest.unwrap_or(0);
+    }
+    let within = least.iter().all(|&price| price <= 9_999) && least[0] >= 1;
+    within.then(|| Prices {
+        denominator: least[0] as u16,
+        items,
+        residuals: least[1..].iter().map(|&price| price as u16).collect(),
+    })
+}
+
+/// Changes one price a little.
+pub fn disturb(random: &mut Random, prices: &mut Prices) {
+    let many = prices.items.len() + prices.residuals.len();
+    let index = random.below(many);
+    let price = match index.checked_sub(prices.items.len()) {
+        Some(residual) => &mut prices.residuals[residual],
+        None => &mut prices.items[index],
+    };
+    *price = match random.once_in(2) {
+        true => (*price + 1).min(9_999),
+        false => price.saturating_sub(1),
+    };
+}

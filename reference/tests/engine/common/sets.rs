@@ -1,0 +1,136 @@
+//! Random sets of layouts, made from the layout rules alone.
+
+use super::random::Random;
+use reference::{Board, Job, Mode, Strip};
+
+/// How often each type still has to be laid.
+struct Missing(Vec<u16>);
+
+impl Missing {
+    fn of(job: &Job) -> Missing {
+        Missing(job.items.iter().map(|item| item.demand).collect())
+    }
+
+    fn is_none(&self) -> bool {
+        self.0.iter().all(|&count| count == 0)
+    }
+
+    /// A missing type, or any type if none is missing.
+    fn pick(&self, random: &mut Random) -> u16 {
+        let open: Vec<u16> = (1..)
+            .zip(&self.0)
+            .filter(|(_, &count)| count > 0)
+            .map(|(number, _)| number)
+            .collect();
+        match open.is_empty() {
+            true => random.between(1, self.0.len() as u16),
+            false => random.pick(&open),
+        }
+    }
+
+    fn lay(&mut self, board: &Board) {
+        for item in board.iter().flatten().flatten() {
+            let count = &mut self.0[usize::from(*item) - 1];
+            *count = count.saturating_sub(1);
+        }
+    }
+}
+
+/// A set that keeps the rules and meets the demands; now and then with more than they ask.
+pub fn random_set(random: &mut Random, job: &Job) -> Vec<Board> {
+    let mut missing = Missing::of(job);
+    let mut set = Vec::new();
+    while !missing.is_none() || set.is_empty() || random.once_in(5) {
+        let lead = missing.pick(random);
+        let board = random_board(random, job, lead);
+        missing.lay(&board);
+        set.push(board);
+    }
+    set
+}
+
+/// A board whose strips come in any order; one of them is led by the given type.
+fn random_board(random: &mut Random, job: &Job, lead: u16) -> Board {
+    let mut board = Vec::new();
+    let mut room = job.height;
+    let mut next = Some(lead);
+    while let Some(lead) = next {
+        let strip = if job.mode.is_two_stage() {
+            two_stage_strip(random, job, lead, room)
+        } else {
+            three_stage_strip(random, job, lead)
+        };
+        let single = strip.iter().map(|stack| job.item(stack[0]).height);
+        room -= single.max().unwrap().max(job.item(lead).height);
+        board.push(strip);
+        next = match random.once_in(6) {
+            true => None,
+            false => random_item(random, job, job.width, room, None),
+        };
+    }
+    random.shuffle(&mut board);
+    board
+}
+
+/// An item type that fits into the room and has the given width, if one is given.
+fn random_item(
+    random: &mut Random,
+    job: &Job,
+    width: u16,
+    height: u16,
+    exact_width: Option<u16>,
+) -> Option<u16> {
+    let fitting: Vec<u16> = (1..)
+        .zip(&job.items)
+        .filter(|(_, item)| item.width <= width && item.height <= height)
+        .filter(|(_, item)| exact_width.is_none_or(|exact| item.width == exact))
+        .map(|(number, _)| number)
+        .collect();
+    (!fitting.is_empty()).then(|| random.pick(&fitting))
+}
+
+/// A strip of single items, not higher than the room; in 2E all as high as the leading one.
+fn two_stage_strip(random: &mut Random, job: &Job, lead: u16, room: u16) -> Strip {
+    let mut strip = vec![vec![lead]];
+    let mut width = job.width - job.item(lead).width;
+    while let Some(item) = random_item(random, job, width, room, None) {
+        if random.once_in(6) {
+            break;
+        }
+        if job.mode == Mode::TwoExact && job.item(item).height != job.item(lead).height {
+            continue;
+        }
+        width -= job.item(item).width;
+        strip.push(vec![item]);
+    }
+    random.shuffle(&mut strip);
+    strip
+}
+
+/// A strip of stacks, none higher than the leading item, which is a stack of its own; in 3E each
+/// stack has one width.
+fn three_stage_strip(random: &mut Random, job: &Job, lead: u16) -> Strip {
+    let mut strip = vec![vec![lead]];
+    let height = job.item(lead).height;
+    let mut width = job.width - job.item(lead).width;
+    while let Some(first) = random_item(random, job, width, height, None) {
+        if random.once_in(6) {
+            break;
+        }
+        let exact_width = (job.mode == Mode::ThreeExact).then(|| job.item(first).width);
+        let mut stack = vec![first];
+        let mut room = height - job.item(first).height;
+        while let Some(item) = random_item(random, job, width, room, exact_width) {
+            if random.once_in(6) {
+                break;
+            }
+            room -= job.item(item).height;
+            stack.push(item);
+        }
+        random.shuffle(&mut stack);
+        width -= stack.iter().map(|&item| job.item(item).width).max().unwrap();
+        strip.push(stack);
+    }
+    random.shuffle(&mut strip);
+    strip
+}

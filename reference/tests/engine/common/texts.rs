@@ -1,0 +1,96 @@
+//! Texts, written by the column rules without the library.
+
+use super::jobs::job_a;
+use reference::Prices;
+
+/// One line of numbers.
+pub fn line(numbers: &[u32]) -> Vec<u8> {
+    let groups = numbers.iter().map(|number| format!("{number:>9}"));
+    let mut bytes = groups.collect::<String>().into_bytes();
+    bytes.push(b'\n');
+    bytes
+}
+
+/// Lines of numbers.
+pub fn lines(all: &[&[u32]]) -> Vec<u8> {
+    all.iter().flat_map(|numbers| line(numbers)).collect()
+}
+
+/// The lines of kinds 1 and 2 of job words.
+pub fn job_text(job: &[u16]) -> Vec<u8> {
+    let number = |word: u16| u32::from(word);
+    let mut text = line(&[
+        1,
+        number(job[0]),
+        number(job[1]),
+        number(job[2]),
+        number(job[3]),
+        number(job[4]),
+    ]);
+    for (item_type, item) in (1..).zip(job[5..].chunks(3)) {
+        text.extend(line(&[
+            2,
+            item_type,
+            number(item[0]),
+            number(item[1]),
+            number(item[2]),
+        ]));
+    }
+    text
+}
+
+/// The lines of kind 3 of counts, by plate and item of each cut.
+pub fn plan_text(cuts: &[[u16; 4]], counts: &[u16]) -> Vec<u8> {
+    let counted = cuts.iter().zip(counts).filter(|(_, &count)| count > 0);
+    let written = counted.flat_map(|(cut, &count)| {
+        line(&[3, u32::from(cut[0]), u32::from(cut[1]), u32::from(count)])
+    });
+    written.collect()
+}
+
+/// The lines of kinds 4, 5 and 6 of a price list.
+pub fn price_text(prices: &Prices) -> Vec<u8> {
+    let mut text = line(&[
+        4,
+        u32::from(prices.denominator),
+        prices.items.len() as u32,
+        prices.residuals.len() as u32,
+    ]);
+    for (kind, list) in [(5, &prices.items), (6, &prices.residuals)] {
+        for (number, &price) in (1..).zip(list) {
+            text.extend(line(&[kind, number, u32::from(price)]));
+        }
+    }
+    text
+}
+
+/// The lines of kind 7 of layout lines.
+pub fn layout_text(layouts: &[[u16; 7]]) -> Vec<u8> {
+    let written = layouts.iter().flat_map(|numbers| {
+        let mut all = vec![7];
+        all.extend(numbers.map(u32::from));
+        line(&all)
+    });
+    written.collect()
+}
+
+/// Job A's lines of kinds 1 and 2, followed by these lines.
+pub fn after_job_a(all: &[&[u32]]) -> Vec<u8> {
+    let mut text = job_text(&job_a());
+    text.extend(lines(all));
+    text
+}
+
+/// The output of a refusal.
+pub fn refusal(number: u32, place: u32) -> Vec<u8> {
+    line(&[9, number, place])
+}
+
+/// Asserts that two texts are equal, and prints them as text where they are not.
+#[track_caller]
+pub fn assert_text(found: &[u8], expected: &[u8]) {
+    if found != expected {
+        let [found, expected] = [found, expected].map(String::from_utf8_lossy);
+        panic!("found:\n{found}\nexpected:\n{expected}");
+    }
+}
