@@ -1,1 +1,1 @@
-// The cases crate.
+// The proved table of cases: definitions and proofs alone.

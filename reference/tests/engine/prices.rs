@@ -1,6 +1,6 @@
 //! Prices: limits, the rule of each cut, the bound and "fewest" (document 01, "Prices").
 
-use crate::common::jobs::{job, job_a, PRICES_A};
+use crate::common::jobs::{job, job_a, job_b, PRICES_A};
 use crate::common::lent::Lent;
 use crate::common::refused;
 use reference::{Bound, Mode};
@@ -51,30 +51,29 @@ fn without_residual_types_the_prices_are_d_and_the_items() {
 #[test]
 fn a_cut_on_type_0_is_held_against_d() {
     // Cut 1: item 1, plates 1 and 2; cut 2: item 2, plates 3 and 4.
-    let prices = [10, 4, 0, 3, 3, 4, 0, 0];
+    let prices = [10, 4, 0, 3, 3, 7, 0, 0];
     assert_eq!(test(&prices), Ok(Bound { sum: 8, d: 10 }));
-    let prices = [9, 4, 0, 3, 3, 4, 0, 0];
+    let prices = [9, 4, 0, 3, 3, 7, 0, 0];
     assert_eq!(test(&prices), refused(14, 1));
 }
 
 #[test]
 fn a_cut_on_a_residual_is_held_against_its_price_not_against_d() {
-    // Cut 4 takes item 2 from plate 2, whose price is 1.
-    let prices = [100, 0, 2, 100, 1, 0, 0, 0];
-    assert_eq!(test(&prices), refused(14, 3));
-    let prices = [100, 0, 2, 2, 1, 2, 2, 2];
+    // Cut 4 takes item 2 from plate 2, whose price is 1; cut 3 from plate 1, at 2.
+    let prices = [100, 0, 2, 50, 1, 0, 0, 0];
     assert_eq!(test(&prices), refused(14, 4));
+    let prices = [100, 0, 2, 2, 1, 2, 2, 2];
+    assert_eq!(test(&prices), refused(14, 3));
 }
 
 #[test]
-fn a_residual_may_cost_more_than_d_where_no_cut_on_type_0_leaves_it() {
-    // Three stages: plate 4 of job B, (2, 3, 3), is left by a cut on plate 1 alone.
-    let words = job(Mode::ThreeNonExact, [5, 5], &[[3, 5, 1], [2, 2, 2]]);
+fn a_residual_costs_at_most_what_the_plates_that_leave_it_cost() {
+    // Three stages: plate 4 of job B, (2, 3, 3), is left by cut 3 on plate 1 alone.
     let high = [1, 0, 0, 0, 0, 0, 9_999];
-    assert_eq!(Lent::new().test_prices(&words, &high), refused(14, 3));
-    // In job A plate 5 is left by a cut on plate 4, and that by one on type 0.
-    assert_eq!(test(&[1, 0, 0, 0, 0, 0, 1, 2]), refused(14, 7));
-    assert_eq!(test(&[1, 0, 0, 0, 0, 0, 1, 1]), Ok(Bound { sum: 0, d: 1 }));
+    assert_eq!(Lent::new().test_prices(&job_b(), &high), refused(14, 3));
+    // In job A plate 5 is left by cut 7 on plate 4, and that by cuts 2, 3 and 6.
+    assert_eq!(test(&[2, 0, 0, 1, 0, 1, 1, 2]), refused(14, 7));
+    assert_eq!(test(&[2, 0, 0, 1, 0, 1, 1, 1]), Ok(Bound { sum: 0, d: 2 }));
 }
 
 #[test]

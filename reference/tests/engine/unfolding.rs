@@ -30,19 +30,6 @@ fn the_lowest_cut_with_a_count_left_is_done() {
 }
 
 #[test]
-fn counts_are_spent_board_by_board_not_type_by_type() {
-    // Plate 2 arises on board 1 from type 0 and on board 2 from type 3.
-    let lines = [
-        [1, 1, 1, 1, 1, 0, 0],
-        [1, 1, 2, 1, 2, 5, 0],
-        [2, 1, 1, 1, 2, 0, 0],
-        [2, 2, 1, 1, 1, 0, 3],
-        [2, 2, 2, 1, 2, 5, 3],
-    ];
-    assert_lines(&job_a(), &[1, 1, 0, 2, 1, 0, 0, 0], &lines);
-}
-
-#[test]
 fn a_piece_without_a_count_is_left_over_and_does_not_wait_on() {
     // On board 1 the right plate is cut up; on board 2 it is left over, and the strip above it
     // is empty too.

@@ -1,0 +1,51 @@
+-- The texts of job A as quoted lines, each number in nine columns.
+-- Assumes nothing.
+use Prim.Native.Nat.{ℕ}
+use mathlib.Core.List.{List, _++_}
+use Rattle.cases.specs.Bytes.{bytes}
+
+-- job A, as lines of kinds 1 and 2
+unfoldable pub jobLinesA : List ℕ
+jobLinesA =
+    bytes "        1        2        0        9        7        2\n"
+    ++ bytes "        2        1        5        4        2\n"
+    ++ bytes "        2        2        3        3        3\n"
+
+-- its plan, as lines of kind 3
+unfoldable pub planLinesA : List ℕ
+planLinesA =
+    bytes "        3        0        1        2\n"
+    ++ bytes "        3        1        2        1\n"
+    ++ bytes "        3        2        2        1\n"
+    ++ bytes "        3        4        2        1\n"
+
+-- its prices, as lines of kinds 4, 5 and 6
+unfoldable pub priceLinesA : List ℕ
+priceLinesA =
+    bytes "        4        1        2        5\n"
+    ++ bytes "        5        1        1\n"
+    ++ bytes "        5        2        0\n"
+    ++ bytes "        6        1        0\n"
+    ++ bytes "        6        2        0\n"
+    ++ bytes "        6        3        1\n"
+    ++ bytes "        6        4        0\n"
+    ++ bytes "        6        5        0\n"
+
+-- the lines of kind 7 that document 01 prints
+unfoldable pub printedA : List ℕ
+printedA =
+    bytes "        7        1        1        1        1        1        0        0\n"
+    ++ bytes "        7        1        1        2        1        2        5        0\n"
+    ++ bytes "        7        1        2        1        1        2        0        4\n"
+    ++ bytes "        7        1        2        2        1        2        3        4\n"
+    ++ bytes "        7        2        1        1        1        1        0        0\n"
+
+-- the line of kind 8 that document 01 prints
+unfoldable pub resultA : List ℕ
+resultA =
+    bytes "        8        2        2        1        1\n"
+
+-- the line of kind 8 without prices
+unfoldable pub resultPlain : List ℕ
+resultPlain =
+    bytes "        8        2        0        1        0\n"

@@ -1,0 +1,167 @@
+//! The rows of the saw text after the line row, and its output (document 01, "Texts" and "Where
+//! each number is given").
+
+use crate::common::jobs::{job, random_job, words_of};
+use crate::common::lent::Lent;
+use crate::common::plain;
+use crate::common::plans::random_plan;
+use crate::common::prices::{disturb, least_prices};
+use crate::common::random::Random;
+use crate::common::texts::{
+    after_job_a, assert_text, job_text, layout_text, line, lines, plan_text, price_text, refusal,
+};
+use reference::listing::FULL;
+use reference::{fold_text, saw_text, Listing, Mode};
+
+/// The answer to job A's first three lines and these is this refusal.
+fn assert_refused(all: &[&[u32]], number: u32, place: u32) {
+    assert_text(&saw_text(&after_job_a(all)), &refusal(number, place));
+}
+
+#[test]
+fn no_lines_3_are_admitted_and_leave_type_1_short() {
+    assert_refused(&[], 11, 1);
+    assert_refused(&[&[4, 1, 1, 0], &[5, 1, 0]], 11, 1);
+}
+
+#[test]
+fn the_job_row() {
+    let text = lines(&[&[1, 2, 0, 9, 7, 2], &[2, 1, 5, 4, 4_000], &[2, 2, 3, 8, 1]]);
+    assert_text(&saw_text(&text), &refusal(3, 2));
+    let text = lines(&[&[1, 2, 0, 9, 7, 2], &[2, 1, 5, 4, 4_000], &[2, 2, 3, 3, 1]]);
+    assert_text(&saw_text(&text), &refusal(4, 0));
+    let text = lines(&[&[1, 2, 0, 9, 7, 2], &[2, 1, 5, 4, 4_000], &[2, 2, 10_000, 3, 1]]);
+    assert_text(&saw_text(&text), &refusal(3, 2));
+}
+
+#[test]
+fn the_model_row_goes_before_the_plan() {
+    let text = lines(&[&[1, 2, 0, 10_000, 9, 1], &[2, 1, 1, 1, 1], &[3, 2_047, 1, 1]]);
+    assert_text(&saw_text(&text), &refusal(6, 0));
+    let mut text = job_text(&job(Mode::TwoNonExact, [105, 101], &[[1, 1, 1]; 40]));
+    text.extend(line(&[3, 2_047, 1, 1]));
+    assert_text(&saw_text(&text), &refusal(7, 0));
+}
+
+#[test]
+fn a_pair_that_is_no_cut_is_8() {
+    assert_refused(&[&[3, 6, 1, 1]], 8, 4);
+    assert_refused(&[&[3, 0, 1, 1], &[3, 1, 1, 1]], 8, 5);
+    assert_refused(&[&[3, 2, 1, 1], &[3, 1, 1, 1]], 8, 4);
+}
+
+#[test]
+fn a_cut_not_after_the_last_is_9_never_1() {
+    assert_refused(&[&[3, 0, 1, 1], &[3, 0, 1, 1]], 9, 5);
+    assert_refused(&[&[3, 0, 2, 1], &[3, 0, 1, 1]], 9, 5);
+    assert_refused(&[&[3, 1, 2, 1], &[3, 0, 2, 1], &[3, 0, 1, 1]], 9, 5);
+    // Each is compared with the line before it.
+    assert_refused(&[&[3, 0, 1, 1], &[3, 4, 2, 1], &[3, 3, 2, 1]], 9, 6);
+    // A fault of order goes before a total that is too high.
+    assert_refused(&[&[3, 0, 1, 4_000], &[3, 0, 1, 4_000]], 9, 5);
+}
+
+#[test]
+fn a_line_8_goes_before_9_on_an_earlier_line() {
+    assert_refused(&[&[3, 0, 2, 1], &[3, 0, 1, 1], &[3, 1, 1, 1]], 8, 6);
+}
+
+#[test]
+fn the_plan_row_runs_10_11_12() {
+    assert_refused(&[&[3, 0, 1, 4_000], &[3, 5, 2, 1]], 10, 0);
+    assert_refused(&[&[3, 0, 1, 3_999], &[3, 5, 2, 1]], 11, 2);
+    assert_refused(&[&[3, 0, 1, 3], &[3, 2, 2, 4]], 12, 2);
+}
+
+#[test]
+fn n_and_m_that_are_not_the_models_are_13_after_all_their_lines() {
+    let plan: [&[u32]; 4] = [&[3, 0, 1, 2], &[3, 1, 2, 1], &[3, 2, 2, 1], &[3, 4, 2, 1]];
+    for (types, residuals) in [(1, 5), (3, 5), (40, 5), (2, 0), (2, 4), (2, 6), (2, 2_047)] {
+        let mut text = after_job_a(&plan);
+        text.extend(line(&[4, 1, types, residuals]));
+        for number in 1..=types {
+            text.extend(line(&[5, number, 9_999]));
+        }
+        for number in 1..=residuals {
+            text.extend(line(&[6, number, 0]));
+        }
+        assert_text(&saw_text(&text), &refusal(13, 0));
+        text.truncate(text.len() - 28);
+        let missing = 8 + types + residuals;
+        assert_text(&saw_text(&text), &refusal(1, missing));
+    }
+}
+
+#[test]
+fn a_cut_over_its_limit_is_14_naming_the_cut() {
+    let mut text = after_job_a(&[&[3, 0, 1, 2], &[3, 0, 2, 3], &[4, 1, 2, 5]]);
+    text.extend(lines(&[&[5, 1, 1], &[5, 2, 0], &[6, 1, 0], &[6, 2, 0]]));
+    text.extend(lines(&[&[6, 3, 0], &[6, 4, 0], &[6, 5, 0]]));
+    assert_text(&saw_text(&text), &refusal(14, 5));
+}
+
+#[test]
+fn a_refusal_is_one_line_alone() {
+    let output = saw_text(&after_job_a(&[&[3, 0, 1, 2]]));
+    assert_eq!(output, b"        9       11        2\n");
+}
+
+#[test]
+fn prices_without_residual_types() {
+    let text = lines(&[
+        &[1, 3, 1, 9, 7, 1],
+        &[2, 1, 9, 7, 2],
+        &[3, 0, 1, 2],
+        &[4, 9_999, 1, 0],
+        &[5, 1, 9_999],
+    ]);
+    let expected = lines(&[
+        &[7, 1, 1, 1, 1, 1, 0, 0],
+        &[7, 2, 1, 1, 1, 1, 0, 0],
+        &[8, 2, 19_998, 9_999, 1],
+    ]);
+    assert_text(&saw_text(&text), &expected);
+}
+
+#[test]
+fn saw_texts_answer_as_the_calls_do_and_fold_texts_give_the_plan_back() {
+    let mut random = Random::new(9);
+    let mut lent = Lent::new();
+    let mut refusals = 0;
+    for _ in 0..3_000 {
+        let structured = random_job(&mut random);
+        let words = words_of(&structured);
+        let listing = Listing::walk(&structured, FULL).unwrap();
+        let counts = random_plan(&mut random, &structured, &listing);
+        let plan = plan_text(&plain::listing(&words).1, &counts);
+        let mut text = job_text(&words);
+        text.extend(&plan);
+        let mut expected = Vec::new();
+        let boards = lent.unfold(&words, &counts).unwrap().boards;
+        expected.extend(layout_text(&lent.lines()));
+        let mut layouts = job_text(&words);
+        layouts.extend(&expected);
+        assert_text(&fold_text(&layouts), &plan);
+        let Some(mut prices) = least_prices(&mut random, &structured, &listing) else {
+            expected.extend(line(&[8, boards, 0, 1, 0]));
+            assert_text(&saw_text(&text), &expected);
+            continue;
+        };
+        if random.once_in(3) {
+            disturb(&mut random, &mut prices);
+        }
+        text.extend(price_text(&prices));
+        match prices.test(&structured, &listing) {
+            Ok(bound) => {
+                let fewest = u32::from((boards - 1) * bound.d < bound.sum);
+                expected.extend(line(&[8, boards, bound.sum, bound.d, fewest]));
+            }
+            Err(refused) => {
+                expected = refusal(refused.number, refused.place);
+                refusals += 1;
+            }
+        }
+        assert_text(&saw_text(&text), &expected);
+    }
+    assert!(refusals > 100, "{refusals} price lists were refused");
+}
