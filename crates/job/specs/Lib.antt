@@ -4,3 +4,4 @@ pub mod Verdict
 pub mod Buffers
 pub mod Mode
 pub mod Job
+pub mod JobWords

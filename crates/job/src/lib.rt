@@ -2,3 +2,4 @@
 pub mod counters;
 pub mod item;
 pub mod mode;
+pub mod words;

@@ -8,3 +8,4 @@ pub mod LayoutsRow
 pub mod Fold
 pub mod UnfoldCall
 pub mod FoldCall
+pub mod Demand3

@@ -1,6 +1,7 @@
--- The definitions of this crate: plates and cuts, the walk that numbers them, the listing call.
+-- The definitions of this crate: plates and cuts, the walk that numbers them, their records in lent buffers, the listing call.
 pub mod Plate
 pub mod Listing
 pub mod Model
 pub mod Records
+pub mod Holds
 pub mod ListCall

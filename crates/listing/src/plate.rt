@@ -1,4 +1,9 @@
-// A plate, and what a cut leaves of it.
+// A plate, what may be cut from it, and what the cut leaves.
+ghost use mathlib.Core.Path.{_≡_};
+ghost use Prim.Native.Nat.{_≤_};
+ghost use Rattle.listing.specs.Plate.{mayCut, leaves, same};
+use job::item::Item;
+use job::mode::Mode;
 
 // A plate type: its sides in millimetres, and its stage, 1 to 3.
 pub struct Plate {
@@ -11,4 +16,106 @@ pub struct Plate {
 pub struct Residuals {
     pub top: Plate,
     pub right: Plate,
+}
+
+// Whether an item may be cut from a plate.
+pub fn may_cut(mode: Mode, item: Item, p: Plate) -> bool
+    ensures { λ r. ⌜ r ≡ mayCut mode item p ⌝ }
+{
+    if p.width < item.width {
+        return false;
+    }
+    if p.height < item.height {
+        return false;
+    }
+    let m = mode.0;
+    let stage = p.stage;
+    match m {
+        0 => {
+            if stage == 2 {
+                return item.height == p.height;
+            }
+            true
+        }
+        2 => {
+            if stage == 3 {
+                return item.width == p.width;
+            }
+            true
+        }
+        _ => true,
+    }
+}
+
+// The top and the right residual of a cut, by the plate's stage and the mode: 0 and 1 are the two-stage modes, 2 and 3 the three-stage ones.
+pub fn cut_leaves(mode: Mode, item: Item, p: Plate) -> Residuals
+    requires { ⌜ (item .width ≤ p .width) × (item .height ≤ p .height) ⌝ }
+    ensures { λ r. ⌜ r ≡ leaves mode item p ⌝ }
+{
+    let m = mode.0;
+    let stage = p.stage;
+    let waste = Plate {
+        width: 0,
+        height: 0,
+        stage: 0,
+    };
+    let across = p.width - item.width;
+    let up = p.height - item.height;
+    match stage {
+        1 => Residuals {
+            top: Plate {
+                width: p.width,
+                height: up,
+                stage: 1,
+            },
+            right: Plate {
+                width: across,
+                height: item.height,
+                stage: 2,
+            },
+        },
+        2 => match m {
+            0..=1 => Residuals {
+                top: waste,
+                right: Plate {
+                    width: across,
+                    height: item.height,
+                    stage: 2,
+                },
+            },
+            2..=3 | _ => Residuals {
+                top: Plate {
+                    width: item.width,
+                    height: up,
+                    stage: 3,
+                },
+                right: Plate {
+                    width: across,
+                    height: p.height,
+                    stage: 2,
+                },
+            },
+        },
+        _ => Residuals {
+            top: Plate {
+                width: item.width,
+                height: up,
+                stage: 3,
+            },
+            right: waste,
+        },
+    }
+}
+
+// Whether two plates are of one type.
+pub fn same(p: Plate, q: Plate) -> bool
+    ensures { λ r. ⌜ r ≡ same p q ⌝ }
+{
+    if p.width != q.width {
+        return false;
+    }
+    if p.height != q.height {
+        return false;
+    }
+    p.stage == q.stage
 }

@@ -65,7 +65,12 @@ impl Call {
         let (plates, cuts) = plain::listing(&job_a());
         let counts = (self == Call::Fold).then(|| PLAN_A.to_vec());
         let placements = (self == Call::Unfold).then(|| LINES.concat());
-        [Some(plates.concat()), Some(cuts.concat()), counts, placements]
+        [
+            Some(plates.concat()),
+            Some(cuts.concat()),
+            counts,
+            placements,
+        ]
     }
 }
 
@@ -123,7 +128,11 @@ fn the_first_short_buffer_is_named() {
                 Some(index) => refused(5, index as u32 + 1),
                 None => Ok(()),
             };
-            assert_eq!(call.make(&job_a(), &mut after), answer, "{call:?} {pattern}");
+            assert_eq!(
+                call.make(&job_a(), &mut after),
+                answer,
+                "{call:?} {pattern}"
+            );
         }
     }
 }

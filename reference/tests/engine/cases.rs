@@ -89,10 +89,7 @@ fn g_prices_give_2_over_1() {
 fn h_plate_price_3_at_0_puts_cut_5_over_its_limit() {
     let mut prices = PRICES_A;
     prices[5] = 0;
-    assert_eq!(
-        Lent::new().test_prices(&job_a(), &prices),
-        refused(14, 5)
-    );
+    assert_eq!(Lent::new().test_prices(&job_a(), &prices), refused(14, 5));
 }
 
 #[test]

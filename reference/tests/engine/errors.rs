@@ -48,10 +48,7 @@ fn a_plate_that_no_item_fits_is_not_kept() {
 #[test]
 fn a_price_rule_on_a_residual_is_not_at_most_d() {
     let prices = [100, 0, 2, 50, 1, 0, 0, 0];
-    assert_eq!(
-        Lent::new().test_prices(&job_a(), &prices),
-        refused(14, 4)
-    );
+    assert_eq!(Lent::new().test_prices(&job_a(), &prices), refused(14, 4));
 }
 
 /// Boards of 3 by 1 for so many items of 1 by 1 at 1 over 3: the plan's counts and the line of
@@ -78,7 +75,11 @@ fn a_bound_is_not_rounded_down_before_it_is_compared() {
 #[test]
 fn a_three_stage_stack_narrows_upwards() {
     // On the item of 2 by 2 only the width 2 is left, so that the item of 3 by 2 cannot follow.
-    let words = job(Mode::ThreeNonExact, [4, 6], &[[1, 6, 1], [3, 2, 1], [2, 2, 1]]);
+    let words = job(
+        Mode::ThreeNonExact,
+        [4, 6],
+        &[[1, 6, 1], [3, 2, 1], [2, 2, 1]],
+    );
     let mut counts = [0; 20];
     counts[0] = 1;
     counts[5] = 1;
@@ -110,7 +111,11 @@ fn a_three_exact_stack_has_one_width_and_a_strip_many() {
     let mut two_widths = lines;
     two_widths[3] = [1, 1, 2, 3, 3, 1, 4];
     assert_eq!(lent.fold(&words, &two_widths), refused(16, 1));
-    let non_exact = job(Mode::ThreeNonExact, [4, 8], &[[1, 6, 1], [3, 2, 1], [2, 2, 1]]);
+    let non_exact = job(
+        Mode::ThreeNonExact,
+        [4, 8],
+        &[[1, 6, 1], [3, 2, 1], [2, 2, 1]],
+    );
     assert_eq!(lent.fold(&non_exact, &two_widths), Ok(1));
 }
 

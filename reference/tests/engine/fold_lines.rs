@@ -55,14 +55,26 @@ fn a_line_7_of_another_form() {
 #[test]
 fn values_outside_their_limits() {
     let low = [(1, 0), (2, 0), (3, 0), (4, 0), (5, 0)];
-    let high = [(1, 4_001), (2, 4_001), (3, 4_001), (4, 4_001), (5, 3), (6, 10_001), (7, 10_001)];
+    let high = [
+        (1, 4_001),
+        (2, 4_001),
+        (3, 4_001),
+        (4, 4_001),
+        (5, 3),
+        (6, 10_001),
+        (7, 10_001),
+    ];
     for (index, value) in low.into_iter().chain(high) {
         let mut bad = [7, 1, 1, 1, 1, 1, 0, 0];
         bad[index] = value;
         assert_refused(&[&bad], 2, 4);
         assert_refused(&[GOOD, &bad, &[0]], 2, 5);
     }
-    assert_refused(&[&[7, 4_000, 4_000, 4_000, 4_000, 2, 10_000, 10_000]], 15, 4);
+    assert_refused(
+        &[&[7, 4_000, 4_000, 4_000, 4_000, 2, 10_000, 10_000]],
+        15,
+        4,
+    );
 }
 
 #[test]
@@ -75,7 +87,12 @@ fn job_and_model_rows_go_before_the_layouts() {
     let out_of_turn: &[u32] = &[7, 2, 1, 1, 1, 1, 0, 0];
     let text = lines(&[&[1, 2, 0, 9, 7, 1], &[2, 1, 10, 4, 1], out_of_turn]);
     assert_text(&fold_text(&text), &refusal(3, 1));
-    let text = lines(&[&[1, 2, 0, 9, 7, 2], &[2, 1, 1, 1, 4_000], &[2, 2, 1, 1, 1], out_of_turn]);
+    let text = lines(&[
+        &[1, 2, 0, 9, 7, 2],
+        &[2, 1, 1, 1, 4_000],
+        &[2, 2, 1, 1, 1],
+        out_of_turn,
+    ]);
     assert_text(&fold_text(&text), &refusal(4, 0));
     let text = lines(&[&[1, 2, 0, 10_000, 9, 1], &[2, 1, 1, 1, 1], out_of_turn]);
     assert_text(&fold_text(&text), &refusal(6, 0));

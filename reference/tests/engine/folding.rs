@@ -15,8 +15,13 @@ fn folded(words: &[u16], set: &[Board]) -> Vec<([u16; 2], u16)> {
     let boards = lent.fold(words, &check::lines(&structured, set)).unwrap();
     assert_eq!(boards as usize, set.len());
     let (_, cuts) = plain::listing(words);
-    let counted = cuts.iter().zip(&lent.counts).filter(|(_, &count)| count > 0);
-    counted.map(|(cut, &count)| ([cut[0], cut[1]], count)).collect()
+    let counted = cuts
+        .iter()
+        .zip(&lent.counts)
+        .filter(|(_, &count)| count > 0);
+    counted
+        .map(|(cut, &count)| ([cut[0], cut[1]], count))
+        .collect()
 }
 
 fn in_order(words: &[u16], strip: &[&[u16]]) -> Vec<Vec<u16>> {
@@ -98,11 +103,18 @@ fn strips_keep_their_order() {
 #[test]
 fn each_item_is_cut_from_what_the_cut_before_it_left() {
     // Stage 1: the post. Stage 2: the first of each further stack. Stage 3: the rest of a stack.
-    let words = job(Mode::ThreeNonExact, [4, 6], &[[1, 6, 1], [3, 2, 1], [2, 2, 1]]);
+    let words = job(
+        Mode::ThreeNonExact,
+        [4, 6],
+        &[[1, 6, 1], [3, 2, 1], [2, 2, 1]],
+    );
     // Plate 1 is (3, 6, 2), 5 is (3, 4, 3), 10 is (2, 2, 3).
     let set = [vec![vec![vec![3, 2, 3], vec![1]]]];
     let counts = folded(&words, &set);
-    assert_eq!(counts, [([0, 1], 1), ([1, 2], 1), ([5, 3], 1), ([10, 3], 1)]);
+    assert_eq!(
+        counts,
+        [([0, 1], 1), ([1, 2], 1), ([5, 3], 1), ([10, 3], 1)]
+    );
 }
 
 #[test]

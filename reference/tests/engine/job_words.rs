@@ -50,7 +50,15 @@ fn length_before_any_value() {
 
 #[test]
 fn every_number_of_the_board_names_0() {
-    for (index, bad) in [(0, 1), (0, 4), (1, 2), (2, 0), (3, 0), (2, 10_001), (3, 10_001)] {
+    for (index, bad) in [
+        (0, 1),
+        (0, 4),
+        (1, 2),
+        (2, 0),
+        (3, 0),
+        (2, 10_001),
+        (3, 10_001),
+    ] {
         assert_eq!(Lent::new().list(&changed(index, bad)), refused(2, 0));
     }
     assert_eq!(Lent::new().list(&changed(0, 65_535)), refused(2, 0));

@@ -33,7 +33,14 @@ fn a_line_cut_short_names_itself() {
 #[test]
 fn values_outside_their_limits_name_the_line() {
     let bad = [(0, 0), (1, 0), (2, 0), (3, 0), (4, 0), (4, 3)];
-    let high = [(0, 4_001), (1, 4_001), (2, 4_001), (3, 4_001), (5, 10_001), (6, 10_001)];
+    let high = [
+        (0, 4_001),
+        (1, 4_001),
+        (2, 4_001),
+        (3, 4_001),
+        (5, 10_001),
+        (6, 10_001),
+    ];
     for (column, value) in bad.into_iter().chain(high) {
         let mut lines = LINES_A;
         lines[3][column] = value;
@@ -47,7 +54,12 @@ fn values_outside_their_limits_name_the_line() {
 
 #[test]
 fn the_limits_are_4_000_and_10_000_not_the_boards_sides() {
-    for (column, value, number) in [(5, 10_000, 18), (6, 10_000, 18), (0, 4_000, 15), (3, 4_000, 15)] {
+    for (column, value, number) in [
+        (5, 10_000, 18),
+        (6, 10_000, 18),
+        (0, 4_000, 15),
+        (3, 4_000, 15),
+    ] {
         let mut lines = LINES_A;
         lines[1][column] = value;
         assert_eq!(Lent::new().fold(&job_a(), &lines), refused(number, 2));
@@ -178,7 +190,13 @@ fn a_strip_wider_than_the_board_is_named() {
 fn the_lowest_strip_whose_own_top_edge_is_too_high_is_named() {
     let words = mixed(Mode::TwoNonExact);
     let strip = |number: u16, y: u16| [1, number, 1, 1, 1, 0, y];
-    let high = [strip(1, 0), strip(2, 4), strip(3, 8), strip(4, 10_000), strip(5, 0)];
+    let high = [
+        strip(1, 0),
+        strip(2, 4),
+        strip(3, 8),
+        strip(4, 10_000),
+        strip(5, 0),
+    ];
     assert_eq!(Lent::new().fold(&words, &high[..3]), refused(11, 2));
     assert_eq!(Lent::new().fold(&words, &high[..4]), refused(17, 4));
     assert_eq!(Lent::new().fold(&words, &high), refused(17, 4));
@@ -236,7 +254,11 @@ fn sums_past_a_word_are_still_past_the_board() {
 #[test]
 fn positions_are_those_of_the_order_as_written() {
     // The widest item of the stack is not the lowest, and the leading stack is not the first.
-    let words = job(Mode::ThreeNonExact, [9, 9], &[[2, 4, 1], [2, 2, 1], [3, 2, 1], [1, 1, 1]]);
+    let words = job(
+        Mode::ThreeNonExact,
+        [9, 9],
+        &[[2, 4, 1], [2, 2, 1], [3, 2, 1], [1, 1, 1]],
+    );
     let lines = [
         [1, 1, 1, 1, 4, 0, 0],
         [1, 1, 2, 1, 2, 1, 0],

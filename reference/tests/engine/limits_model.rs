@@ -26,7 +26,13 @@ fn listed(plate_types: u32, cuts: u32) -> Result<Listed, reference::Refusal> {
 
 #[test]
 fn exactly_2_048_plate_types_are_listed_and_2_049_are_6() {
-    for (width, height) in [(1_024, 1_025), (2_000, 49), (49, 2_000), (2_048, 1), (1, 2_048)] {
+    for (width, height) in [
+        (1_024, 1_025),
+        (2_000, 49),
+        (49, 2_000),
+        (2_048, 1),
+        (1, 2_048),
+    ] {
         let at_limit = chain(width, height, 1, 0);
         assert_eq!(Lent::new().list(&at_limit), listed(2_048, 2_048));
         let past = chain(width + 1, height, 1, 0);
@@ -43,7 +49,11 @@ fn exactly_8_192_cuts_are_listed_and_8_193_are_7() {
     let at_both_limits = chain(1_024, 1_025, 4, 0);
     assert_eq!(Lent::new().list(&at_both_limits), listed(2_048, 8_192));
     assert_eq!(Lent::new().list(&chain(1_024, 1_025, 4, 1)), refused(7, 0));
-    for (large, answer) in [(3, listed(2_047, 8_191)), (4, listed(2_047, 8_192)), (5, refused(7, 0))] {
+    for (large, answer) in [
+        (3, listed(2_047, 8_191)),
+        (4, listed(2_047, 8_192)),
+        (5, refused(7, 0)),
+    ] {
         let found = Lent::new().list(&chain(1_024, 1_024, 4, large));
         assert_eq!(found, answer, "{large} large types");
     }
@@ -62,7 +72,9 @@ fn of_6_and_7_the_one_met_first_is_given() {
 #[test]
 fn large_jobs_pass_the_limits_in_every_mode() {
     for mode in Mode::ALL {
-        let items: Vec<[u16; 3]> = (1..=40).map(|side| [100 + 13 * side, 90 + 17 * side, 1]).collect();
+        let items: Vec<[u16; 3]> = (1..=40)
+            .map(|side| [100 + 13 * side, 90 + 17 * side, 1])
+            .collect();
         let words = job(mode, [10_000, 10_000], &items);
         let refusal = Lent::new().list(&words).unwrap_err();
         assert!([6, 7].contains(&refusal.number) && refusal.place == 0);
@@ -123,7 +135,13 @@ fn every_pair_of_lower_limits_gives_the_one_met_first() {
                 cut.top == Some(new) || cut.right == Some(new)
             };
             let meets = full.cuts.iter().position(brings).unwrap();
-            for cuts in [0, meets.saturating_sub(1), meets, meets + 1, full.cuts.len()] {
+            for cuts in [
+                0,
+                meets.saturating_sub(1),
+                meets,
+                meets + 1,
+                full.cuts.len(),
+            ] {
                 let limits = Limits { plate_types, cuts };
                 let number = if cuts > meets { 6 } else { 7 };
                 assert_eq!(Listing::walk(&structured, limits), refused(number, 0));

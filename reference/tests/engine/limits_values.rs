@@ -94,7 +94,11 @@ fn one_stack_and_one_strip_of_4_000_lines() {
     let refusal = Lent::new().fold(&words, &lines);
     // 3,999 heights on type 0, as many on stages 2 and 3: the listing has over 2,048 types.
     assert_eq!(refusal, refused(6, 0));
-    let words = job(Mode::ThreeNonExact, [2, 2_000], &[[1, 2_000, 1], [1, 200, 1]]);
+    let words = job(
+        Mode::ThreeNonExact,
+        [2, 2_000],
+        &[[1, 2_000, 1], [1, 200, 1]],
+    );
     let mut lines = vec![[1, 1, 1, 1, 1, 0, 0]];
     lines.extend((0..10).map(|place| [1, 1, 2, place + 1, 2, 1, 200 * place]));
     assert_eq!(Lent::new().fold(&words, &lines), Ok(1));

@@ -2,6 +2,7 @@
 
 mod common;
 
+mod agreement;
 mod buffers;
 mod cases;
 mod demand3_folding;

@@ -21,7 +21,14 @@ fn assert_listing(words: &[u16], plates: &[[u16; 3]], cuts: &[[u16; 4]]) {
 #[test]
 fn two_stage_right_takes_the_items_height() {
     let words = job(Mode::TwoNonExact, [6, 4], &[[2, 4, 1], [2, 2, 1]]);
-    let plates = [[6, 4, 1], [4, 4, 2], [6, 2, 1], [4, 2, 2], [2, 4, 2], [2, 2, 2]];
+    let plates = [
+        [6, 4, 1],
+        [4, 4, 2],
+        [6, 2, 1],
+        [4, 2, 2],
+        [2, 4, 2],
+        [2, 2, 2],
+    ];
     let cuts = [
         [0, 1, 0, 1],
         [0, 2, 2, 3],
@@ -39,7 +46,14 @@ fn two_stage_right_takes_the_items_height() {
 #[test]
 fn two_exact_asks_for_the_height_at_stage_2_only() {
     let words = job(Mode::TwoExact, [6, 4], &[[2, 4, 1], [2, 2, 1]]);
-    let plates = [[6, 4, 1], [4, 4, 2], [6, 2, 1], [4, 2, 2], [2, 4, 2], [2, 2, 2]];
+    let plates = [
+        [6, 4, 1],
+        [4, 4, 2],
+        [6, 2, 1],
+        [4, 2, 2],
+        [2, 4, 2],
+        [2, 2, 2],
+    ];
     let cuts = [
         [0, 1, 0, 1],
         [0, 2, 2, 3],
@@ -169,7 +183,10 @@ fn an_exact_residual_is_kept_only_for_an_item_of_its_own_side() {
 fn listed(mode: Mode, board: [u16; 2], items: &[[u16; 3]]) -> (Vec<[u16; 3]>, usize) {
     let mut lent = Lent::new();
     let listed = lent.list(&job(mode, board, items)).unwrap();
-    let plates = lent.plates.chunks_exact(3).take(listed.residuals as usize + 1);
+    let plates = lent
+        .plates
+        .chunks_exact(3)
+        .take(listed.residuals as usize + 1);
     let plates = plates.map(|plate| plate.try_into().unwrap()).collect();
     (plates, listed.cuts as usize)
 }

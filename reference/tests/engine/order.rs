@@ -81,7 +81,10 @@ fn cut_short_goes_before_a_value_in_words_but_not_in_a_text() {
     layouts.extend([1, 1]);
     assert_eq!(Lent::new().fold_words(&job_a(), &layouts), refused(1, 3));
     let mut text = job_text(&job_a());
-    text.extend(lines(&[&[7, 0, 1, 1, 1, 1, 0, 0], &[7, 1, 1, 1, 1, 1, 0, 0]]));
+    text.extend(lines(&[
+        &[7, 0, 1, 1, 1, 1, 0, 0],
+        &[7, 1, 1, 1, 1, 1, 0, 0],
+    ]));
     text.extend(lines(&[&[7, 1, 1]]));
     assert_text(&fold_text(&text), &refusal(2, 4));
 }

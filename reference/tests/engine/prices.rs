@@ -17,7 +17,10 @@ fn the_denominator_is_word_1() {
         assert_eq!(test(&prices), refused(2, 1));
         assert_eq!(test(&[d]), refused(2, 1));
     }
-    assert_eq!(test(&[9_999, 0, 0, 0, 0, 0, 0, 0]), Ok(Bound { sum: 0, d: 9_999 }));
+    assert_eq!(
+        test(&[9_999, 0, 0, 0, 0, 0, 0, 0]),
+        Ok(Bound { sum: 0, d: 9_999 })
+    );
 }
 
 #[test]

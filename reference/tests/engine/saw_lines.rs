@@ -94,7 +94,10 @@ fn a_running_number_that_is_not_the_next_is_1_also_outside_its_limits() {
         assert_refused(&[ONE, TYPE_1, &[2, wrong, 3, 3, 3]], 1, 3);
         assert_text(&saw_text(&with_line(10, &[5, wrong, 0])), &refusal(1, 10));
         assert_text(&saw_text(&with_line(12, &[6, wrong, 0])), &refusal(1, 12));
-        assert_text(&saw_text(&with_line(12, &[6, wrong, 10_000])), &refusal(1, 12));
+        assert_text(
+            &saw_text(&with_line(12, &[6, wrong, 10_000])),
+            &refusal(1, 12),
+        );
     }
 }
 
@@ -133,7 +136,13 @@ fn values_of_line_2_outside_their_limits() {
 
 #[test]
 fn values_of_line_3_outside_their_limits() {
-    for bad in [[3, 2_048, 1, 1], [3, 0, 0, 1], [3, 0, 3, 1], [3, 0, 1, 0], [3, 0, 1, 4_001]] {
+    for bad in [
+        [3, 2_048, 1, 1],
+        [3, 0, 0, 1],
+        [3, 0, 3, 1],
+        [3, 0, 1, 0],
+        [3, 0, 1, 4_001],
+    ] {
         assert_refused_after_job(&[&bad], 2, 4);
     }
     // Within the limits, but no cut: the plan row.
@@ -142,7 +151,13 @@ fn values_of_line_3_outside_their_limits() {
 
 #[test]
 fn values_of_line_4_outside_their_limits() {
-    for bad in [[4, 0, 2, 5], [4, 10_000, 2, 5], [4, 1, 0, 5], [4, 1, 41, 5], [4, 1, 2, 2_048]] {
+    for bad in [
+        [4, 0, 2, 5],
+        [4, 10_000, 2, 5],
+        [4, 1, 0, 5],
+        [4, 1, 41, 5],
+        [4, 1, 2, 2_048],
+    ] {
         assert_text(&saw_text(&with_line(8, &bad)), &refusal(2, 8));
         assert_refused_after_job(&[&bad], 2, 4);
     }
@@ -167,7 +182,10 @@ fn lines_5_and_6_come_after_4_and_in_that_order() {
 fn nothing_but_5_and_6_comes_after_4() {
     for other in [CUT_1, PRICES[0], ONE, TYPE_1, &[7, 1, 1, 1, 1, 1, 0, 0]] {
         for place in 9..=15 {
-            assert_text(&saw_text(&with_line(place, other)), &refusal(1, place as u32));
+            assert_text(
+                &saw_text(&with_line(place, other)),
+                &refusal(1, place as u32),
+            );
         }
         let mut text = with_line(1, ONE);
         text.extend(line(other));

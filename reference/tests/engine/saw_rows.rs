@@ -5,13 +5,13 @@ use crate::common::jobs::{job, random_job, words_of};
 use crate::common::lent::Lent;
 use crate::common::plain;
 use crate::common::plans::random_plan;
-use crate::common::prices::{disturb, least_prices};
+use crate::common::prices::{disturb, least_prices, words_of as price_words};
 use crate::common::random::Random;
 use crate::common::texts::{
     after_job_a, assert_text, job_text, layout_text, line, lines, plan_text, price_text, refusal,
 };
 use reference::listing::FULL;
-use reference::{fold_text, saw_text, Listing, Mode};
+use reference::{fold_text, saw_text, Job, Listing, Mode};
 
 /// The answer to job A's first three lines and these is this refusal.
 fn assert_refused(all: &[&[u32]], number: u32, place: u32) {
@@ -30,13 +30,21 @@ fn the_job_row() {
     assert_text(&saw_text(&text), &refusal(3, 2));
     let text = lines(&[&[1, 2, 0, 9, 7, 2], &[2, 1, 5, 4, 4_000], &[2, 2, 3, 3, 1]]);
     assert_text(&saw_text(&text), &refusal(4, 0));
-    let text = lines(&[&[1, 2, 0, 9, 7, 2], &[2, 1, 5, 4, 4_000], &[2, 2, 10_000, 3, 1]]);
+    let text = lines(&[
+        &[1, 2, 0, 9, 7, 2],
+        &[2, 1, 5, 4, 4_000],
+        &[2, 2, 10_000, 3, 1],
+    ]);
     assert_text(&saw_text(&text), &refusal(3, 2));
 }
 
 #[test]
 fn the_model_row_goes_before_the_plan() {
-    let text = lines(&[&[1, 2, 0, 10_000, 9, 1], &[2, 1, 1, 1, 1], &[3, 2_047, 1, 1]]);
+    let text = lines(&[
+        &[1, 2, 0, 10_000, 9, 1],
+        &[2, 1, 1, 1, 1],
+        &[3, 2_047, 1, 1],
+    ]);
     assert_text(&saw_text(&text), &refusal(6, 0));
     let mut text = job_text(&job(Mode::TwoNonExact, [105, 101], &[[1, 1, 1]; 40]));
     text.extend(line(&[3, 2_047, 1, 1]));
@@ -123,35 +131,49 @@ fn prices_without_residual_types() {
     assert_text(&saw_text(&text), &expected);
 }
 
+/// A random job with a random plan: the saw text without prices, and what the calls answer.
+fn random_text(random: &mut Random, lent: &mut Lent) -> (Job, Vec<u8>, Vec<u8>, u32) {
+    let structured = random_job(random);
+    let words = words_of(&structured);
+    let listing = Listing::walk(&structured, FULL).unwrap();
+    let counts = random_plan(random, &structured, &listing);
+    let mut text = job_text(&words);
+    text.extend(plan_text(&plain::listing(&words).1, &counts));
+    let boards = lent.unfold(&words, &counts).unwrap().boards;
+    (structured, text, layout_text(&lent.lines()), boards)
+}
+
 #[test]
-fn saw_texts_answer_as_the_calls_do_and_fold_texts_give_the_plan_back() {
+fn the_output_of_a_saw_text_folds_back_into_its_plan() {
     let mut random = Random::new(9);
+    let mut lent = Lent::new();
+    for _ in 0..3_000 {
+        let (structured, text, placements, boards) = random_text(&mut random, &mut lent);
+        let mut expected = placements.clone();
+        expected.extend(line(&[8, boards, 0, 1, 0]));
+        assert_text(&saw_text(&text), &expected);
+        let head = job_text(&words_of(&structured));
+        let layouts = [head.clone(), placements].concat();
+        assert_text(&fold_text(&layouts), &text[head.len()..]);
+    }
+}
+
+#[test]
+fn random_prices_are_answered_with_their_bound_or_refusal() {
+    let mut random = Random::new(10);
     let mut lent = Lent::new();
     let mut refusals = 0;
     for _ in 0..3_000 {
-        let structured = random_job(&mut random);
-        let words = words_of(&structured);
+        let (structured, mut text, mut expected, boards) = random_text(&mut random, &mut lent);
         let listing = Listing::walk(&structured, FULL).unwrap();
-        let counts = random_plan(&mut random, &structured, &listing);
-        let plan = plan_text(&plain::listing(&words).1, &counts);
-        let mut text = job_text(&words);
-        text.extend(&plan);
-        let mut expected = Vec::new();
-        let boards = lent.unfold(&words, &counts).unwrap().boards;
-        expected.extend(layout_text(&lent.lines()));
-        let mut layouts = job_text(&words);
-        layouts.extend(&expected);
-        assert_text(&fold_text(&layouts), &plan);
         let Some(mut prices) = least_prices(&mut random, &structured, &listing) else {
-            expected.extend(line(&[8, boards, 0, 1, 0]));
-            assert_text(&saw_text(&text), &expected);
             continue;
         };
         if random.once_in(3) {
             disturb(&mut random, &mut prices);
         }
         text.extend(price_text(&prices));
-        match prices.test(&structured, &listing) {
+        match lent.test_prices(&words_of(&structured), &price_words(&prices)) {
             Ok(bound) => {
                 let fewest = u32::from((boards - 1) * bound.d < bound.sum);
                 expected.extend(line(&[8, boards, bound.sum, bound.d, fewest]));

@@ -68,7 +68,11 @@ fn the_highest_stage_is_taken_first() {
 fn residuals_lie_above_and_beside_the_item() {
     // The right plate of a strip begins at the item's edge and at its foot, the top plate of a
     // stack at the item's own x.
-    let words = job(Mode::ThreeNonExact, [10, 10], &[[4, 7, 1], [3, 2, 1], [2, 3, 1]]);
+    let words = job(
+        Mode::ThreeNonExact,
+        [10, 10],
+        &[[4, 7, 1], [3, 2, 1], [2, 3, 1]],
+    );
     let lines = [
         [1, 1, 1, 1, 1, 0, 0],
         [1, 1, 2, 1, 2, 4, 0],
@@ -114,7 +118,11 @@ fn the_structured_unfolding_spends_every_count() {
 
 #[test]
 fn four_thousand_pieces_fill_the_placements() {
-    let words = job(Mode::TwoNonExact, [10_000, 1], &[[9_999, 1, 3_999], [10_000, 1, 1]]);
+    let words = job(
+        Mode::TwoNonExact,
+        [10_000, 1],
+        &[[9_999, 1, 3_999], [10_000, 1, 1]],
+    );
     let mut lent = Lent::new();
     let unfolded = lent.unfold(&words, &[3_999, 1]).unwrap();
     assert_eq!((unfolded.boards, unfolded.pieces), (4_000, 4_000));

@@ -32,7 +32,10 @@ fn stage_rule(job: &Job, strip: &Strip) -> bool {
     let led = strip
         .iter()
         .any(|stack| stack.len() == 1 && high(&stack[0]) == height);
-    let one_height = strip.iter().flatten().all(|item| high(item) == high(&strip[0][0]));
+    let one_height = strip
+        .iter()
+        .flatten()
+        .all(|item| high(item) == high(&strip[0][0]));
     let one_width = strip
         .iter()
         .all(|stack| stack.iter().all(|item| wide(item) == wide(&stack[0])));
@@ -64,7 +67,10 @@ pub fn lines(job: &Job, set: &[Board]) -> Vec<[u16; 7]> {
     let mut lines = Vec::new();
     for (b, board) in set.iter().enumerate() {
         for (s, strip) in board.iter().enumerate() {
-            let y: u16 = board[..s].iter().map(|below| strip_sides(job, below).1).sum();
+            let y: u16 = board[..s]
+                .iter()
+                .map(|below| strip_sides(job, below).1)
+                .sum();
             for (k, stack) in strip.iter().enumerate() {
                 let x = strip_sides(job, &strip[..k].to_vec()).0;
                 for (p, &item) in stack.iter().enumerate() {
@@ -98,7 +104,10 @@ pub fn set_in_turn(lines: &[[u16; 7]]) -> Vec<Board> {
         }
         let stacks = strip.len();
         strip[stacks - 1].push(item);
-        assert_eq!([b, s, k, p], [boards, strips, stacks, strip[stacks - 1].len()]);
+        assert_eq!(
+            [b, s, k, p],
+            [boards, strips, stacks, strip[stacks - 1].len()]
+        );
     }
     set
 }

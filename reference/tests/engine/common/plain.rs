@@ -21,10 +21,7 @@ fn may_cut(job: &[u16], [w, h, stage]: Plate, [wi, hi]: [u16; 2]) -> bool {
 
 /// The sides of the item types, in order.
 fn sides(job: &[u16]) -> Vec<[u16; 2]> {
-    job[5..]
-        .chunks(3)
-        .map(|item| [item[0], item[1]])
-        .collect()
+    job[5..].chunks(3).map(|item| [item[0], item[1]]).collect()
 }
 
 /// Top and right of a cut; waste is a plate with a side of 0.

@@ -128,7 +128,11 @@ fn three_stage_strip(random: &mut Random, job: &Job, lead: u16) -> Strip {
             stack.push(item);
         }
         random.shuffle(&mut stack);
-        width -= stack.iter().map(|&item| job.item(item).width).max().unwrap();
+        width -= stack
+            .iter()
+            .map(|&item| job.item(item).width)
+            .max()
+            .unwrap();
         strip.push(stack);
     }
     random.shuffle(&mut strip);

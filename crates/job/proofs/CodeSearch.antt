@@ -1,0 +1,42 @@
+-- Loops over the item types in rising number, on plain values: what is left to do from type i on is the whole.
+-- Assumes nothing.
+use mathlib.Core.Path.{_≡_, sym, _∙_}
+use Prim.Native.Nat.{ℕ, _+_, _-_, _≤_, _<_}
+use mathlib.Core.Bool.{Bool, true, false}
+use native.Mathlib.Numerals.{add-one}
+use lib.ListN.{length, drop}
+use Rattle.job.specs.declared.item.Item.{Item}
+use Rattle.job.specs.Lists.{any}
+use Rattle.job.specs.Verdict.{Verdict, pass, refuse, lowest}
+use Rattle.job.specs.Job.{Job, itemAt}
+use Rattle.job.proofs.CodeItems.{items-from, items-end}
+
+-- a test that some item type passes: the loop ends with the first that does
+module _ (job : Job) (test : Item → Bool) (i : ℕ) {whole : Bool} (w : whole ≡ any test (drop (i - 1) (job .items))) where
+  pub any-end : length (job .items) < i → false ≡ whole
+  unfolding any
+  any-end h = sym (w ∙ rw (items-end job i h))
+
+  module _ (h : 1 ≤ i) (l : i ≤ length (job .items)) where
+    pub any-found : test (itemAt job i) ≡ true → true ≡ whole
+    unfolding any
+    any-found t = sym (w ∙ rw (items-from job i h l, t, any))
+
+    pub any-next : test (itemAt job i) ≡ false → whole ≡ any test (drop (i + 1 - 1) (job .items))
+    unfolding any
+    any-next t = w ∙ rw (items-from job i h l, t, any)
+
+-- a check over all item types: the loop ends with the lowest that fails
+module _ (job : Job) (number : ℕ) (bad : ℕ → Item → Bool) (i : ℕ) {whole : Verdict} (w : whole ≡ lowest number bad i (drop (i - 1) (job .items))) where
+  pub lowest-end : length (job .items) < i → pass ≡ whole
+  unfolding lowest
+  lowest-end h = sym (w ∙ rw (items-end job i h))
+
+  module _ (h : 1 ≤ i) (l : i ≤ length (job .items)) where
+    pub lowest-found : bad i (itemAt job i) ≡ true → refuse number i ≡ whole
+    unfolding lowest
+    lowest-found t = sym (w ∙ rw (items-from job i h l, t, lowest))
+
+    pub lowest-next : bad i (itemAt job i) ≡ false → whole ≡ lowest number bad (i + 1) (drop (i + 1 - 1) (job .items))
+    unfolding lowest
+    lowest-next t = w ∙ rw (items-from job i h l, t, lowest, add-one)

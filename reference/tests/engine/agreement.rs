@@ -1,0 +1,167 @@
+//! Texts and calls agree: what the line row admits is answered by a text as by the calls on the
+//! same numbers, refusals included, with places that are lines where the table says so.
+
+use crate::common::check;
+use crate::common::jobs::{random_job, words_of};
+use crate::common::lent::Lent;
+use crate::common::plain;
+use crate::common::plans::random_plan;
+use crate::common::prices::{area_prices, words_of as price_words};
+use crate::common::random::Random;
+use crate::common::refused;
+use crate::common::sets::random_set;
+use crate::common::texts::{
+    assert_text, job_text, layout_text, line, plan_text, price_text, refusal,
+};
+use reference::listing::FULL;
+use reference::{fold_text, saw_text, Job, Listing, Refusal};
+
+/// A random job whose board or demands are now and then such that the job row refuses it.
+fn random_faulty_job(random: &mut Random) -> (Job, Job) {
+    let good = random_job(random);
+    let mut faulty = good.clone();
+    if random.once_in(6) {
+        faulty.width = random.between(1, good.width);
+        faulty.height = random.between(1, good.height);
+    }
+    if random.once_in(12) {
+        faulty.items[0].demand = 4_000;
+    }
+    (good, faulty)
+}
+
+/// A line of kind 3 as plate, item, count.
+type CountLine = [u16; 3];
+
+/// The lines of a plan, now and then with one changed, doubled, moved or taken away.
+fn random_count_lines(random: &mut Random, cuts: &[[u16; 4]], counts: &[u16]) -> Vec<CountLine> {
+    let counted = cuts.iter().zip(counts).filter(|(_, &count)| count > 0);
+    let mut lines: Vec<CountLine> = counted
+        .map(|(cut, &count)| [cut[0], cut[1], count])
+        .collect();
+    while random.once_in(2) && !lines.is_empty() {
+        let [from, to] = [0, 0].map(|_: i32| random.below(lines.len()));
+        match random.below(5) {
+            0 => lines.swap(from, to),
+            1 => lines.insert(to, lines[from]),
+            2 => drop(lines.remove(from)),
+            3 => lines[from][0] = random.between(0, 9),
+            _ => lines[from][2] = random.pick(&[1, 2, 3, 50, 4_000]),
+        }
+    }
+    lines
+}
+
+/// The counts of lines, or the refusal 8 or 9; text lines begin after those of the job.
+fn counts_of(cuts: &[[u16; 4]], lines: &[CountLine], first: u32) -> Result<Vec<u16>, Refusal> {
+    let mut counts = vec![0; cuts.len()];
+    let mut last = None;
+    let mut not_rising = None;
+    for (place, line) in (first..).zip(lines) {
+        let Some(index) = cuts.iter().position(|cut| cut[..2] == line[..2]) else {
+            return refused(8, place);
+        };
+        if last.is_some_and(|last| last >= index) {
+            not_rising = not_rising.or(Some(place));
+        }
+        last = Some(index);
+        counts[index] = line[2];
+    }
+    match not_rising {
+        Some(place) => refused(9, place),
+        None => Ok(counts),
+    }
+}
+
+/// The answer that the calls give to the numbers of a saw text.
+fn saw_answer(
+    lent: &mut Lent,
+    words: &[u16],
+    lines: &[CountLine],
+    prices: Option<&[u16]>,
+) -> Result<Vec<u8>, Refusal> {
+    lent.list(words)?;
+    let (_, cuts) = plain::listing(words);
+    let counts = counts_of(&cuts, lines, u32::from(words[4]) + 2)?;
+    let boards = lent.unfold(words, &counts)?.boards;
+    let mut output = layout_text(&lent.lines());
+    let last = match prices {
+        None => [8, boards, 0, 1, 0],
+        Some(prices) => {
+            let bound = lent.test_prices(words, prices)?;
+            let fewest = u32::from((boards - 1) * bound.d < bound.sum);
+            [8, boards, bound.sum, bound.d, fewest]
+        }
+    };
+    output.extend(line(&last));
+    Ok(output)
+}
+
+#[test]
+fn saw_texts_and_calls() {
+    let mut random = Random::new(61);
+    let mut lent = Lent::new();
+    for _ in 0..8_000 {
+        let (good, faulty) = random_faulty_job(&mut random);
+        let words = words_of(&faulty);
+        let listing = Listing::walk(&good, FULL).unwrap();
+        let counts = random_plan(&mut random, &good, &listing);
+        let cuts = plain::listing(&words_of(&good)).1;
+        let lines = random_count_lines(&mut random, &cuts, &counts);
+        let mut prices = area_prices(&good, &listing, 100);
+        if random.once_in(4) {
+            prices.items[0] += random.between(0, 30);
+        }
+        if random.once_in(8) {
+            prices.residuals.push(0);
+        }
+        let mut text = job_text(&words);
+        for &[plate, item, count] in &lines {
+            text.extend(plan_text(&[[plate, item, 0, 0]], &[count]));
+        }
+        let list = price_words(&prices);
+        let priced = random.once_in(2);
+        if priced {
+            text.extend(price_text(&prices));
+        }
+        let answer = saw_answer(&mut lent, &words, &lines, priced.then_some(&list[..]));
+        let expected = answer.unwrap_or_else(|refused| refusal(refused.number, refused.place));
+        assert_text(&saw_text(&text), &expected);
+    }
+}
+
+/// The answer that the calls give to the numbers of a fold text.
+fn fold_answer(lent: &mut Lent, words: &[u16], lines: &[[u16; 7]]) -> Vec<u8> {
+    match lent.fold(words, lines) {
+        Ok(_) => plan_text(&plain::listing(words).1, &lent.counts),
+        Err(refused) if refused.number >= 15 => {
+            let before = u32::from(words[4]) + 1;
+            refusal(refused.number, refused.place + before)
+        }
+        Err(refused) => refusal(refused.number, refused.place),
+    }
+}
+
+#[test]
+fn fold_texts_and_calls() {
+    let mut random = Random::new(62);
+    let mut lent = Lent::new();
+    for _ in 0..8_000 {
+        let (good, faulty) = random_faulty_job(&mut random);
+        let words = words_of(&faulty);
+        let mut lines = check::lines(&good, &random_set(&mut random, &good));
+        while random.once_in(2) && !lines.is_empty() {
+            let index = random.below(lines.len());
+            match random.below(4) {
+                0 => drop(lines.remove(index)),
+                1 => lines[index][4] = random.between(1, words[4]),
+                2 => lines[index][random.pick(&[5, 6])] = random.between(0, 9),
+                _ => lines[index][random.below(4)] = random.between(1, 3),
+            }
+        }
+        let mut text = job_text(&words);
+        text.extend(layout_text(&lines));
+        let expected = fold_answer(&mut lent, &words, &lines);
+        assert_text(&fold_text(&text), &expected);
+    }
+}

@@ -1,0 +1,82 @@
+//! Demand 3, second half, on random jobs: every set of layouts that keeps the rules and meets
+//! the demands folds into an accepted plan with the set's boards and items.
+
+use crate::common::check;
+use crate::common::jobs::{random_job_in, words_of};
+use crate::common::lent::Lent;
+use crate::common::random::Random;
+use crate::common::sets::random_set;
+use reference::folding::fold;
+use reference::layout::{keeps_rules, placements};
+use reference::listing::FULL;
+use reference::{Board, Job, Listing, Mode, Placement};
+
+/// All of the second half for one job and one set.
+fn assert_folding(lent: &mut Lent, job: &Job, listing: &Listing, set: &[Board]) {
+    let words = words_of(job);
+    assert!(check::keeps_rules(job, set));
+    assert!(set.iter().all(|board| keeps_rules(job, board)));
+    let lines = check::lines(job, set);
+    check::rectangles_apart(job, &lines);
+    let structured: Vec<[u16; 7]> = placements(job, set).iter().map(Placement::words).collect();
+    assert_eq!(structured, lines);
+    let boards = set.len() as u32;
+    assert_eq!(lent.fold(&words, &lines), Ok(boards));
+    let counts = lent.counts[..listing.cuts.len()].to_vec();
+    assert_eq!(counts, fold(job, listing, set));
+    assert_eq!(lent.test_plan(&words, &counts), Ok(boards));
+    let laid = check::laid(job, &lines);
+    assert_eq!(cut_of_type(job, listing, &counts), laid);
+    // The unfolding of the plan is another such set.
+    let unfolded = lent.unfold(&words, &counts).unwrap();
+    assert_eq!(unfolded.boards, boards);
+    let unfolded = lent.lines();
+    assert_eq!(check::laid(job, &unfolded), laid);
+    assert_eq!(lent.fold(&words, &unfolded), Ok(boards));
+    assert_eq!(lent.counts[..counts.len()], counts);
+}
+
+/// How often the counts cut each type.
+fn cut_of_type(job: &Job, listing: &Listing, counts: &[u16]) -> Vec<u32> {
+    let mut cut_of_type = vec![0; job.items.len()];
+    for (cut, &count) in listing.cuts.iter().zip(counts) {
+        cut_of_type[usize::from(cut.item) - 1] += u32::from(count);
+    }
+    cut_of_type
+}
+
+/// Random jobs in one mode, each with a random set.
+fn fold_random_sets(mode: Mode, seed: u64) {
+    let mut random = Random::new(seed);
+    let mut lent = Lent::new();
+    let mut stacked = 0;
+    for _ in 0..6_000 {
+        let job = random_job_in(&mut random, mode);
+        let listing = Listing::walk(&job, FULL).unwrap();
+        let set = random_set(&mut random, &job);
+        assert_folding(&mut lent, &job, &listing, &set);
+        let stacks = set.iter().flatten().flatten();
+        stacked += stacks.filter(|stack| stack.len() > 1).count();
+    }
+    assert_eq!(stacked > 1_000, !mode.is_two_stage());
+}
+
+#[test]
+fn sets_in_2e() {
+    fold_random_sets(Mode::TwoExact, 31);
+}
+
+#[test]
+fn sets_in_2n() {
+    fold_random_sets(Mode::TwoNonExact, 32);
+}
+
+#[test]
+fn sets_in_3e() {
+    fold_random_sets(Mode::ThreeExact, 33);
+}
+
+#[test]
+fn sets_in_3n() {
+    fold_random_sets(Mode::ThreeNonExact, 34);
+}
