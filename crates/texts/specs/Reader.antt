@@ -38,7 +38,7 @@ module _ {S : Type 0} (g : Grammar S) where
   abbrev pub started : Reader S
   started = record { state = g .start; lines = 0; pending = []; verdict = pass }
 
-  -- a text that is refused stays so: "nothing later is looked at"
+  -- a text that is refused stays so, whatever follows
   abbrev pub refusedAs : Reader S → Verdict → Reader S
   refusedAs r v = record { state = r .state; lines = r .lines; pending = []; verdict = v }
 

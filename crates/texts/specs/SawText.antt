@@ -152,7 +152,7 @@ countsFrom l rs k (suc n) = countFor l rs k ∷ countsFrom l rs (suc k) n
 unfoldable pub planCounts : Listing → List Counted → List ℕ
 planCounts l rs = countsFrom l rs 1 (length (l .cuts))
 
--- the prices row of the lines 4, 5 and 6, "only where line 4 is there"
+-- the prices row of the lines 4, 5 and 6, if there is a line 4
 unfoldable pub priceLinesRow : Job → Listing → Option PriceLines → Verdict
 priceLinesRow job l none = pass
 priceLinesRow job l (some ps) =
