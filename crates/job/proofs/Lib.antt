@@ -1,3 +1,10 @@
 -- The laws of this crate.
 pub mod CodeItems
 pub mod CodeSearch
+pub mod Tests
+pub mod Lists
+pub mod Sums
+pub mod Verdicts
+pub mod Buffers
+pub mod ItemWords
+pub mod Admission

@@ -5,3 +5,4 @@ pub mod Buffers
 pub mod Mode
 pub mod Job
 pub mod JobWords
+pub mod Admitted

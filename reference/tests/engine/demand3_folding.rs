@@ -2,7 +2,7 @@
 //! the demands folds into an accepted plan with the set's boards and items.
 
 use crate::common::check;
-use crate::common::jobs::{random_job_in, words_of};
+use crate::common::jobs::{random_job_in, random_large_job, words_of};
 use crate::common::lent::Lent;
 use crate::common::random::Random;
 use crate::common::sets::random_set;
@@ -79,4 +79,21 @@ fn sets_in_3e() {
 #[test]
 fn sets_in_3n() {
     fold_random_sets(Mode::ThreeNonExact, 34);
+}
+
+#[test]
+fn sets_of_large_jobs() {
+    let mut random = Random::new(35);
+    let mut lent = Lent::new();
+    let mut listed = 0;
+    for round in 0..400 {
+        let job = random_large_job(&mut random, Mode::ALL[round % 4]);
+        let Ok(listing) = Listing::walk(&job, FULL) else {
+            continue;
+        };
+        let set = random_set(&mut random, &job);
+        assert_folding(&mut lent, &job, &listing, &set);
+        listed += 1;
+    }
+    assert!(listed > 200, "{listed} jobs were listed");
 }

@@ -2,7 +2,7 @@
 //! layouts that keeps the rules, with the plan's boards and items, and folds back into the plan.
 
 use crate::common::check;
-use crate::common::jobs::{random_job_in, words_of};
+use crate::common::jobs::{random_job_in, random_large_job, words_of};
 use crate::common::lent::Lent;
 use crate::common::plans::random_plan;
 use crate::common::random::Random;
@@ -119,4 +119,21 @@ fn plans_of_many_pieces() {
         }
         assert_unfolding(&mut lent, &job, &listing, &counts);
     }
+}
+
+#[test]
+fn plans_of_large_jobs() {
+    let mut random = Random::new(26);
+    let mut lent = Lent::new();
+    let mut listed = 0;
+    for round in 0..400 {
+        let job = random_large_job(&mut random, Mode::ALL[round % 4]);
+        let Ok(listing) = Listing::walk(&job, FULL) else {
+            continue;
+        };
+        let counts = random_plan(&mut random, &job, &listing);
+        assert_unfolding(&mut lent, &job, &listing, &counts);
+        listed += 1;
+    }
+    assert!(listed > 200, "{listed} jobs were listed");
 }

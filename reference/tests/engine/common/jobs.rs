@@ -77,3 +77,22 @@ pub fn random_job_in(random: &mut Random, mode: Mode) -> Job {
         items: items.collect(),
     }
 }
+
+/// A random job of large sides and up to forty types, so few of which fit beside or above each
+/// other that its listing stays small; now and then it is past the limits all the same.
+pub fn random_large_job(random: &mut Random, mode: Mode) -> Job {
+    let [width, height] = [0; 2].map(|_| random.between(1_000, 10_000));
+    let types = random.between(1, 40);
+    let least = if types > 8 { 3 } else { 6 };
+    let items = (0..types).map(|_| Item {
+        width: random.between(width / least, width),
+        height: random.between(height / least, height),
+        demand: random.between(1, 4),
+    });
+    Job {
+        mode,
+        width,
+        height,
+        items: items.collect(),
+    }
+}

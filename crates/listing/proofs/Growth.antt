@@ -1,0 +1,94 @@
+-- The walk only adds: plate types and cuts keep their numbers, a cut is added at the end, and at most two plate types with it.
+-- Assumes nothing.
+use Prim.Native.Nat.{ℕ, suc, _+_, _≤_, _<_}
+use native.Mathlib.Omega.{arith}
+use mathlib.Core.Path.{_≡_, refl, _∙_}
+use mathlib.Core.List.{List, [], _∷_, _++_}
+use lib.ListN.{length, getD, length-append, List·getD-append}
+use lib.Seq.{getD-append-seam}
+use Rattle.job.specs.Job.{Job}
+use Rattle.listing.specs.declared.plate.Plate.{Plate}
+use Rattle.listing.specs.declared.plate.Residuals.{Residuals}
+use Rattle.listing.specs.Plate.{waste}
+use Rattle.listing.specs.Listing.{Listing, noCut, plateAt, cutAt, entered, cutDone}
+use Rattle.listing.proofs.Numbers.{Entering, not-kept, met, fresh, entering}
+
+-- the elements of one list stand at the same places in the other, which may have more
+pub record Longer {A : Type 0} (d : A) (xs ys : List A) : Type 0 where
+  pub no-fewer : length xs ≤ length ys
+  pub keeps : (k : ℕ) → k < length xs → getD ys k d ≡ getD xs k d
+
+module _ {A : Type 0} (d : A) where
+  pub longer-same : (xs : List A) → Longer d xs xs
+  longer-same xs = record { no-fewer = omega arith; keeps = λ k h. refl }
+
+  pub longer-append : (xs ys : List A) → Longer d xs (xs ++ ys)
+  longer-append xs ys = record { no-fewer = simp length-append (omega arith); keeps = λ k h. List·getD-append xs ys d k h }
+
+  pub longer-trans : (xs ys zs : List A) → Longer d xs ys → Longer d ys zs → Longer d xs zs
+  longer-trans xs ys zs a b =
+      record {
+        no-fewer = omega (arith, a .no-fewer, b .no-fewer);
+        keeps = λ k h. b .keeps k (omega (arith, a .no-fewer)) ∙ a .keeps k h;
+      }
+
+-- to enter a residual loses no plate type, and adds one at the most
+module _ (job : Job) (p : Plate) (ps : List Plate) where
+  pub entered-longer : Longer waste ps (entered job p ps .plates)
+  entered-longer = go (entering job p ps)
+    where
+      go : Entering job p ps → Longer waste ps (entered job p ps .plates)
+      go (not-kept h e) = rw e (longer-same waste ps)
+      go (met k h l g e) = rw e (longer-same waste ps)
+      go (fresh h f e) = rw e (longer-append waste ps (p ∷ []))
+
+  pub entered-one : length (entered job p ps .plates) ≤ suc (length ps)
+  entered-one = go (entering job p ps)
+    where
+      go : Entering job p ps → length (entered job p ps .plates) ≤ suc (length ps)
+      go (not-kept h e) = rw e (omega arith)
+      go (met k h l g e) = rw e (omega arith)
+      go (fresh h f e) = rw e (simp length-append (omega arith))
+
+-- the cut done with residuals r at plate type j with item type i
+module _ (job : Job) (j i : ℕ) (r : Residuals) (l : Listing) where
+  pub done-longer : Longer waste (l .plates) (cutDone job j i r l .plates)
+  unfolding cutDone
+  done-longer =
+      longer-trans waste (l .plates) (entered job (r .top) (l .plates) .plates) _ (entered-longer job (r .top) (l .plates))
+      (entered-longer job (r .right) (entered job (r .top) (l .plates) .plates))
+
+  pub done-two : length (cutDone job j i r l .plates) ≤ 2 + length (l .plates)
+  unfolding cutDone
+  done-two =
+      omega (arith, entered-one job (r .top) (l .plates), entered-one job (r .right) (entered job (r .top) (l .plates) .plates))
+
+  -- a plate type keeps its number
+  pub done-plate : (k : ℕ) → k < length (l .plates) → plateAt (cutDone job j i r l) k ≡ plateAt l k
+  unfolding plateAt
+  done-plate k h = done-longer .keeps k h
+
+  -- the cut is the next one
+  pub done-count : length (cutDone job j i r l .cuts) ≡ suc (length (l .cuts))
+  unfolding cutDone
+  done-count = simp length-append (omega arith)
+
+  -- and the cuts before it keep their numbers
+  pub done-cuts-longer : Longer noCut (l .cuts) (cutDone job j i r l .cuts)
+  unfolding cutDone
+  done-cuts-longer = longer-append noCut (l .cuts) _
+
+  pub done-cut : (c : ℕ) → c < length (l .cuts) → cutAt (cutDone job j i r l) (suc c) ≡ cutAt l (suc c)
+  unfolding cutAt
+  done-cut c h = done-cuts-longer .keeps c h
+
+  pub done-last :
+      cutAt (cutDone job j i r l) (suc (length (l .cuts)))
+      ≡ record {
+        plate = j;
+        item = i;
+        top = entered job (r .top) (l .plates) .number;
+        right = entered job (r .right) (entered job (r .top) (l .plates) .plates) .number;
+      }
+  unfolding cutAt cutDone
+  done-last = getD-append-seam (l .cuts) _ [] noCut

@@ -1,0 +1,124 @@
+-- Document 01, "Numbering": the number of a residual among the plate types, and the plate types after it is entered.
+-- Assumes nothing.
+use Prim.Native.Nat.{ℕ, zero, suc, _≤_, _<_}
+use native.Mathlib.Omega.{arith}
+use mathlib.Core.Path.{_≡_, refl, sym, _∙_, ap}
+use mathlib.Core.Logic.{_⊎_, inl, inr}
+use mathlib.Core.Bool.{Bool, true, false}
+use mathlib.Core.List.{List, [], _∷_, _++_}
+use lib.ListN.{length, getD}
+use borrow.Author.Tests.{lt-ltb, le-ltb}
+use Rattle.job.specs.Job.{Job}
+use Rattle.job.proofs.Tests.{at-most-or-above}
+use Rattle.listing.specs.declared.plate.Plate.{Plate}
+use Rattle.listing.specs.Plate.{waste, same, kept}
+use Rattle.listing.specs.Listing.{numberIn, entered}
+use Rattle.listing.proofs.Plates.{same-equal, equal-same, same-differ, differ-same}
+
+-- the first plate type is the one, or another
+pub number-here : (p q : Plate) (qs : List Plate) → same p q ≡ true → numberIn (q ∷ qs) p ≡ 0
+unfolding numberIn
+number-here p q qs h = rw (h, numberIn)
+
+pub number-next : (p q : Plate) (qs : List Plate) → same p q ≡ false → numberIn (q ∷ qs) p ≡ suc (numberIn qs p)
+unfolding numberIn
+number-next p q qs h = rw (h, numberIn)
+
+-- the number is that of the first plate type that is the one
+pub number-first : (ps : List Plate) (p : Plate) (k : ℕ) → k < length ps → getD ps k waste ≡ p → ((j : ℕ) → j < k → getD ps j waste ≡ p → ⊥) → numberIn ps p ≡ k
+number-first [] p k h e f = absurd (omega arith)
+number-first (q ∷ qs) p zero h e f = number-here p q qs (equal-same p q (sym e))
+number-first (q ∷ qs) p (suc k) h e f =
+    number-next p q qs (differ-same p q (λ d. f 0 (omega arith) (sym d)))
+    ∙ ap suc (number-first qs p k (omega arith) e (λ j l. f (suc j) (omega arith)))
+
+-- a plate type that is not among them has the next number
+pub number-new : (ps : List Plate) (p : Plate) → ((j : ℕ) → j < length ps → getD ps j waste ≡ p → ⊥) → numberIn ps p ≡ length ps
+unfolding numberIn
+number-new [] p f = refl
+number-new (q ∷ qs) p f =
+    number-next p q qs (differ-same p q (λ d. f 0 (omega arith) (sym d)))
+    ∙ ap suc (number-new qs p (λ j l. f (suc j) (omega arith)))
+
+-- a number is at most the next number
+pub number-at-most : (ps : List Plate) (p : Plate) → numberIn ps p ≤ length ps
+unfolding numberIn
+number-at-most [] p = omega arith
+number-at-most (q ∷ qs) p = go (same p q) (number-at-most qs p)
+  where
+    go : (t : Bool) → numberIn qs p ≤ length qs → (elim t as (λ _. ℕ) [ true ↦ 0 | false ↦ suc (numberIn qs p) ]) ≤ suc (length qs)
+    go true h = omega arith
+    go false h = omega arith
+
+-- below it none is the one
+pub number-before : (ps : List Plate) (p : Plate) (j : ℕ) → j < numberIn ps p → getD ps j waste ≡ p → ⊥
+unfolding numberIn
+number-before [] p j h e = omega arith
+number-before (q ∷ qs) p j h e = go (same p q) refl j h e (number-before qs p)
+  where
+    go :
+        (t : Bool)
+        → same p q ≡ t
+        → (j : ℕ)
+        → j < (elim t as (λ _. ℕ) [ true ↦ 0 | false ↦ suc (numberIn qs p) ])
+        → getD (q ∷ qs) j waste ≡ p
+        → ((j : ℕ) → j < numberIn qs p → getD qs j waste ≡ p → ⊥)
+        → ⊥
+    go true s j h e f = omega arith
+    go false s zero h e f = same-differ p q s (sym e)
+    go false s (suc j) h e f = f j (omega arith) e
+
+-- a number below the next number is the place of the one
+pub number-found : (ps : List Plate) (p : Plate) → numberIn ps p < length ps → getD ps (numberIn ps p) waste ≡ p
+unfolding numberIn
+number-found [] p h = absurd (omega arith)
+number-found (q ∷ qs) p h = go (same p q) refl h (number-found qs p)
+  where
+    at : Bool → ℕ
+    at t = elim t [ true ↦ 0 | false ↦ suc (numberIn qs p) ]
+
+    go : (t : Bool) → same p q ≡ t → at t < suc (length qs) → (numberIn qs p < length qs → getD qs (numberIn qs p) waste ≡ p) → getD (q ∷ qs) (at t) waste ≡ p
+    go true s h f = sym (same-equal p q s)
+    go false s h f = f (omega arith)
+
+module _ (job : Job) (p : Plate) (ps : List Plate) where
+  -- a residual that is not kept has the number 0
+  pub entered-waste : kept job p ≡ false → entered job p ps ≡ record { number = 0; plates = ps }
+  unfolding entered
+  entered-waste h = rw (h, entered)
+
+  -- "a type met before keeps its number"
+  pub entered-met : kept job p ≡ true → numberIn ps p < length ps → entered job p ps ≡ record { number = numberIn ps p; plates = ps }
+  unfolding entered
+  entered-met h l = rw (h, entered, lt-ltb (numberIn ps p) (length ps) l)
+
+  -- a residual that is kept and new becomes the next plate type
+  pub entered-new : kept job p ≡ true → length ps ≤ numberIn ps p → entered job p ps ≡ record { number = length ps; plates = ps ++ (p ∷ []) }
+  unfolding entered
+  entered-new h l =
+      let e : numberIn ps p ≡ length ps = omega (arith, number-at-most ps p) in
+      rw (h, entered, le-ltb (numberIn ps p) (length ps) l, e)
+
+  -- entering a residual, by cases
+  pub data Entering : Type 0 where
+    not-kept : kept job p ≡ false → entered job p ps ≡ record { number = 0; plates = ps } → Entering
+    met :
+        (k : ℕ)
+        → kept job p ≡ true
+        → k < length ps
+        → getD ps k waste ≡ p
+        → entered job p ps ≡ record { number = k; plates = ps }
+        → Entering
+    fresh :
+        kept job p ≡ true
+        → ((j : ℕ) → j < length ps → getD ps j waste ≡ p → ⊥)
+        → entered job p ps ≡ record { number = length ps; plates = ps ++ (p ∷ []) }
+        → Entering
+
+  pub entering : Entering
+  entering = go (kept job p) refl (at-most-or-above (length ps) (numberIn ps p))
+    where
+      go : (t : Bool) → kept job p ≡ t → (length ps ≤ numberIn ps p) ⊎ (numberIn ps p < length ps) → Entering
+      go false h c = not-kept h (entered-waste h)
+      go true h (inl l) = fresh h (λ j b. number-before ps p j (omega arith)) (entered-new h l)
+      go true h (inr l) = met (numberIn ps p) h l (number-found ps p l) (entered-met h l)

@@ -1,0 +1,111 @@
+-- Document 01, "Plates and cuts": what a cut leaves, by the stage and the mode; residuals are smaller than the plate, and their stages.
+-- Assumes nothing.
+use Prim.Native.Nat.{ℕ, _+_, _-_, _≤_, _<_}
+use native.Mathlib.Omega.{arith}
+use mathlib.Core.Path.{_≡_, refl}
+use mathlib.Core.Logic.{_⊎_, inl, inr}
+use mathlib.Core.Bool.{Bool, true, false}
+use lib.Dec.{eqb}
+use borrow.Author.Tests.{eqb-true, eqb-false}
+use Rattle.job.specs.declared.mode.Mode.{Mode}
+use Rattle.job.specs.declared.item.Item.{Item}
+use Rattle.job.specs.Mode.{three}
+use Rattle.listing.specs.declared.plate.Plate.{Plate}
+use Rattle.listing.specs.Plate.{plate, waste, residuals, leaves}
+
+module _ (m : Mode) (item : Item) (w h : ℕ) where
+  -- "Stage 1: top (w, h−hi, 1); right (w−wi, hi, 2)"
+  pub leaves-one : leaves m item (plate w h 1) ≡ residuals (plate w (h - item .height) 1) (plate (w - item .width) (item .height) 2)
+  unfolding leaves
+  leaves-one = refl
+
+  -- "Stage 2, two-stage modes: right (w−wi, hi, 2); what lies above is waste"
+  pub leaves-two : three m ≡ false → leaves m item (plate w h 2) ≡ residuals waste (plate (w - item .width) (item .height) 2)
+  unfolding leaves
+  leaves-two t = rw t
+
+  -- "Stage 2, three-stage modes: top (wi, h−hi, 3); right (w−wi, h, 2)"
+  pub leaves-two-three : three m ≡ true → leaves m item (plate w h 2) ≡ residuals (plate (item .width) (h - item .height) 3) (plate (w - item .width) h 2)
+  unfolding leaves
+  leaves-two-three t = rw t
+
+  -- "Stage 3: top (wi, h−hi, 3); what lies beside is waste"
+  pub leaves-three : leaves m item (plate w h 3) ≡ residuals (plate (item .width) (h - item .height) 3) waste
+  unfolding leaves
+  leaves-three = refl
+
+-- what a cut leaves of any plate, by cases; a stage that is neither 1 nor 2 is taken as stage 3
+pub data Leaving (m : Mode) (item : Item) (p : Plate) : Type 0 where
+  at-one :
+      p .stage ≡ 1
+      → leaves m item p ≡ residuals (plate (p .width) (p .height - item .height) 1) (plate (p .width - item .width) (item .height) 2)
+      → Leaving m item p
+  at-two :
+      p .stage ≡ 2
+      → three m ≡ false
+      → leaves m item p ≡ residuals waste (plate (p .width - item .width) (item .height) 2)
+      → Leaving m item p
+  at-two-three :
+      p .stage ≡ 2
+      → three m ≡ true
+      → leaves m item p ≡ residuals (plate (item .width) (p .height - item .height) 3) (plate (p .width - item .width) (p .height) 2)
+      → Leaving m item p
+  at-three :
+      (p .stage ≡ 1 → ⊥)
+      → (p .stage ≡ 2 → ⊥)
+      → leaves m item p ≡ residuals (plate (item .width) (p .height - item .height) 3) waste
+      → Leaving m item p
+
+pub leaving : (m : Mode) (item : Item) (p : Plate) → Leaving m item p
+unfolding leaves
+leaving m item p = go (eqb (p .stage) 1) (eqb (p .stage) 2) (three m) refl refl refl
+  where
+    go : (a b t : Bool) → eqb (p .stage) 1 ≡ a → eqb (p .stage) 2 ≡ b → three m ≡ t → Leaving m item p
+    go true b t e f g = at-one (eqb-true (p .stage) 1 e) (rw e)
+    go false true false e f g = at-two (eqb-true (p .stage) 2 f) g (rw (e, f, g))
+    go false true true e f g = at-two-three (eqb-true (p .stage) 2 f) g (rw (e, f, g))
+    go false false t e f g = at-three (eqb-false (p .stage) 1 e) (eqb-false (p .stage) 2 f) (rw (e, f))
+
+-- the sum of a plate's sides
+abbrev pub sides : Plate → ℕ
+sides p = p .width + p .height
+
+-- a stage from 1 to 3
+abbrev pub Staged : Plate → Type 0
+Staged p = (1 ≤ p .stage) × (p .stage ≤ 3)
+
+module _ (m : Mode) (item : Item) (p : Plate) where
+  -- the residuals of an item with sides of at least 1 that fits into the plate are smaller than the plate
+  pub residuals-smaller :
+      1 ≤ item .width
+      → 1 ≤ item .height
+      → item .width ≤ p .width
+      → item .height ≤ p .height
+      → (sides (leaves m item p .top) < sides p) × (sides (leaves m item p .right) < sides p)
+  residuals-smaller a b c d = go (leaving m item p)
+    where
+      go : Leaving m item p → (sides (leaves m item p .top) < sides p) × (sides (leaves m item p .right) < sides p)
+      go (at-one s e) = rw e (omega arith)
+      go (at-two s t e) = rw e (omega arith)
+      go (at-two-three s t e) = rw e (omega arith)
+      go (at-three s t e) = rw e (omega arith)
+
+  -- a residual that is not waste has a stage from 1 to 3
+  pub residuals-staged : ((leaves m item p .top ≡ waste) ⊎ Staged (leaves m item p .top)) × ((leaves m item p .right ≡ waste) ⊎ Staged (leaves m item p .right))
+  residuals-staged = go (leaving m item p)
+    where
+      go : Leaving m item p → ((leaves m item p .top ≡ waste) ⊎ Staged (leaves m item p .top)) × ((leaves m item p .right ≡ waste) ⊎ Staged (leaves m item p .right))
+      go (at-one s e) = rw e (inr (omega arith), inr (omega arith))
+      go (at-two s t e) = rw e (inl refl, inr (omega arith))
+      go (at-two-three s t e) = rw e (inr (omega arith), inr (omega arith))
+      go (at-three s t e) = rw e (inr (omega arith), inl refl)
+
+  -- top and right are of different stages, so they are never one type
+  pub stages-differ : leaves m item p .top .stage ≡ leaves m item p .right .stage → ⊥
+  stages-differ = go (leaving m item p)
+    where
+      go : Leaving m item p → leaves m item p .top .stage ≡ leaves m item p .right .stage → ⊥
+      go (at-one s e) = rw e (omega arith)
+      go (at-two s t e) = rw e (omega arith)
+      go (at-two-three s t e) = rw e (omega arith)
+      go (at-three s t e) = rw e (omega arith)

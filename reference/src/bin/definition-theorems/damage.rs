@@ -1,0 +1,82 @@
+//! Damage to words, to lines of numbers, and to the bytes of a text.
+
+use crate::random::Random;
+
+/// Values at the limits of document 01 and next to them.
+const EDGES: [u16; 15] = [
+    0, 1, 2, 3, 4, 40, 41, 2_047, 2_048, 4_000, 4_001, 9_999, 10_000, 10_001, 65_535,
+];
+
+/// Bytes that a damaged text may hold: of numbers, of ends of lines, and others.
+const BYTES: [u8; 16] = [
+    b' ', b'0', b'1', b'2', b'9', b'\n', b'\t', b'\r', b'+', b'-', b'.', b'A', 0, 11, 128, 255,
+];
+
+/// Changes one word, drops one or puts one in.
+pub fn damage_words(random: &mut Random, words: &mut Vec<u16>) {
+    if words.is_empty() {
+        return words.push(random.pick(&EDGES));
+    }
+    let at = random.below(words.len());
+    match random.below(7) {
+        0 | 1 => words[at] = random.pick(&EDGES),
+        2 | 3 => words[at] = words[at].saturating_add(1),
+        4 => words[at] = words[at].saturating_sub(1),
+        5 => drop(words.remove(at)),
+        _ => words.insert(at, random.pick(&EDGES)),
+    }
+}
+
+/// Drops a line, doubles it, or swaps it with another.
+pub fn damage_order<T: Clone>(random: &mut Random, lines: &mut Vec<T>) {
+    if lines.is_empty() {
+        return;
+    }
+    let [one, other] = [0; 2].map(|_| random.below(lines.len()));
+    match random.below(3) {
+        0 => drop(lines.remove(one)),
+        1 => lines.insert(other, lines[one].clone()),
+        _ => lines.swap(one, other),
+    }
+}
+
+/// Changes a number of a line, drops one or puts one in.
+pub fn damage_numbers(random: &mut Random, lines: &mut [Vec<u32>]) {
+    let which = random.below(lines.len());
+    let line = &mut lines[which];
+    let at = random.below(line.len());
+    match random.below(9) {
+        0..=2 => line[at] = u32::from(random.pick(&EDGES)),
+        3 | 4 => line[at] += 1,
+        5 => line[at] = line[at].saturating_sub(1),
+        6 => line[at] = 999_999_999,
+        7 => drop(line.remove(at)),
+        _ => line.insert(at, u32::from(random.pick(&EDGES))),
+    }
+}
+
+/// Changes a byte, drops one, puts one in, or cuts the text there.
+pub fn damage_bytes(random: &mut Random, text: &mut Vec<u8>) {
+    if text.is_empty() {
+        return text.push(random.pick(&BYTES));
+    }
+    let at = match random.once_in(3) {
+        true => some_line_end(random, text),
+        false => random.below(text.len()),
+    };
+    match random.below(4) {
+        0 => text[at] = random.pick(&BYTES),
+        1 => drop(text.remove(at)),
+        2 => text.insert(at, random.pick(&BYTES)),
+        _ => text.truncate(at),
+    }
+}
+
+/// Where some line ends, or the text begins if no line does.
+fn some_line_end(random: &mut Random, text: &[u8]) -> usize {
+    let ends: Vec<usize> = (0..text.len()).filter(|&at| text[at] == b'\n').collect();
+    match ends.is_empty() {
+        true => 0,
+        false => random.pick(&ends),
+    }
+}

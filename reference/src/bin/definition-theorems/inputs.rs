@@ -1,0 +1,201 @@
+//! Small valid inputs: jobs, plans from random cutting, price lists, and sets of layouts from the
+//! layout rules.
+
+use crate::random::Random;
+use reference::layout::{keeps_rules, placements};
+use reference::listing::Limits;
+use reference::{Board, Item, Job, Listing, Mode, Placement};
+
+/// The largest listing that the definitions are asked to compute.
+pub const SMALL: Limits = Limits {
+    plate_types: 24,
+    cuts: 40,
+};
+
+/// A job, its words, and its listing, which is small.
+pub struct Model {
+    pub job: Job,
+    pub words: Vec<u16>,
+    pub listing: Listing,
+}
+
+impl Model {
+    /// A random one.
+    pub fn random(random: &mut Random) -> Model {
+        loop {
+            let job = random_job(random);
+            if let Ok(listing) = Listing::walk(&job, SMALL) {
+                let words = words_of(&job);
+                return Model {
+                    job,
+                    words,
+                    listing,
+                };
+            }
+        }
+    }
+}
+
+/// A job of any mode whose sides are drawn from few values, so that equal widths and heights, and
+/// equal types, occur.
+fn random_job(random: &mut Random) -> Job {
+    let longest = random.pick(&[4, 9, 16, 30]);
+    let [width, height] = [0; 2].map(|_| random.between(longest / 2, longest));
+    let widths = [0; 3].map(|_| random.between(1, width));
+    let heights = [0; 3].map(|_| random.between(1, height));
+    let types = random.between(1, 4);
+    let items = (0..types).map(|_| Item {
+        width: random.pick(&widths),
+        height: random.pick(&heights),
+        demand: random.between(1, 3),
+    });
+    let items = items.collect();
+    Job {
+        mode: random.pick(&Mode::ALL),
+        width,
+        height,
+        items,
+    }
+}
+
+/// Stages, exact, W, H, n, then width, height, demand of each type.
+fn words_of(job: &Job) -> Vec<u16> {
+    let stages = if job.mode.is_two_stage() { 2 } else { 3 };
+    let exact = u16::from(job.mode.is_exact());
+    let types = job.items.len() as u16;
+    let mut words = vec![stages, exact, job.width, job.height, types];
+    for item in &job.items {
+        words.extend([item.width, item.height, item.demand]);
+    }
+    words
+}
+
+/// How often each item type is still to be cut or laid.
+struct Missing(Vec<u16>);
+
+impl Missing {
+    fn of(job: &Job) -> Missing {
+        Missing(job.items.iter().map(|item| item.demand).collect())
+    }
+
+    fn lacks(&self, item: u16) -> bool {
+        self.0[usize::from(item) - 1] > 0
+    }
+
+    fn is_none(&self) -> bool {
+        self.0.iter().all(|&count| count == 0)
+    }
+
+    /// A missing type, or any type if none is missing.
+    fn pick(&self, random: &mut Random) -> u16 {
+        let types = self.0.len() as u16;
+        let missing: Vec<u16> = (1..=types).filter(|&item| self.lacks(item)).collect();
+        match missing.is_empty() {
+            true => random.between(1, types),
+            false => random.pick(&missing),
+        }
+    }
+
+    fn take(&mut self, item: u16) {
+        let count = &mut self.0[usize::from(item) - 1];
+        *count = count.saturating_sub(1);
+    }
+}
+
+/// The counts of boards and residuals that are cut at random, in any order, until the demands are
+/// met: an accepted plan.
+pub fn random_plan(random: &mut Random, model: &Model) -> Vec<u16> {
+    let listing = &model.listing;
+    let mut counts = vec![0; listing.cuts.len()];
+    let mut waiting = Vec::new();
+    let mut missing = Missing::of(&model.job);
+    while !missing.is_none() || random.once_in(4) {
+        let plate = match waiting.is_empty() || random.once_in(4) {
+            true => 0,
+            false => waiting.swap_remove(random.below(waiting.len())),
+        };
+        let on: Vec<usize> = listing.cuts_on(plate).collect();
+        let wanted = on.iter().copied();
+        let wanted: Vec<usize> = wanted
+            .filter(|&index| missing.lacks(listing.cuts[index].item))
+            .collect();
+        let index = match wanted.is_empty() || random.once_in(4) {
+            true => random.pick(&on),
+            false => random.pick(&wanted),
+        };
+        counts[index] += 1;
+        let cut = listing.cuts[index];
+        waiting.extend(cut.top.iter().chain(&cut.right));
+        missing.take(cut.item);
+    }
+    counts
+}
+
+/// The words of an accepted price list: each residual, and D, at the least that its cuts allow,
+/// then all of them as many times as much.
+pub fn random_prices(random: &mut Random, model: &Model) -> Vec<u16> {
+    let items: Vec<u16> = (model.job.items.iter())
+        .map(|_| random.between(0, 9))
+        .collect();
+    let mut least = vec![0; model.listing.plates.len()];
+    let mut settled = false;
+    while !settled {
+        settled = true;
+        for cut in &model.listing.cuts {
+            let kept = cut.top.iter().chain(&cut.right);
+            let residuals: u16 = kept.map(|&plate| least[usize::from(plate)]).sum();
+            let cost = residuals + items[usize::from(cut.item) - 1];
+            let plate = &mut least[usize::from(cut.plate)];
+            settled &= cost <= *plate;
+            *plate = cost.max(*plate);
+        }
+    }
+    let most = 9_999 / items.iter().chain(&least).max().unwrap().max(&1);
+    let times = random.pick(&[1, 1, 2, most]).min(most);
+    let denominator = least[0] * times + random.pick(&[0, 0, 1, 5]);
+    let mut words = vec![denominator.clamp(1, 9_999)];
+    words.extend(items.iter().chain(&least[1..]).map(|price| price * times));
+    words
+}
+
+/// A set of layouts that keeps the rules and meets the demands.
+pub fn random_set(random: &mut Random, job: &Job) -> Vec<Board> {
+    let mut missing = Missing::of(job);
+    let mut set = Vec::new();
+    while !missing.is_none() || random.once_in(6) {
+        let mut board = vec![vec![vec![missing.pick(random)]]];
+        for _ in 0..random.below(12) {
+            let mut grown = board.clone();
+            grow(random, &mut grown, missing.pick(random));
+            if keeps_rules(job, &grown) {
+                board = grown;
+            }
+        }
+        for &item in board.iter().flatten().flatten() {
+            missing.take(item);
+        }
+        set.push(board);
+    }
+    set
+}
+
+/// Puts an item into a stack, or as a stack into a strip, or as a strip on the board.
+pub fn grow(random: &mut Random, board: &mut Board, item: u16) {
+    let which = random.below(board.len());
+    let strip = &mut board[which];
+    match random.below(3) {
+        0 => {
+            let which = random.below(strip.len());
+            let stack = &mut strip[which];
+            stack.insert(random.below(stack.len() + 1), item);
+        }
+        1 => strip.insert(random.below(strip.len() + 1), vec![item]),
+        _ => board.insert(random.below(board.len() + 1), vec![vec![item]]),
+    }
+}
+
+/// The layout words of a set.
+pub fn words_of_set(job: &Job, set: &[Board]) -> Vec<u16> {
+    let placed = placements(job, set);
+    placed.iter().flat_map(Placement::words).collect()
+}
