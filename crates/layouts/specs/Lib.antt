@@ -9,3 +9,4 @@ pub mod Fold
 pub mod UnfoldCall
 pub mod FoldCall
 pub mod Demand3
+pub mod Rules

@@ -1,0 +1,96 @@
+-- Document 01, "Layouts and folding", first paragraph, and "The words of demand 3", in plain statements: what the tests `boardRules`,
+-- `meetsDemands`, `inside` and `noOverlap` decide.
+-- Assumes nothing.
+use Prim.Native.Nat.{ℕ, _+_, _≤_, _<_}
+use mathlib.Core.Path.{_≡_}
+use mathlib.Core.Logic.{_⊎_}
+use mathlib.Core.Bool.{true, false}
+use mathlib.Core.List.{List, [], _∷_}
+use lib.ListN.{length, getD}
+use Rattle.job.specs.Lists.{occurs}
+use Rattle.job.specs.Mode.{three, exact}
+use Rattle.job.specs.Job.{Job, itemAt}
+use Rattle.layouts.specs.Layout.{Stack, Strip, Board, widthOf, heightOf, stackHeight, stripHeight, stripWidth, boardHeight}
+use Rattle.layouts.specs.Placement.{turn, Placement, itemsOfStrip, itemsOfSet}
+
+module _ {A : Type 0} where
+  -- every element, some element
+  abbrev pub Every : (A → Type 0) → List A → Type 0
+  Every P [] = Unit {0}
+  Every P (a ∷ as′) = P a × Every P as′
+
+  abbrev pub Some : (A → Type 0) → List A → Type 0
+  Some P [] = ⊥
+  Some P (a ∷ as′) = P a ⊎ Some P as′
+
+  -- not empty
+  abbrev pub Filled : List A → Type 0
+  Filled [] = ⊥
+  Filled (a ∷ as′) = Unit {0}
+
+  -- any two have the same value of f
+  abbrev pub Alike : (A → ℕ) → List A → Type 0
+  Alike f l = Every (λ a. Every (λ b. f a ≡ f b) l) l
+
+-- a stack that is one item
+abbrev pub Single : Stack → Type 0
+Single s = length s ≡ 1
+
+-- an item type of the job, "1 to n"
+abbrev pub OfJob : Job → ℕ → Type 0
+OfJob job i = (1 ≤ i) × (i ≤ length (job .items))
+
+-- the stage rule of a strip, by the mode
+pub record Staged (job : Job) (s : Strip) : Type 0 where
+  -- "two-stage: each stack is one item; in 2E all items of a strip are equally high"
+  pub single : three (job .mode) ≡ false → Every Single s
+  pub level : three (job .mode) ≡ false → exact (job .mode) ≡ true → Alike (heightOf job) (itemsOfStrip s)
+  -- "three-stage: some stack of each strip is a single item of the strip's height; in 3E all items of a stack are equally wide"
+  pub full : three (job .mode) ≡ true → Some (λ k. Single k × (stackHeight job k ≡ stripHeight job s)) s
+  pub even : three (job .mode) ≡ true → exact (job .mode) ≡ true → Every (Alike (widthOf job)) s
+
+-- a strip that keeps the rules: nothing in it is empty, its items are of the job, and "stack widths of a strip add up to at most W"
+pub record StripOk (job : Job) (s : Strip) : Type 0 where
+  pub filled : Filled s
+  pub stacks : Every Filled s
+  pub types : Every (Every (OfJob job)) s
+  pub staged : Staged job s
+  pub across : stripWidth job s ≤ job .width
+
+-- a board that keeps the rules: "strip heights [add up] to at most H"
+pub record BoardOk (job : Job) (b : Board) : Type 0 where
+  pub filled : Filled b
+  pub strips : Every (StripOk job) b
+  pub up : boardHeight job b ≤ job .height
+
+-- a set of layouts that keeps the rules
+abbrev pub SetOk : Job → List Board → Type 0
+SetOk job bs = Every (BoardOk job) bs
+
+-- "it meets the demands if each type lies in it at least as often as demanded"
+abbrev pub Demanded : Job → List Board → Type 0
+Demanded job bs = (i : ℕ) → 1 ≤ i → i ≤ length (job .items) → itemAt job i .demand ≤ occurs i (itemsOfSet bs)
+
+-- "that is inside its board if x+wi and y+hi are at most the board's width and height"
+abbrev pub Inside : Job → Placement → Type 0
+Inside job p = (p .x + widthOf job (p .item) ≤ job .width) × (p .y + heightOf job (p .item) ≤ job .height)
+
+-- "two on one board do not overlap if one ends where or before the other begins, across or upwards"
+abbrev pub Apart : Job → Placement → Placement → Type 0
+Apart job p q =
+    (p .x + widthOf job (p .item) ≤ q .x)
+    ⊎ ((q .x + widthOf job (q .item) ≤ p .x)
+    ⊎ ((p .y + heightOf job (p .item) ≤ q .y) ⊎ (q .y + heightOf job (q .item) ≤ p .y)))
+
+-- what stands for a place that a list has not
+abbrev pub noPlacement : Placement
+noPlacement = record { turn = turn 0 0 0 0; item = 0; x = 0; y = 0 }
+
+-- any two placements of one board do not overlap; j and k are their places in the list, from 0
+abbrev pub NoneOverlap : Job → List Placement → Type 0
+NoneOverlap job ps =
+    (j k : ℕ)
+    → j < k
+    → k < length ps
+    → getD ps j noPlacement .turn .board ≡ getD ps k noPlacement .turn .board
+    → Apart job (getD ps j noPlacement) (getD ps k noPlacement)

@@ -1,0 +1,158 @@
+-- Document 01, "Plan": what the plan test says in plain statements, both ways, and that words past the last cut play no part in it.
+-- Assumes nothing.
+use Prim.Native.Nat.{ℕ, zero, suc, _+_, _-_, _≤_, _<_}
+use native.Mathlib.Omega.{arith}
+use native.Mathlib.Nat.{add-zero, zero-add, suc-add}
+use mathlib.Core.Path.{_≡_, refl, sym, _∙_, ap}
+use mathlib.Core.Logic.{_↔_, _⊎_, inl, inr}
+use mathlib.Core.Bool.{Bool, true, false, not}
+use mathlib.Core.List.{List, [], _∷_}
+use lib.Dec.{ltb, eqb}
+use lib.ListN.{length, getD, take, drop, length-drop, List·getD-eq-default}
+use lib.Seq.{getD-drop}
+use borrow.Author.Tests.{ltb-false, le-ltb, eqb-true, eq-eqb, not-false}
+use Rattle.job.specs.Lists.{sumOf}
+use Rattle.job.specs.Verdict.{Verdict, pass, _then_, refuseIf, lowest}
+use Rattle.job.specs.Job.{Job, itemAt, noItem, maxPieces}
+use Rattle.listing.specs.Plate.{waste}
+use Rattle.listing.specs.Listing.{Cut, Listing}
+use Rattle.plan.specs.Plan.{countOf, ofItem, onPlate, leavesPlate, boards, total, short, overdrawn, countsRow, planRow}
+use Rattle.plan.proofs.CountBasics.{then-pass, refuseIf-pass, lowest-pass, le-or-lt}
+
+-- an accepted plan: its counts come to at most 4,000, each item type's counts reach its demand, and the counts on each residual type are at
+-- most the counts of cuts that leave it
+pub record Accepted (job : Job) (l : Listing) (ns : List ℕ) : Type 0 where
+  pub few : total ns ≤ maxPieces
+  pub met : (i : ℕ) → 1 ≤ i → i ≤ length (job .items) → itemAt job i .demand ≤ countOf (ofItem i) (l .cuts) ns
+  pub covered : (j : ℕ) → 1 ≤ j → j < length (l .plates) → countOf (onPlate j) (l .cuts) ns ≤ countOf (leavesPlate j) (l .cuts) ns
+
+-- every word past the last cut is 0
+abbrev pub NonePast : Listing → List ℕ → Type 0
+NonePast l ns = (c : ℕ) → length (l .cuts) ≤ c → getD ns c 0 ≡ 0
+
+one-more : (i : ℕ) → 1 + i ≡ suc i
+one-more i = omega arith
+
+module _ (job : Job) (l : Listing) (ns : List ℕ) where
+  met-to : ((i : ℕ) → i < length (job .items) → short l ns (1 + i) (getD (job .items) i noItem) ≡ false) → (i : ℕ) → 1 ≤ i → i ≤ length (job .items) → itemAt job i .demand ≤ countOf (ofItem i) (l .cuts) ns
+  unfolding short itemAt
+  met-to h zero p q = absurd (omega arith)
+  met-to h (suc i) p q = ltb-false _ _ (rw (one-more i) at (h i (omega arith)))
+
+  met-from : ((i : ℕ) → 1 ≤ i → i ≤ length (job .items) → itemAt job i .demand ≤ countOf (ofItem i) (l .cuts) ns) → (i : ℕ) → i < length (job .items) → short l ns (1 + i) (getD (job .items) i noItem) ≡ false
+  unfolding short itemAt
+  met-from h i p = rw (one-more i) (le-ltb _ _ (h (suc i) (omega arith) (omega arith)))
+
+  covered-to : ((j : ℕ) → j < length (drop 1 (l .plates)) → overdrawn l ns (1 + j) (getD (drop 1 (l .plates)) j waste) ≡ false) → (j : ℕ) → 1 ≤ j → j < length (l .plates) → countOf (onPlate j) (l .cuts) ns ≤ countOf (leavesPlate j) (l .cuts) ns
+  unfolding overdrawn
+  covered-to h zero p q = absurd (omega arith)
+  covered-to h (suc j) p q = ltb-false _ _ (rw (one-more j) at (h j (omega (arith, length-drop 1 (l .plates)))))
+
+  covered-from : ((j : ℕ) → 1 ≤ j → j < length (l .plates) → countOf (onPlate j) (l .cuts) ns ≤ countOf (leavesPlate j) (l .cuts) ns) → (j : ℕ) → j < length (drop 1 (l .plates)) → overdrawn l ns (1 + j) (getD (drop 1 (l .plates)) j waste) ≡ false
+  unfolding overdrawn
+  covered-from h j p =
+      rw (one-more j) (le-ltb _ _ (h (suc j) (omega arith) (omega (arith, length-drop 1 (l .plates)))))
+
+  -- the plan row passes exactly where the plan is accepted
+  pub plan-exact : (planRow job l ns ≡ pass) ↔ Accepted job l ns
+  unfolding planRow
+  plan-exact = (to, from)
+    where
+      types : Verdict
+      types = lowest 11 (short l ns) 1 (job .items)
+
+      residuals : Verdict
+      residuals = lowest 12 (overdrawn l ns) 1 (drop 1 (l .plates))
+
+      to : planRow job l ns ≡ pass → Accepted job l ns
+      to h =
+          let a = then-pass (refuseIf (ltb maxPieces (total ns)) 10 0) (types then residuals) .0 h in
+          let b = then-pass types residuals .0 (a .1) in
+          record {
+            few = ltb-false maxPieces (total ns) (refuseIf-pass (ltb maxPieces (total ns)) 10 0 .0 (a .0));
+            met = met-to (lowest-pass 11 (short l ns) noItem 1 (job .items) .0 (b .0));
+            covered = covered-to (lowest-pass 12 (overdrawn l ns) waste 1 (drop 1 (l .plates)) .0 (b .1));
+          }
+
+      from : Accepted job l ns → planRow job l ns ≡ pass
+      from a =
+          then-pass (refuseIf (ltb maxPieces (total ns)) 10 0) (types then residuals) .1 (
+            refuseIf-pass (ltb maxPieces (total ns)) 10 0 .1 (le-ltb maxPieces (total ns) (a .few)),
+            then-pass types residuals .1 (
+              lowest-pass 11 (short l ns) noItem 1 (job .items) .1 (met-from (a .met)),
+              lowest-pass 12 (overdrawn l ns) waste 1 (drop 1 (l .plates)) .1 (covered-from (a .covered)),
+            ),
+          )
+
+-- the counts row passes exactly where every word past the last cut is 0
+pub counts-exact : (l : Listing) (ns : List ℕ) → (countsRow l ns ≡ pass) ↔ NonePast l ns
+unfolding countsRow
+counts-exact l ns = (to, from)
+  where
+    n : ℕ
+    n = length (l .cuts)
+
+    to : countsRow l ns ≡ pass → NonePast l ns
+    to h c p = go (le-or-lt (length ns) c)
+      where
+        go : (length ns ≤ c) ⊎ (c < length ns) → getD ns c 0 ≡ 0
+        go (inl q) = List·getD-eq-default ns 0 q
+        go (inr q) =
+            let e : n + (c - n) ≡ c = omega arith in
+            let z = lowest-pass 8 (λ _ m. not (eqb m 0)) 0 (suc n) (drop n ns) .0 h (c - n) (omega (arith, length-drop n ns)) in
+            rw e at (rw getD-drop at (eqb-true (getD (drop n ns) (c - n) 0) 0 (not-false (eqb (getD (drop n ns) (c - n) 0) 0) z)))
+
+    from : NonePast l ns → countsRow l ns ≡ pass
+    from h =
+        lowest-pass 8 (λ _ m. not (eqb m 0)) 0 (suc n) (drop n ns) .1
+        (λ i p. ap not (eq-eqb (getD (drop n ns) i 0) 0 (rw getD-drop (h (n + i) (omega arith)))))
+
+-- counts of cuts are the same without the words past the last cut
+pub countOf-take : (test : Cut → Bool) (cs : List Cut) (ns : List ℕ) → countOf test cs (take (length cs) ns) ≡ countOf test cs ns
+unfolding countOf
+countOf-take test [] ns = refl
+countOf-take test (c ∷ cs) [] = refl
+countOf-take test (c ∷ cs) (n ∷ ns) = omega (arith, countOf-take test cs ns)
+
+total-none : (ns : List ℕ) → ((c : ℕ) → getD ns c 0 ≡ 0) → total ns ≡ 0
+unfolding total sumOf
+total-none [] h = refl
+total-none (n ∷ ns) h = omega (arith, h 0, total-none ns (λ c. h (suc c)))
+
+-- the total is the same without words that are 0
+pub total-take : (n : ℕ) (ns : List ℕ) → ((c : ℕ) → n ≤ c → getD ns c 0 ≡ 0) → total (take n ns) ≡ total ns
+unfolding total sumOf
+total-take zero ns h = sym (total-none ns (λ c. h c (omega arith)))
+total-take (suc n) [] h = refl
+total-take (suc n) (m ∷ ns) h = omega (arith, total-take n ns (λ c p. h (suc c) (omega arith)))
+
+-- a plan is accepted, and opens the boards that it opens, whether or not words that are 0 stand past its last cut
+module _ (job : Job) (l : Listing) (ns : List ℕ) (none : NonePast l ns) where
+  pub accepted-take : Accepted job l ns ↔ Accepted job l (take (length (l .cuts)) ns)
+  accepted-take = (to, from)
+    where
+      cs : List Cut
+      cs = l .cuts
+
+      same : (test : Cut → Bool) → countOf test cs (take (length cs) ns) ≡ countOf test cs ns
+      same test = countOf-take test cs ns
+
+      to : Accepted job l ns → Accepted job l (take (length cs) ns)
+      to a =
+          record {
+            few = omega (arith, a .few, total-take (length cs) ns none);
+            met = λ i p q. omega (arith, a .met i p q, same (ofItem i));
+            covered = λ j p q. omega (arith, a .covered j p q, same (onPlate j), same (leavesPlate j));
+          }
+
+      from : Accepted job l (take (length cs) ns) → Accepted job l ns
+      from a =
+          record {
+            few = omega (arith, a .few, total-take (length cs) ns none);
+            met = λ i p q. omega (arith, a .met i p q, same (ofItem i));
+            covered = λ j p q. omega (arith, a .covered j p q, same (onPlate j), same (leavesPlate j));
+          }
+
+  pub boards-take : boards l (take (length (l .cuts)) ns) ≡ boards l ns
+  unfolding boards
+  boards-take = countOf-take (onPlate 0) (l .cuts) ns

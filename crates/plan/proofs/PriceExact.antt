@@ -1,0 +1,64 @@
+-- Document 01, "Prices": what the price test and "fewest" say in plain statements, both ways.
+-- Assumes nothing.
+use Prim.Native.Nat.{ℕ, zero, suc, _+_, _*_, _-_, _≤_, _<_}
+use native.Mathlib.Omega.{arith}
+use mathlib.Core.Path.{_≡_, refl, sym, ap}
+use mathlib.Core.Logic.{_↔_}
+use mathlib.Core.Bool.{true, false}
+use mathlib.Core.List.{List, [], _∷_}
+use lib.ListN.{length, getD}
+use borrow.Author.Tests.{ltb-true, ltb-false, lt-ltb, le-ltb}
+use Rattle.job.specs.Verdict.{pass}
+use Rattle.job.specs.Job.{Job}
+use Rattle.listing.specs.Listing.{Cut, Listing, cutAt, noCut}
+use Rattle.plan.specs.Prices.{Prices, itemPrice, residualPrice, priceLimit, worth, overLimit, pricesRow, priceSum, fewest}
+use Rattle.plan.proofs.CountBasics.{lowest-pass}
+
+-- what the item and the kept residuals of a cut cost
+abbrev pub costs : Prices → Cut → ℕ
+costs ps c = itemPrice ps (c .item) + residualPrice ps (c .top) + residualPrice ps (c .right)
+
+-- accepted prices: a cut on type 0 costs at most D, a cut on a residual type at most the price of that type
+pub record Priced (l : Listing) (ps : Prices) : Type 0 where
+  pub on-board : (c : ℕ) → c < length (l .cuts) → cutAt l (suc c) .plate ≡ 0 → costs ps (cutAt l (suc c)) ≤ ps .denominator
+  pub on-residual : (c : ℕ) → c < length (l .cuts) → 0 < cutAt l (suc c) .plate → costs ps (cutAt l (suc c)) ≤ residualPrice ps (cutAt l (suc c) .plate)
+
+-- the limit of a cut on type 0, and of a cut on a residual type
+pub limit-board : (ps : Prices) (j : ℕ) → j ≡ 0 → priceLimit ps j ≡ ps .denominator
+unfolding priceLimit
+limit-board ps zero e = refl
+limit-board ps (suc j) e = absurd (omega arith)
+
+pub limit-residual : (ps : Prices) (j : ℕ) → 0 < j → priceLimit ps j ≡ residualPrice ps j
+unfolding priceLimit
+limit-residual ps zero p = absurd (omega arith)
+limit-residual ps (suc j) p = refl
+
+module _ (l : Listing) (ps : Prices) where
+  -- the prices row passes exactly where the prices are accepted
+  pub prices-exact : (pricesRow l ps ≡ pass) ↔ Priced l ps
+  unfolding pricesRow overLimit worth cutAt
+  prices-exact = (to, from)
+    where
+      to : pricesRow l ps ≡ pass → Priced l ps
+      to h =
+          let within : (c : ℕ) → c < length (l .cuts) → costs ps (cutAt l (suc c)) ≤ priceLimit ps (cutAt l (suc c) .plate)
+          = λ c p. ltb-false _ _ (lowest-pass 14 (λ _ c. overLimit ps c) noCut 1 (l .cuts) .0 h c p) in
+          record {
+            on-board = λ c p e. omega (arith, within c p, limit-board ps (cutAt l (suc c) .plate) e);
+            on-residual = λ c p q. omega (arith, within c p, limit-residual ps (cutAt l (suc c) .plate) q);
+          }
+
+      from : Priced l ps → pricesRow l ps ≡ pass
+      from a =
+          lowest-pass 14 (λ _ c. overLimit ps c) noCut 1 (l .cuts) .1
+          (λ c p. le-ltb _ _ (at c p (cutAt l (suc c) .plate) refl))
+        where
+          at : (c : ℕ) → c < length (l .cuts) → (j : ℕ) → cutAt l (suc c) .plate ≡ j → costs ps (cutAt l (suc c)) ≤ priceLimit ps (cutAt l (suc c) .plate)
+          at c p zero e = omega (arith, a .on-board c p e, limit-board ps (cutAt l (suc c) .plate) e)
+          at c p (suc j) e = omega (arith, a .on-residual c p (omega arith), limit-residual ps (cutAt l (suc c) .plate) (omega arith))
+
+-- "fewest" says that one board less would come to less than the sum of price times demand, nothing rounded
+pub fewest-exact : (job : Job) (ps : Prices) (n : ℕ) → (fewest job ps n ≡ true) ↔ ((n - 1) * ps .denominator < priceSum job ps)
+unfolding fewest
+fewest-exact job ps n = (ltb-true _ _, lt-ltb _ _)
