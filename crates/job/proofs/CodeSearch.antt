@@ -4,9 +4,10 @@ use mathlib.Core.Path.{_≡_, sym, _∙_}
 use Prim.Native.Nat.{ℕ, _+_, _-_, _≤_, _<_}
 use mathlib.Core.Bool.{Bool, true, false}
 use native.Mathlib.Numerals.{add-one}
+use native.Mathlib.Omega.{arith}
 use lib.ListN.{length, drop}
 use Rattle.job.specs.declared.item.Item.{Item}
-use Rattle.job.specs.Lists.{any}
+use Rattle.job.specs.Lists.{any, sumOf}
 use Rattle.job.specs.Verdict.{Verdict, pass, refuse, lowest}
 use Rattle.job.specs.Job.{Job, itemAt}
 use Rattle.job.proofs.CodeItems.{items-from, items-end}
@@ -40,3 +41,13 @@ module _ (job : Job) (number : ℕ) (bad : ℕ → Item → Bool) (i : ℕ) {who
     pub lowest-next : bad i (itemAt job i) ≡ false → whole ≡ lowest number bad (i + 1) (drop (i + 1 - 1) (job .items))
     unfolding lowest
     lowest-next t = w ∙ rw (items-from job i h l, t, lowest, add-one)
+
+-- a sum over all item types: what has been added up, and the rest
+module _ (job : Job) (f : Item → ℕ) (i sum : ℕ) {whole : ℕ} (w : whole ≡ sum + sumOf f (drop (i - 1) (job .items))) where
+  pub sum-end : length (job .items) < i → sum ≡ whole
+  unfolding sumOf
+  sum-end h = let e : whole ≡ sum + 0 = w ∙ rw (items-end job i h) in omega arith
+
+  pub sum-next : {x : Item} → x ≡ itemAt job i → 1 ≤ i → i ≤ length (job .items) → whole ≡ sum + f x + sumOf f (drop (i + 1 - 1) (job .items))
+  unfolding sumOf
+  sum-next e h l = w ∙ rw (items-from job i h l, e) (omega arith)

@@ -8,3 +8,5 @@ pub mod Verdicts
 pub mod Buffers
 pub mod ItemWords
 pub mod Admission
+pub mod CodeTests
+pub mod CodeAdmission

@@ -6,3 +6,4 @@ pub mod Mode
 pub mod Job
 pub mod JobWords
 pub mod Admitted
+pub mod Admission

@@ -35,6 +35,11 @@ module _ {A : Type 0} where
   sumOf-append f [] bs = omega arith
   sumOf-append f (a ∷ as′) bs = omega (arith, sumOf-append f as′ bs)
 
+  pub length-sum : (as′ : List A) → sumOf (λ _. 1) as′ ≡ length as′
+  unfolding sumOf
+  length-sum [] = refl
+  length-sum (a ∷ as′) = omega (arith, length-sum as′)
+
   -- no element has a value above the greatest
   pub le-maxOf : (f : A → ℕ) (as′ : List A) (d : A) (i : ℕ) → i < length as′ → f (getD as′ i d) ≤ maxOf f as′
   unfolding maxOf

@@ -26,3 +26,9 @@ pub mod Machine
 pub mod MachineItems
 pub mod MachineEnds
 pub mod MachineLines
+pub mod TreeItems
+pub mod Tally
+pub mod FoldCuts
+pub mod FoldCounts
+pub mod Back
+pub mod Bound

@@ -16,7 +16,7 @@ use Rattle.plan.proofs.PlanExact.{Accepted, NonePast}
 use Rattle.layouts.specs.Layout.{widthOf, heightOf}
 use Rattle.layouts.specs.Placement.{Turn, turn, Placement}
 use Rattle.layouts.specs.Unfold.{State, spent, nothingWaits, openBoard, Run, run, stepsFor, unfolded}
-use Rattle.layouts.proofs.CountBasics.{bit, bit-same}
+use Rattle.layouts.proofs.CountBasics.{bit, bit-same, length-sum}
 use Rattle.layouts.proofs.Tree.{Tree, leaf, node, tsum, fsum}
 use Rattle.layouts.proofs.Pattern.{branchOf, restOf}
 use Rattle.layouts.proofs.Sums.{wsum, weight, total-wsum, countOf-wsum}
@@ -25,18 +25,13 @@ use Rattle.layouts.proofs.Cuts.{IsCut, plateOf}
 use Rattle.layouts.proofs.Stages.{branch-stage-1, rest-stage-1}
 use Rattle.layouts.proofs.Balance.{Roots, boards-set}
 use Rattle.layouts.proofs.CutTree.{itemTree}
+use Rattle.layouts.proofs.TreeItems.{roots-items}
 use Rattle.layouts.proofs.Search.{onSum, found-cut, spent-sum, spent-past, not-found}
 use Rattle.layouts.proofs.Greedy.{pick, Grow, Grows, ended, opened, grow-past, grows, grows-past, grows-ended, grows-ok}
 use Rattle.layouts.proofs.GreedyEnds.{all-spent, done-sum, done-each}
 use Rattle.layouts.proofs.MachineSteps.{state, slot, before, stays, Leads, no-step, _and-then_, more-steps, step-open, step-ends, none-waits}
 use Rattle.layouts.proofs.Machine.{emitSet, place-1, reach-1, reach-2}
-use Rattle.layouts.proofs.MachineItems.{placed-sum}
-
-module _ {A : Type 0} where
-  length-sum : (as′ : List A) → sumOf (λ _. 1) as′ ≡ length as′
-  unfolding sumOf
-  length-sum [] = refl
-  length-sum (a ∷ as′) = omega (arith, length-sum as′)
+use Rattle.layouts.proofs.MachineItems.{placed-items}
 
 -- the boards that are left to open: none exactly where the search finds no cut on type 0
 boards-left : (l : Listing) (ns : List ℕ) (c : ℕ) → NonePast l ns → pick l 0 ns ≡ some c → 0 < boards l ns
@@ -112,7 +107,7 @@ module _ (job : Job) (l : Listing) (m : Model job l) (sided : Sided job) where
         let ok : Roots l ts = grows-ok l g in
         let sum : (f : ℕ → ℕ) → fsum f ts ≡ wsum f 1 ns = done-sum job l m sided ns ns′ ts g past a in
         let of : (f : ℕ → ℕ) → sumOf (λ p. f (p .item)) rs ≡ wsum (λ c. f (cutAt l c .item)) 1 ns
-        = λ f. placed-sum f job l m sided ts ok 1 ∙ sum (λ c. f (cutAt l c .item)) in
+        = λ f. placed-items f job l 1 ts ∙ roots-items f job l m sided ts ok ∙ sum (λ c. f (cutAt l c .item)) in
         let stop : (fuel : ℕ) → run fuel job l st ≡ stays st
         = step-ends job l st (none-waits job l (turn bd′ s′ k′ p′) ns′) (none-to-open l ns′ (grows-past l g past) (grows-ended l g)) in (
           record { placements = rs; last = st },

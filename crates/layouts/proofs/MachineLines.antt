@@ -14,13 +14,14 @@ use Rattle.listing.specs.declared.plate.Plate.{Plate}
 use Rattle.listing.specs.Plate.{board, leaves}
 use Rattle.listing.specs.Listing.{Listing}
 use Rattle.listing.specs.Model.{Model}
-use Rattle.layouts.specs.Layout.{Board, widthOf, heightOf, stackWidth, stripHeight}
+use Rattle.layouts.specs.Layout.{widthOf, heightOf, stackWidth, stripHeight}
 use Rattle.layouts.specs.Placement.{turn, Placement, stackLines, stripLines, boardLines, setLines, linesOf}
 use Rattle.layouts.proofs.Tree.{Tree, leaf, node}
 use Rattle.layouts.proofs.Pattern.{Fits, branch, rest, Pattern, stackOf, stripOf, boardOf}
 use Rattle.layouts.proofs.Leaves.{stages-1, stages-2}
 use Rattle.layouts.proofs.Balance.{Roots}
 use Rattle.layouts.proofs.CutTree.{itemTree, root-pattern}
+use Rattle.layouts.proofs.TreeItems.{layoutOf}
 use Rattle.layouts.proofs.MachineSteps.{placement}
 use Rattle.layouts.proofs.Machine.{emitStrip, emitBoard, emitSet}
 
@@ -28,10 +29,6 @@ use Rattle.layouts.proofs.Machine.{emitStrip, emitBoard, emitSet}
 pub record FirstLargest (job : Job) : Type 0 where
   pub wide : (p : Plate) → p .stage ≡ 2 → (i : ℕ) (a b : Tree) → Pattern job p (node i a b) → stackWidth job (i ∷ stackOf a) ≡ widthOf job i
   pub high : (p : Plate) → p .stage ≡ 1 → (i : ℕ) (a b : Tree) → Pattern job p (node i a b) → stripHeight job ((i ∷ []) ∷ stripOf a) ≡ heightOf job i
-
--- the layout of a tree of cuts
-abbrev pub layoutOf : Listing → Tree → Board
-layoutOf l t = boardOf (itemTree l t)
 
 single-wide : (job : Job) (i : ℕ) → stackWidth job (i ∷ []) ≡ widthOf job i
 unfolding stackWidth maxOf

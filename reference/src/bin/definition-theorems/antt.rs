@@ -59,6 +59,23 @@ pub fn bytes(text: &[u8]) -> String {
     }
 }
 
+/// The first lines of a file of theorems.
+pub const HEAD: &str = "\
+-- Inputs and the reference's answers to them: the definitions compute to the same.
+-- Assumes nothing.
+use Prim.Native.Nat.{ℕ}
+use mathlib.Core.Path.{_≡_, refl}
+use mathlib.Core.Bool.{true, false}
+use mathlib.Core.List.{List, [], _∷_, _++_}
+use lib.ListN.{replicate}
+use Rattle.job.specs.Buffers.{given, refused}
+use Rattle.texts.specs.SawText.{sawText}
+use Rattle.texts.specs.FoldText.{foldText}
+use Rattle.cases.specs.Bytes.{bytes}
+use Rattle.cases.proofs.Opened.{computed}
+use Rattle.agreement.specs.Compared.{outcome, listCall, planCall, priceCall, unfoldCall, foldCall, walkCall, judgement, judged, rules, rectangles, isFewest}
+";
+
 /// What is compared: a definition on its arguments, and the reference's answer to the same.
 pub struct Equation {
     pub definition: &'static str,
@@ -68,13 +85,13 @@ pub struct Equation {
 
 impl Equation {
     /// The theorem that both sides are equal, by computation.
-    pub fn theorem(&self, name: &str, comment: &str) -> String {
+    pub fn theorem(&self, name: &str) -> String {
         let definition = self.definition;
         let arguments = self.arguments.join("\n    ");
         let answer = self.answer.join("\n      ");
         format!(
-            "-- {comment}\npub {name} :\n    {definition}\n    {arguments}\n    ≡ {answer}\n\
-             unfolding computed opened {definition}\n{name} = refl\n"
+            "pub {name} :\n    {definition}\n    {arguments}\n    ≡ {answer}\n\
+             unfolding computed bytes {definition}\n{name} = refl\n"
         )
     }
 }

@@ -163,16 +163,17 @@ pub fn random_set(random: &mut Random, job: &Job) -> Vec<Board> {
     let mut missing = Missing::of(job);
     let mut set = Vec::new();
     while !missing.is_none() || random.once_in(6) {
-        let mut board = vec![vec![vec![missing.pick(random)]]];
+        let item = missing.pick(random);
+        missing.take(item);
+        let mut board = vec![vec![vec![item]]];
         for _ in 0..random.below(12) {
+            let item = missing.pick(random);
             let mut grown = board.clone();
-            grow(random, &mut grown, missing.pick(random));
+            grow(random, &mut grown, item);
             if keeps_rules(job, &grown) {
                 board = grown;
+                missing.take(item);
             }
-        }
-        for &item in board.iter().flatten().flatten() {
-            missing.take(item);
         }
         set.push(board);
     }

@@ -1,0 +1,110 @@
+-- The checks of a job in their order, on plain values: what each test that held or failed leaves of the verdict; and what words that passed are.
+-- Assumes nothing.
+use mathlib.Core.Path.{_≡_, refl, sym, _∙_}
+use mathlib.Core.Bool.{Bool, true, false, not, _&&_}
+use mathlib.Core.List.{List}
+use Prim.Native.Nat.{ℕ, _+_, _*_, _≤_, _<_}
+use native.Mathlib.Omega.{arith}
+use borrow.Author.Tests.{eq-eqb, ne-eqb, eqb-true, lt-ltb, le-ltb, leb-true, not-false}
+use lib.Dec.{leb, eqb}
+use lib.ListN.{length, getD}
+use Rattle.job.specs.declared.mode.Mode.{Mode}
+use Rattle.job.specs.Verdict.{Verdict, pass, refuse, _then_, refuseIf, lowest, within}
+use Rattle.job.specs.Job.{Job, maxTypes, maxPieces, side, jobOf, boardRight, itemRight, jobWords, larger, demanded, admission}
+use Rattle.job.specs.JobWords.{JobWords}
+
+-- a refusal is no pass
+pub refused-not : {number place : ℕ} → refuse number place ≡ pass → ⊥
+refused-not e = let z : _≡_ {A = ℕ} 0 1 = cc in omega arith
+
+-- a check that passes found nothing
+if-pass : (b : Bool) (number place : ℕ) → refuseIf b number place ≡ pass → b ≡ false
+if-pass true number place e = absurd (refused-not e)
+if-pass false number place e = refl
+
+-- two checks in turn pass only if both do
+pub then-pass : (v w : Verdict) → (v then w) ≡ pass → (v ≡ pass) × (w ≡ pass)
+then-pass pass w e = (refl, e)
+then-pass (refuse number place) w e = absurd (refused-not e)
+
+-- the last of several tests that all hold
+last-test : (a b : Bool) → (a && b) ≡ true → b ≡ true
+last-test true b e = e
+last-test false true e = refl
+last-test false false e = e
+
+-- a board whose words are right has at most 40 types
+pub board-few : (ws : List ℕ) → boardRight ws ≡ true → getD ws 4 0 ≤ maxTypes
+unfolding boardRight
+board-few ws b =
+    leb-true _ _
+    (last-test (leb 1 (getD ws 4 0)) _
+    (last-test (within 2 3 (getD ws 0 0) && within 0 1 (getD ws 1 0) && side (getD ws 2 0) && side (getD ws 3 0)) (within 1 maxTypes (getD ws 4 0)) b))
+
+-- the three checks of a job's words
+abbrev length-check : List ℕ → Verdict
+length-check ws = refuseIf (not (eqb (length ws) (5 + 3 * getD ws 4 0))) 1 0
+
+abbrev board-check : List ℕ → Verdict
+board-check ws = refuseIf (not (boardRight ws)) 2 0
+
+abbrev types-check : List ℕ → Verdict
+types-check ws = lowest 2 (λ _ it. not (itemRight it)) 1 (jobOf ws .items)
+
+module _ (ws : List ℕ) where
+  -- another length is 1
+  pub other-length : (length ws ≡ 5 + 3 * getD ws 4 0 → ⊥) → refuse 1 0 ≡ jobWords ws
+  unfolding jobWords
+  other-length h = rw (ne-eqb _ _ h)
+
+  module _ (l : length ws ≡ 5 + 3 * getD ws 4 0) where
+    -- a word of the board outside its limits is 2
+    pub board-wrong : boardRight ws ≡ false → refuse 2 0 ≡ jobWords ws
+    unfolding jobWords
+    board-wrong b = rw (eq-eqb _ _ l, b)
+
+    -- else the item types decide
+    pub by-types : {v : Verdict} → boardRight ws ≡ true → v ≡ types-check ws → v ≡ jobWords ws
+    unfolding jobWords
+    by-types b e = rw (eq-eqb _ _ l, b) e
+
+-- the first check of an admission
+abbrev size-check : Job → Verdict
+size-check job = lowest 3 (λ _ it. larger job it) 1 (job .items)
+
+module _ (job : Job) where
+  -- an item larger than the board is 3
+  pub too-large : {v : Verdict} (number place : ℕ) → v ≡ size-check job → v ≡ refuse number place → v ≡ admission job
+  unfolding admission
+  too-large number place e r = let f : size-check job ≡ refuse number place = sym e ∙ r in r ∙ rw f
+
+  module _ (f : pass ≡ size-check job) (sum : ℕ) (s : sum ≡ demanded job) where
+    -- demands above 4,000 are 4
+    pub too-many : maxPieces < sum → refuse 4 0 ≡ admission job
+    unfolding admission
+    too-many h = rw (← f, ← s, lt-ltb _ _ h)
+
+    -- else the job is admitted
+    pub admitted : sum ≤ maxPieces → pass ≡ admission job
+    unfolding admission
+    admitted h = rw (← f, ← s, le-ltb _ _ h)
+
+-- words that passed: their length, and at most 40 types
+module _ (ws : List ℕ) (e : jobWords ws ≡ pass) where
+  pub passed-length : length ws ≡ 5 + 3 * getD ws 4 0
+  unfolding jobWords
+  passed-length =
+      eqb-true _ _ (not-false _ (if-pass (not (eqb (length ws) (5 + 3 * getD ws 4 0))) 1 0 (then-pass (length-check ws) (board-check ws then types-check ws) e .0)))
+
+  passed-board : boardRight ws ≡ true
+  unfolding jobWords
+  passed-board =
+      let d : (board-check ws then types-check ws) ≡ pass = then-pass (length-check ws) (board-check ws then types-check ws) e .1 in
+      not-false _ (if-pass (not (boardRight ws)) 2 0 (then-pass (board-check ws) (types-check ws) d .0))
+
+  pub passed-few : getD ws 4 0 ≤ maxTypes
+  passed-few = board-few ws passed-board
+
+  -- what the code knows of them, with the mode and the number of types read from the words
+  pub passed-words : {mode : Mode} → mode ≡ jobOf ws .mode → JobWords ws mode (getD ws 4 0)
+  passed-words m = record { words = passed-length; few = passed-few; of-mode = m }

@@ -1,0 +1,144 @@
+//! Writes theorems for antt: on random small inputs the definitions of document 01 compute to
+//! the answers of this reference.
+//!
+//! Arguments: the folder to write to, the number of theorems, the seed. Standard output says what
+//! is compared and how much of it is refused.
+
+mod antt;
+mod calls;
+mod damage;
+mod inputs;
+mod random;
+mod structures;
+mod texts;
+
+use antt::Equation;
+use calls::Call;
+use inputs::SMALL;
+use random::Random;
+use reference::{Job, Listing};
+use std::collections::BTreeMap;
+use std::path::Path;
+use std::{env, fs, io};
+
+/// The most theorems of one file.
+const MOST_OF_A_FILE: usize = 60;
+
+/// An equation, and the number with which its input is refused, if it is.
+pub struct Theorem {
+    pub equation: Equation,
+    pub refusal: Option<u32>,
+}
+
+/// What theorems speak of: a name for files and theorems, how many there are beside others, and
+/// how one is made.
+struct Subject {
+    file: &'static str,
+    name: &'static str,
+    share: usize,
+    make: fn(&mut Random) -> Theorem,
+}
+
+const fn subject(
+    file: &'static str,
+    name: &'static str,
+    share: usize,
+    make: fn(&mut Random) -> Theorem,
+) -> Subject {
+    Subject {
+        file,
+        name,
+        share,
+        make,
+    }
+}
+
+const SUBJECTS: [Subject; 12] = [
+    subject("Listing", "listing", 5, |random| calls::theorem(random, Call::Listing)),
+    subject("PlanTest", "plan-test", 6, |random| calls::theorem(random, Call::PlanTest)),
+    subject("PriceTest", "price-test", 6, |random| calls::theorem(random, Call::PriceTest)),
+    subject("Unfolding", "unfolding-call", 5, |random| calls::theorem(random, Call::Unfolding)),
+    subject("Folding", "folding-call", 6, |random| calls::theorem(random, Call::Folding)),
+    subject("SawText", "saw-text", 9, texts::saw_theorem),
+    subject("FoldText", "fold-text", 7, texts::fold_theorem),
+    subject("Walk", "walk", 2, structures::walk_theorem),
+    subject("Sets", "set", 2, structures::set_theorem),
+    subject("Rules", "rules-kept", 2, structures::rules_theorem),
+    subject("Rectangles", "rectangles-apart", 1, structures::rectangle_theorem),
+    subject("Fewest", "fewest-boards", 1, structures::fewest_theorem),
+];
+
+/// Whether the listing is small, if there is one: the words are a job's, and it is admitted.
+pub fn is_small(words: &[u16]) -> bool {
+    Job::from_words(words).map_or(true, |job| is_small_job(&job))
+}
+
+/// Whether the job's listing is small, if the job is admitted.
+pub fn is_small_job(job: &Job) -> bool {
+    job.admit().is_err() || Listing::walk(job, SMALL).is_ok()
+}
+
+/// The theorems of one subject, and how many are refused with each number.
+#[derive(Default)]
+struct Written {
+    theorems: Vec<String>,
+    refused: BTreeMap<u32, usize>,
+}
+
+fn main() -> io::Result<()> {
+    let arguments: Vec<String> = env::args().skip(1).collect();
+    let [folder, count, seed] = &arguments[..] else {
+        panic!("arguments: folder, number of theorems, seed");
+    };
+    let [count, seed]: [u64; 2] = [count, seed].map(|word| word.parse().expect("a number"));
+    let written = theorems(count as usize, seed);
+    for (subject, written) in SUBJECTS.iter().zip(&written) {
+        write_files(Path::new(folder), subject, &written.theorems)?;
+    }
+    print_summary(&written);
+    Ok(())
+}
+
+/// As many theorems, each subject having its share of every part of them.
+fn theorems(count: usize, seed: u64) -> Vec<Written> {
+    let mut random = Random::new(seed);
+    let shares = (0..SUBJECTS.len()).flat_map(|index| vec![index; SUBJECTS[index].share]);
+    let shares: Vec<usize> = shares.collect();
+    let mut written: Vec<Written> = SUBJECTS.iter().map(|_| Written::default()).collect();
+    for index in shares.iter().cycle().take(count) {
+        let subject = &SUBJECTS[*index];
+        let theorem = (subject.make)(&mut random);
+        let written = &mut written[*index];
+        let name = format!("{}-{}", subject.name, written.theorems.len() + 1);
+        written.theorems.push(theorem.equation.theorem(&name));
+        if let Some(number) = theorem.refusal {
+            *written.refused.entry(number).or_default() += 1;
+        }
+    }
+    written
+}
+
+/// Files of at most so many theorems, each with the names that they use.
+fn write_files(folder: &Path, subject: &Subject, theorems: &[String]) -> io::Result<()> {
+    for (number, part) in (1..).zip(theorems.chunks(MOST_OF_A_FILE)) {
+        let path = folder.join(format!("{}{number}.antt", subject.file));
+        fs::write(path, format!("{}\n{}", antt::HEAD, part.join("\n")))?;
+    }
+    Ok(())
+}
+
+/// How many theorems there are of each subject, and how many of the calls and texts are refused,
+/// by number.
+fn print_summary(written: &[Written]) {
+    let mut refused: BTreeMap<u32, usize> = BTreeMap::new();
+    for (subject, written) in SUBJECTS.iter().zip(written) {
+        let some: usize = written.refused.values().sum();
+        let all = written.theorems.len();
+        println!("{:<12}{all:>6} theorems, {some:>5} of a refusal", subject.file);
+        for (number, count) in &written.refused {
+            *refused.entry(*number).or_default() += count;
+        }
+    }
+    let numbers = refused.iter().map(|(number, count)| format!("{number}: {count}"));
+    println!("refusals by number  {}", numbers.collect::<Vec<_>>().join(", "));
+}
