@@ -4,7 +4,7 @@
 use crate::columns::{read_group, COLUMNS};
 use crate::job::{Head, Item, Job};
 use crate::limits::FORBIDDEN_LINE;
-use crate::refusal::{ensure, Refusal, NOT_OF_THE_FORM, OUTSIDE_LIMITS};
+use crate::refusal::{Refusal, NOT_OF_THE_FORM, OUTSIDE_LIMITS};
 
 /// A line of the form: its number in the text, its kind, and the numbers after the kind, of which
 /// a kind uses as many as it has.
@@ -63,7 +63,9 @@ impl<'a> Lines<'a> {
     /// 100,000th.
     pub fn line(&mut self) -> Result<Line, Refusal> {
         let refusal = Refusal::new(NOT_OF_THE_FORM, self.next);
-        ensure(self.next < FORBIDDEN_LINE, refusal.number, self.next)?;
+        if self.next == FORBIDDEN_LINE {
+            return Err(refusal);
+        }
         let (line, length) = read_line(self.rest, self.next).ok_or(refusal)?;
         self.rest = &self.rest[length..];
         self.next += 1;

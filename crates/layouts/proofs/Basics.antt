@@ -1,17 +1,17 @@
 -- Tests and plain statements over lists: what `all`, `any` and `&&` decide, and how sums and the greatest value go with `++`, `map` and
 -- `flatMap`.
 -- Assumes nothing.
-use Prim.Native.Nat.{ℕ, _+_, _≤_}
+use Prim.Native.Nat.{ℕ, zero, suc, _+_, _≤_, _<_}
 use native.Mathlib.Omega.{arith}
 use mathlib.Core.Path.{_≡_, refl, sym, _∙_}
 use mathlib.Core.Logic.{_⊎_, inl, inr, _↔_}
 use mathlib.Core.Bool.{Bool, true, false, not, _&&_, _||_, false≢true, and-eq-true-iff}
 use mathlib.Core.List.{List, [], _∷_, _++_, map, flatMap}
 use lib.Dec.{leb}
-use lib.ListN.{length}
+use lib.ListN.{length, getD}
 use borrow.Author.Tests.{leb-true, le-leb}
 use Rattle.job.specs.Lists.{any, all, sumOf, maxOf, nonEmpty}
-use Rattle.job.specs.Verdict.{within}
+use Rattle.job.specs.Verdict.{Verdict, pass, refuse, _then_, refuseIf, within, lowest}
 use Rattle.layouts.specs.Rules.{Every, Some, Filled}
 
 -- both tests pass
@@ -58,6 +58,14 @@ true-or true b h = refl
 true-or false b (inl e) = absurd (false≢true e)
 true-or false b (inr e) = e
 
+-- neither of two tests passes
+pub or-false : (a b : Bool) → a || b ≡ false → (a ≡ false) × (b ≡ false)
+or-false true b e = absurd (false≢true (sym e))
+or-false false b e = (refl, e)
+
+pub false-or : (a b : Bool) → a ≡ false → b ≡ false → a || b ≡ false
+false-or a b p q = rw p q
+
 -- one of four tests passes
 pub four-or :
     (a b c d : Bool) → a || b || c || d ≡ true → (a ≡ true) ⊎ ((b ≡ true) ⊎ ((c ≡ true) ⊎ (d ≡ true)))
@@ -89,6 +97,43 @@ within-true low high x e =
 
 pub true-within : (low high x : ℕ) → (low ≤ x) × (x ≤ high) → within low high x ≡ true
 true-within low high x h = true-and (leb low x) (leb x high) (le-leb low x (h .0)) (le-leb x high (h .1))
+
+-- a refusal does not pass
+pub refuse-pass : (n k : ℕ) → refuse n k ≡ pass → ⊥
+refuse-pass n k e = let z : _≡_ {A = ℕ} 0 1 = cc in omega arith
+
+-- checks one after another pass exactly if each passes
+pub pass-then : (v w : Verdict) → v then w ≡ pass → (v ≡ pass) × (w ≡ pass)
+pass-then pass w e = (refl, e)
+pass-then (refuse n k) w e = absurd (refuse-pass n k e)
+
+pub then-pass : (v w : Verdict) → v ≡ pass → w ≡ pass → v then w ≡ pass
+then-pass v w p q = rw p q
+
+pub six-pass :
+    (a b c d e f : Verdict)
+    → (a then b then c then d then e then f ≡ pass)
+    ↔ ((a ≡ pass) × (b ≡ pass) × (c ≡ pass) × (d ≡ pass) × (e ≡ pass) × (f ≡ pass))
+six-pass a b c d e f = (to, back)
+  where
+    to : a then b then c then d then e then f ≡ pass → (a ≡ pass) × (b ≡ pass) × (c ≡ pass) × (d ≡ pass) × (e ≡ pass) × (f ≡ pass)
+    to h =
+        let q1 = pass-then a (b then c then d then e then f) h in
+        let q2 = pass-then b (c then d then e then f) (q1 .1) in
+        let q3 = pass-then c (d then e then f) (q2 .1) in
+        let q4 = pass-then d (e then f) (q3 .1) in
+        let q5 = pass-then e f (q4 .1) in
+        (q1 .0, q2 .0, q3 .0, q4 .0, q5 .0, q5 .1)
+
+    back : (a ≡ pass) × (b ≡ pass) × (c ≡ pass) × (d ≡ pass) × (e ≡ pass) × (f ≡ pass) → a then b then c then d then e then f ≡ pass
+    back h = rw (h .0, h .1, h .2, h .3, h .4) (h .5)
+
+pub pass-refuse-if : (t : Bool) (n k : ℕ) → refuseIf t n k ≡ pass → t ≡ false
+pass-refuse-if true n k e = absurd (refuse-pass n k e)
+pass-refuse-if false n k e = refl
+
+pub refuse-if-pass : (t : Bool) (n k : ℕ) → t ≡ false → refuseIf t n k ≡ pass
+refuse-if-pass t n k e = rw e refl
 
 module _ {A : Type 0} where
   -- a test of every element, of some element
@@ -133,6 +178,22 @@ module _ {A : Type 0} where
   some-any test P h (a ∷ l) (inl q) = any-cons test a l ∙ true-or (test a) (any test l) (inl (h a q))
   some-any test P h (a ∷ l) (inr q) = any-cons test a l ∙ true-or (test a) (any test l) (inr (some-any test P h l q))
 
+  -- a check over all places, by a test that does not depend on the place
+  pub lowest-every : (number k : ℕ) (test : A → Bool) (l : List A) → lowest number (λ _ a. not (test a)) k l ≡ pass → Every (λ a. test a ≡ true) l
+  unfolding lowest
+  lowest-every number k test [] e = tt
+  lowest-every number k test (a ∷ l) e = go (test a) refl e (lowest-every number (suc k) test l)
+    where
+      go : (t : Bool) → test a ≡ t → elim (not t) [ true ↦ refuse number k | false ↦ lowest number (λ _ b. not (test b)) (suc k) l ] ≡ pass
+          → (lowest number (λ _ b. not (test b)) (suc k) l ≡ pass → Every (λ b. test b ≡ true) l) → (test a ≡ true) × Every (λ b. test b ≡ true) l
+      go true h q rec = (h, rec q)
+      go false h q rec = absurd (refuse-pass number k q)
+
+  pub every-lowest : (number k : ℕ) (test : A → Bool) (l : List A) → Every (λ a. test a ≡ true) l → lowest number (λ _ a. not (test a)) k l ≡ pass
+  unfolding lowest
+  every-lowest number k test [] h = refl
+  every-lowest number k test (a ∷ l) h = rw (h .0, lowest) (every-lowest number (suc k) test l (h .1))
+
   pub filled-true : (l : List A) → nonEmpty l ≡ true → Filled l
   filled-true [] e = false≢true e
   filled-true (a ∷ l) e = tt
@@ -157,6 +218,16 @@ module _ {A : Type 0} where
   pub append-every : (P : A → Type 0) (l m : List A) → Every P (l ++ m) → Every P l × Every P m
   append-every P [] m p = (tt, p)
   append-every P (a ∷ l) m p = let r = append-every P l m (p .1) in ((p .0, r .0), r .1)
+
+  -- every element is the element at each place, from 0
+  pub every-at : (P : A → Type 0) (l : List A) → Every P l → (d : A) (k : ℕ) → k < length l → P (getD l k d)
+  every-at P [] h d k lt = absurd (omega arith)
+  every-at P (a ∷ l) h d zero lt = h .0
+  every-at P (a ∷ l) h d (suc k) lt = every-at P l (h .1) d k (omega arith)
+
+  pub at-every : (P : A → Type 0) (d : A) (l : List A) → ((k : ℕ) → k < length l → P (getD l k d)) → Every P l
+  at-every P d [] h = tt
+  at-every P d (a ∷ l) h = (h 0 (omega arith), at-every P d l (λ k lt. h (suc k) (omega arith)))
 
   -- the greatest value is at least each, and at most what each is at most
   pub max-above : (f : A → ℕ) (l : List A) → Every (λ a. f a ≤ maxOf f l) l
@@ -214,3 +285,12 @@ module _ {A B : Type 0} where
   unfolding flatMap
   every-of-parts P f [] h = tt
   every-of-parts P f (a ∷ l) h = every-append P (f a) (flatMap f l) (h .0) (every-of-parts P f l (h .1))
+
+  pub parts-every : (P : B → Type 0) (f : A → List B) (l : List A) → Every P (flatMap f l) → Every (λ a. Every P (f a)) l
+  unfolding flatMap
+  parts-every P f [] h = tt
+  parts-every P f (a ∷ l) h = let q = append-every P (f a) (flatMap f l) h in (q .0, parts-every P f l (q .1))
+
+  pub map-every : (P : B → Type 0) (f : A → B) (l : List A) → Every P (map f l) → Every (λ a. P (f a)) l
+  map-every P f [] h = tt
+  map-every P f (a ∷ l) h = (h .0, map-every P f l (h .1))

@@ -32,3 +32,12 @@ pub mod FoldCuts
 pub mod FoldCounts
 pub mod Back
 pub mod Bound
+pub mod RulesWords
+pub mod Geometry
+pub mod RowRules
+pub mod RowBack
+pub mod Row
+pub mod RowWords
+pub mod DemandUnfold
+pub mod DemandFold
+pub mod Demand3

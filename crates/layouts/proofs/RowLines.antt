@@ -4,16 +4,34 @@ use Prim.Native.Nat.{ℕ, suc, _+_, _*_, _%_}
 use native.Mathlib.Omega.{arith}
 use native.Mathlib.Nat.{mul-mod-right}
 use mathlib.Core.Path.{_≡_, refl, ap, ap₂, sym, _∙_}
+use mathlib.Core.Logic.{_↔_}
 use mathlib.Core.List.{List, [], _∷_, _++_, map, flatMap, map-append}
 use lib.ListN.{length, length-map}
 use Rattle.job.specs.Job.{Job}
 use Rattle.layouts.specs.Layout.{Stack, Strip, Board, heightOf, stackWidth, stripHeight}
 use Rattle.layouts.specs.Placement.{Placement, placementWords, stackLines, stripLines, boardLines, setLines, linesOf, itemsOfStrip, itemsOfBoard, itemsOfSet}
 use Rattle.layouts.specs.Lines.{rowsOf}
+use Rattle.layouts.specs.Rules.{Every}
+use Rattle.layouts.proofs.Basics.{every-map, every-of-parts, parts-every}
 
 -- the item of a line
 abbrev pub lineItem : Placement → ℕ
 lineItem r = r .item
+
+-- what holds of every item of a set holds of every item of every stack of every strip of every board
+pub items-every : (P : ℕ → Type 0) (bs : List Board) → Every P (itemsOfSet bs) ↔ Every (Every (Every (Every P))) bs
+unfolding itemsOfSet itemsOfBoard itemsOfStrip
+items-every P bs = (
+  λ h.
+      every-map (λ b (q : Every P (itemsOfBoard b)).
+      every-map (λ s (r : Every P (itemsOfStrip s)). parts-every P (λ k. k) s r) b (parts-every P itemsOfStrip b q))
+      bs (parts-every P itemsOfBoard bs h),
+  λ h.
+      every-of-parts P itemsOfBoard bs
+      (every-map (λ b (q : Every (Every (Every P)) b).
+      every-of-parts P itemsOfStrip b (every-map (λ s (r : Every (Every P) s). every-of-parts P (λ k. k) s r) b q))
+      bs h),
+)
 
 module _ (job : Job) where
   stack-items : (b s k p x y : ℕ) (st : Stack) → map lineItem (stackLines job b s k p x y st) ≡ st

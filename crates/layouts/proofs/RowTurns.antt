@@ -1,12 +1,13 @@
 -- Lines in turn: what 15 tests, in plain statements, and that the lines of a set of layouts run in turn.
 -- Assumes nothing.
-use Prim.Native.Nat.{ℕ, suc, _+_}
+use Prim.Native.Nat.{ℕ, suc, _+_, _≤_}
 use native.Mathlib.Omega.{arith}
 use mathlib.Core.Path.{_≡_, refl}
 use mathlib.Core.Logic.{_⊎_, inl, inr}
 use mathlib.Core.Bool.{Bool, true, false, _&&_}
 use mathlib.Core.List.{List, [], _∷_, _++_, append-assoc}
 use lib.Dec.{eqb}
+use lib.ListN.{length}
 use borrow.Author.Tests.{eqb-true, eq-eqb}
 use Rattle.job.specs.Verdict.{pass, refuse}
 use Rattle.job.specs.Job.{Job}
@@ -14,7 +15,7 @@ use Rattle.layouts.specs.Layout.{Stack, Strip, Board, heightOf, stackWid
 use Rattle.layouts.specs.Placement.{Turn, turn, Placement, stackLines, stripLines, boardLines, setLines, linesOf}
 use Rattle.layouts.specs.Lines.{sameTurn, follows, inTurn, turns}
 use Rattle.layouts.specs.Rules.{Every, Filled}
-use Rattle.layouts.proofs.Basics.{and-true, four-or, or-four}
+use Rattle.layouts.proofs.Basics.{and-true, four-or, or-four, refuse-pass}
 use Rattle.layouts.proofs.Grouping.{FullStrip, FullBoard, FullSet}
 
 -- two turns are the same
@@ -38,10 +39,6 @@ unfolding sameTurn
 true-same t = rw (eq-eqb (t .board) (t .board) refl, eq-eqb (t .strip) (t .strip) refl, eq-eqb (t .stack) (t .stack) refl, eq-eqb (t .place) (t .place) refl) refl
 
 -- the next in turn after t, of four forms
--- a refusal does not pass
-refuse-pass : (n k : ℕ) → refuse n k ≡ pass → ⊥
-refuse-pass n k e = let z : _≡_ {A = ℕ} 0 1 = cc in omega arith
-
 pub data Next (t : Turn) : Turn → Type 0 where
   same-stack : Next t (turn (t .board) (t .strip) (t .stack) (suc (t .place)))
   next-stack : Next t (turn (t .board) (t .strip) (suc (t .stack)) 1)
@@ -114,6 +111,38 @@ unfolding turns
 pass-turns k [] h = refl
 pass-turns k (r ∷ rs) h = rw (h .0, true-same (turn 1 1 1 1), turns) (pass-in-turn (suc k) (r .turn) rs (h .1))
 
+-- the numbers of a turn are from 1 to n
+pub record UpTo (n : ℕ) (t : Turn) : Type 0 where
+  pub board : (1 ≤ t .board) × (t .board ≤ n)
+  pub strip : (1 ≤ t .strip) × (t .strip ≤ n)
+  pub stack : (1 ≤ t .stack) × (t .stack ≤ n)
+  pub place : (1 ≤ t .place) × (t .place ≤ n)
+
+up-to-next : (n : ℕ) {t u : Turn} → Next t u → UpTo n t → UpTo (suc n) u
+up-to-next n same-stack h = search arith
+up-to-next n next-stack h = search arith
+up-to-next n next-strip h = search arith
+up-to-next n next-board h = search arith
+
+up-to-more : (n m : ℕ) (t : Turn) → n ≤ m → UpTo n t → UpTo m t
+up-to-more n m t le h = search arith
+
+-- none of the numbers of lines in turn passes the number of lines
+in-turn-up-to : (n m : ℕ) (t : Turn) (rs : List Placement) → n + length rs ≤ m → UpTo n t → InTurn t rs → Every (λ r. UpTo m (r .turn)) rs
+in-turn-up-to n m t [] le u h = tt
+in-turn-up-to n m t (r ∷ rs) le u h =
+    let v = up-to-next n (h .0) u in
+    (up-to-more (suc n) m (r .turn) (omega arith) v, in-turn-up-to (suc n) m (r .turn) rs (omega arith) v (h .1))
+
+pub turns-up-to : (rs : List Placement) → FromOne rs → Every (λ r. UpTo (length rs) (r .turn)) rs
+turns-up-to [] h = tt
+turns-up-to (r ∷ rs) h =
+    let v : UpTo 1 (r .turn) = rw (h .0) one in
+    (up-to-more 1 (length (r ∷ rs)) (r .turn) (omega arith) v, in-turn-up-to 1 (length (r ∷ rs)) (r .turn) rs (omega arith) v (h .1))
+  where
+    one : UpTo 1 (turn 1 1 1 1)
+    one = search arith
+
 module _ (job : Job) where
   -- the further lines of a stack, where what comes after them is in turn after each of its places
   stack-on : (b s k p x y : ℕ) (st : Stack) (rs : List Placement) → ((q : ℕ) → InTurn (turn b s k q) rs) → InTurn (turn b s k p) (stackLines job b s k (suc p) x y st ++ rs)
@@ -174,7 +203,7 @@ module _ (job : Job) where
       board-begun (turn b s k p) (suc b) bd (setLines job (suc (suc b)) bs) next-board (f .0) (λ j l q. set-on (suc b) j l q bs (f .1))
 
   -- the lines of a set of which nothing is empty run in turn from 1
-  lines-from-one : (bs : List Board) → FullSet bs → FromOne (linesOf job bs)
+  pub lines-from-one : (bs : List Board) → FullSet bs → FromOne (linesOf job bs)
   unfolding linesOf setLines boardLines stripLines stackLines
   lines-from-one [] f = tt
   lines-from-one ([] ∷ bs) f = absurd (f .0 .0)

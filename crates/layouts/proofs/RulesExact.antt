@@ -153,6 +153,19 @@ module _ (job : Job) where
       (all-exact (within 1 (length (job .items))) (OfJob job) (λ i. (within-true 1 (length (job .items)) i, true-within 1 (length (job .items)) i)))
       s
 
+  -- strips that keep each rule
+  pub strips-ok :
+      (b : Board)
+      → Every Filled b
+      → Every (Every Filled) b
+      → Every (Every (Every (OfJob job))) b
+      → Every (Staged job) b
+      → Every (λ s. stripWidth job s ≤ job .width) b
+      → Every (StripOk job) b
+  strips-ok [] f k t g a = tt
+  strips-ok (s ∷ b) f k t g a =
+      (record { filled = f .0; stacks = k .0; types = t .0; staged = g .0; across = a .0 }, strips-ok b (f .1) (k .1) (t .1) (g .1) (a .1))
+
   -- one board
   pub board-exact : (b : Board) → (boardRules job b ≡ true) ↔ BoardOk job b
   unfolding boardRules
@@ -165,19 +178,13 @@ module _ (job : Job) where
           seven-true (nonEmpty b) (all nonEmpty b) (all (all nonEmpty) b) (all (all (all (within 1 (length (job .items))))) b) (all (stageRule job) b)
           (all (λ s. leb (stripWidth job s) (job .width)) b) (leb (boardHeight job b) (job .height))
 
-      gather : (c : Board) → Every Filled c → Every (Every Filled) c → Every (Every (Every (OfJob job))) c → Every (Staged job) c
-          → Every (λ s. stripWidth job s ≤ job .width) c → Every (StripOk job) c
-      gather [] f k t s a = tt
-      gather (s′ ∷ c) f k t s a =
-          (record { filled = f .0; stacks = k .0; types = t .0; staged = s .0; across = a .0 }, gather c (f .1) (k .1) (t .1) (s .1) (a .1))
-
       to : boardRules job b ≡ true → BoardOk job b
       to e =
           let q = tests .0 e in
           record {
             filled = filled-exact b .0 (q .0);
             strips =
-                gather b (each-filled-exact b .0 (q .1))
+                strips-ok b (each-filled-exact b .0 (q .1))
                 (all-exact (all nonEmpty) (Every Filled) each-filled-exact b .0 (q .2))
                 (all-exact (all (all (within 1 (length (job .items))))) (Every (Every (OfJob job))) types-exact b .0 (q .3))
                 (all-exact (stageRule job) (Staged job) stage-exact b .0 (q .4))

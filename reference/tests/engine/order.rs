@@ -1,7 +1,7 @@
 //! The order of refusals (document 01, "Where each number is given", and the paragraph after the
 //! table): rows from the top, in a row lower numbers first, each over all its places.
 
-use crate::common::jobs::{job, job_a, PLAN_A, PRICES_A};
+use crate::common::jobs::{job, job_a, PRICES_A};
 use crate::common::lent::{full_counts, junk, Lent, COUNTS, CUTS, PLACEMENTS, PLATES};
 use crate::common::refused;
 use crate::common::texts::{assert_text, job_text, lines, refusal};
@@ -225,9 +225,4 @@ fn the_plan_row_is_no_part_of_folding() {
     let mut lent = Lent::new();
     assert_eq!(lent.fold(&words, &lines), Ok(4_000));
     assert_eq!(lent.counts[0], 4_000);
-}
-
-#[test]
-fn plan_a_meets_no_refusal() {
-    assert_eq!(Lent::new().test_plan(&job_a(), &PLAN_A), Ok(2));
 }

@@ -84,7 +84,7 @@ fn a_residual_that_two_cuts_leave_is_supplied_by_both() {
 }
 
 #[test]
-fn a_cut_may_leave_the_type_on_which_it_is_made_no_supply() {
+fn a_chain_of_residuals_is_supplied_link_by_link() {
     // Plate 1 is (2, 1, 2), plate 2 is (1, 1, 2): cut 2 leaves plate 2, cut 3 nothing.
     let words = job(Mode::TwoNonExact, [3, 1], &[[1, 1, 1]]);
     assert_eq!(Lent::new().test_plan(&words, &[1, 1, 1]), Ok(1));
