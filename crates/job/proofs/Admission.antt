@@ -86,11 +86,20 @@ board-limits-test ws l =
     )
 
 -- a check over the item types passes where no type fails its test, the types numbered from 1
-pub types-pass : (number : ℕ) (bad : Item → Bool) (job : Job) → ((i : ℕ) → 1 ≤ i → i ≤ length (job .items) → bad (itemAt job i) ≡ false) → lowest number (λ _ it. bad it) 1 (job .items) ≡ pass
+pub types-pass :
+    (number : ℕ) (bad : Item → Bool) (job : Job)
+    → ((i : ℕ) → 1 ≤ i → i ≤ length (job .items) → bad (itemAt job i) ≡ false)
+    → lowest number (λ _ it. bad it) 1 (job .items) ≡ pass
 unfolding itemAt
 types-pass number bad job f = lowest-pass number (λ _ it. bad it) noItem 1 (job .items) (λ i p. f (suc i) (omega arith) p)
 
-pub types-good : (number : ℕ) (bad : Item → Bool) (job : Job) → lowest number (λ _ it. bad it) 1 (job .items) ≡ pass → (i : ℕ) → 1 ≤ i → i ≤ length (job .items) → bad (itemAt job i) ≡ false
+pub types-good :
+    (number : ℕ) (bad : Item → Bool) (job : Job)
+    → lowest number (λ _ it. bad it) 1 (job .items) ≡ pass
+    → (i : ℕ)
+    → 1 ≤ i
+    → i ≤ length (job .items)
+    → bad (itemAt job i) ≡ false
 unfolding itemAt
 types-good number bad job h zero p q = absurd (omega arith)
 types-good number bad job h (suc i) p q = lowest-good number (λ _ it. bad it) noItem 1 (job .items) h i q

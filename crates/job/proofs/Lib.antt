@@ -10,3 +10,4 @@ pub mod ItemWords
 pub mod Admission
 pub mod CodeTests
 pub mod CodeAdmission
+pub mod Records

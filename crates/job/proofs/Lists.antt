@@ -25,7 +25,11 @@ module _ {A : Type 0} (test : A → Bool) where
   pub any-drop-here : (as′ : List A) (i : ℕ) (d : A) → i < length as′ → test (getD as′ i d) ≡ true → any test (drop i as′) ≡ true
   any-drop-here as′ i d h p = rw (drop-cons as′ i d h) (any-here (getD as′ i d) (drop (suc i) as′) p)
 
-  pub any-drop-next : (as′ : List A) (i : ℕ) (d : A) → i < length as′ → test (getD as′ i d) ≡ false → any test (drop i as′) ≡ any test (drop (suc i) as′)
+  pub any-drop-next :
+      (as′ : List A) (i : ℕ) (d : A)
+      → i < length as′
+      → test (getD as′ i d) ≡ false
+      → any test (drop i as′) ≡ any test (drop (suc i) as′)
   any-drop-next as′ i d h p = rw (drop-cons as′ i d h) (any-next (getD as′ i d) (drop (suc i) as′) p)
 
   -- an element that passes is named by its place

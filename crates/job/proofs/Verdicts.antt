@@ -72,10 +72,18 @@ module _ {A : Type 0} where
     lowest-here k a as′ h = rw (h, lowest)
 
     -- the same from a place of a list on
-    pub lowest-drop-next : (k : ℕ) (as′ : List A) (i : ℕ) (d : A) → i < length as′ → bad k (getD as′ i d) ≡ false → lowest number bad k (drop i as′) ≡ lowest number bad (suc k) (drop (suc i) as′)
+    pub lowest-drop-next :
+        (k : ℕ) (as′ : List A) (i : ℕ) (d : A)
+        → i < length as′
+        → bad k (getD as′ i d) ≡ false
+        → lowest number bad k (drop i as′) ≡ lowest number bad (suc k) (drop (suc i) as′)
     lowest-drop-next k as′ i d h p = rw (drop-cons as′ i d h) (lowest-next k (getD as′ i d) (drop (suc i) as′) p)
 
-    pub lowest-drop-here : (k : ℕ) (as′ : List A) (i : ℕ) (d : A) → i < length as′ → bad k (getD as′ i d) ≡ true → lowest number bad k (drop i as′) ≡ refuse number k
+    pub lowest-drop-here :
+        (k : ℕ) (as′ : List A) (i : ℕ) (d : A)
+        → i < length as′
+        → bad k (getD as′ i d) ≡ true
+        → lowest number bad k (drop i as′) ≡ refuse number k
     lowest-drop-here k as′ i d h p = rw (drop-cons as′ i d h) (lowest-here k (getD as′ i d) (drop (suc i) as′) p)
 
     pub lowest-drop-end : (k : ℕ) (as′ : List A) (i : ℕ) → length as′ ≤ i → lowest number bad k (drop i as′) ≡ pass
@@ -117,7 +125,10 @@ module _ {A : Type 0} where
         go false e h (suc i) p f = ap (λ (j : ℕ). bad j (getD as′ i d)) (omega arith) ∙ f h i (omega arith)
 
     -- where no place is bad the check passes
-    pub lowest-pass : (d : A) (k : ℕ) (as′ : List A) → ((i : ℕ) → i < length as′ → bad (k + i) (getD as′ i d) ≡ false) → lowest number bad k as′ ≡ pass
+    pub lowest-pass :
+        (d : A) (k : ℕ) (as′ : List A)
+        → ((i : ℕ) → i < length as′ → bad (k + i) (getD as′ i d) ≡ false)
+        → lowest number bad k as′ ≡ pass
     unfolding lowest
     lowest-pass d k [] f = refl
     lowest-pass d k (a ∷ as′) f =
@@ -125,7 +136,10 @@ module _ {A : Type 0} where
         rw (e, lowest) (lowest-pass d (suc k) as′ (λ i p. ap (λ (j : ℕ). bad j (getD as′ i d)) (omega arith) ∙ f (suc i) (omega arith)))
 
     -- where a check refuses, it gives its number and names the first bad place
-    pub lowest-refuses : (d : A) (k : ℕ) (as′ : List A) (n p : ℕ) → lowest number bad k as′ ≡ refuse n p → (n ≡ number) × ((i : ℕ) × (p ≡ k + i) × FirstBad bad d k as′ i)
+    pub lowest-refuses :
+        (d : A) (k : ℕ) (as′ : List A) (n p : ℕ)
+        → lowest number bad k as′ ≡ refuse n p
+        → (n ≡ number) × ((i : ℕ) × (p ≡ k + i) × FirstBad bad d k as′ i)
     unfolding lowest
     lowest-refuses d k [] n p h = absurd (pass-not-refuse refl h)
     lowest-refuses d k (a ∷ as′) n p h = go (bad k a) refl h (lowest-refuses d (suc k) as′ n p)
@@ -192,5 +206,8 @@ module _ {A : Type 0} where
         ∙ ap (refuse number) (omega arith)
 
   -- two checks that find the same places bad
-  pub lowest-same : (number : ℕ) (bad bad′ : ℕ → A → Bool) (k : ℕ) (as′ : List A) → ((j : ℕ) (a : A) → bad j a ≡ bad′ j a) → lowest number bad k as′ ≡ lowest number bad′ k as′
+  pub lowest-same :
+      (number : ℕ) (bad bad′ : ℕ → A → Bool) (k : ℕ) (as′ : List A)
+      → ((j : ℕ) (a : A) → bad j a ≡ bad′ j a)
+      → lowest number bad k as′ ≡ lowest number bad′ k as′
   lowest-same number bad bad′ k as′ h = ap (λ (b : ℕ → A → Bool). lowest number b k as′) (λ m j a. h j a m)

@@ -1,13 +1,13 @@
 -- Document 01, "Layouts and folding": "folding an unfolded plan gives back its counts".
 -- Assumes nothing.
-use Prim.Native.Nat.{ℕ, zero, suc, _+_, _≤_, _<_}
+use Prim.Native.Nat.{ℕ, _+_, _≤_, _<_}
 use native.Mathlib.Omega.{arith}
 use mathlib.Core.Path.{_≡_, refl, sym, _∙_, ap, ap₂}
 use mathlib.Core.List.{List, [], _∷_, _++_, map}
 use lib.Dec.{eqb}
 use lib.ListN.{length, getD, take}
 use lib.Seq.{ext-getD, length-take-le, getD-take}
-use Rattle.job.specs.Lists.{sumOf, occurs, tally}
+use Rattle.job.specs.Lists.{tally}
 use Rattle.job.specs.Job.{Job}
 use Rattle.listing.specs.Plate.{board}
 use Rattle.listing.specs.Listing.{Listing}
@@ -15,7 +15,7 @@ use Rattle.listing.specs.Model.{Model}
 use Rattle.layouts.specs.Unfold.{Run}
 use Rattle.layouts.specs.Fold.{ordered, boardCuts, setCuts, folded}
 use Rattle.layouts.proofs.CountBasics.{bit}
-use Rattle.layouts.proofs.Tree.{Tree, fsum}
+use Rattle.layouts.proofs.Tree.{Tree}
 use Rattle.layouts.proofs.Pattern.{Pattern, boardOf}
 use Rattle.layouts.proofs.Leaves.{Sided}
 use Rattle.layouts.proofs.Balance.{Roots}

@@ -2,17 +2,16 @@
 -- Assumes nothing.
 use Prim.Native.Nat.{ℕ, zero, suc, _+_, _*_, _≤_, _<_}
 use native.Mathlib.Omega.{arith}
-use mathlib.Core.Path.{_≡_, refl, sym, _∙_, ap}
-use mathlib.Core.Logic.{_≢_}
+use mathlib.Core.Path.{_≡_, refl, ap}
 use mathlib.Core.Bool.{Bool, true, false, cond}
 use mathlib.Core.List.{List, [], _∷_}
 use lib.Dec.{eqb}
 use lib.ListN.{length}
 use Rattle.job.specs.Lists.{sumOf}
 use Rattle.job.specs.Job.{Job}
-use Rattle.listing.specs.Listing.{Cut, Listing, plateAt, cutAt}
+use Rattle.listing.specs.Listing.{Listing, plateAt, cutAt}
 use Rattle.listing.specs.Model.{Model}
-use Rattle.plan.specs.Plan.{ofItem, onPlate, leavesPlate}
+use Rattle.plan.specs.Plan.{onPlate, leavesPlate}
 use Rattle.plan.specs.Prices.{Prices, itemPrice, residualPrice}
 use Rattle.plan.proofs.PriceExact.{costs, Priced}
 use Rattle.layouts.proofs.CountBasics.{bit, bit-same, bit-diff}
@@ -31,9 +30,15 @@ abbrev pub Root : Listing → Tree → Type 0
 Root l leaf = ⊥
 Root l (node c a b) = IsCut l c × (cutAt l c .plate ≡ 0) × Ok l (branchOf l c) a × Ok l (restOf l c) b
 
+-- each of some trees is cut from a board
 abbrev pub Roots : Listing → List Tree → Type 0
 Roots l [] = Unit {0}
 Roots l (t ∷ ts) = Root l t × Roots l ts
+
+-- from a residual that is not kept nothing is cut
+pub ok-none : (l : Listing) (j : ℕ) (t : Tree) → Ok l j t → j ≡ 0 → t ≡ leaf
+ok-none l j leaf h e = refl
+ok-none l j (node c a b) h e = absurd (omega (arith, h .0))
 
 module _ (job : Job) (l : Listing) (m : Model job l) where
   -- on a residual type a tree has at most as many cuts as pieces: those that its cuts leave, and the piece itself

@@ -1,9 +1,9 @@
 -- Document 01, "Prices": the sum of price times demand is at most D for each board, of an accepted plan and of a set that meets the demands.
 -- Assumes nothing.
-use Prim.Native.Nat.{ℕ, zero, suc, _+_, _*_, _-_, _≤_, _<_}
+use Prim.Native.Nat.{ℕ, suc, _+_, _*_, _-_, _≤_, _<_}
 use native.Mathlib.Omega.{arith}
 use native.Mathlib.Nat.{add-zero, add-suc, suc-add, mul-le-mul-left, lt-of-mul-lt-mul-right}
-use mathlib.Core.Path.{_≡_, refl, sym, _∙_, ap}
+use mathlib.Core.Path.{_≡_, sym, _∙_, ap}
 use mathlib.Core.Bool.{true}
 use mathlib.Core.List.{List, [], _∷_, map}
 use lib.Dec.{eqb}
@@ -11,9 +11,9 @@ use lib.ListN.{length, getD}
 use Rattle.job.specs.declared.item.Item.{Item}
 use Rattle.job.specs.Lists.{sumOf, occurs, tally}
 use Rattle.job.specs.Job.{Job, itemAt, noItem}
-use Rattle.listing.specs.Listing.{Cut, Listing, cutAt}
+use Rattle.listing.specs.Listing.{Listing}
 use Rattle.listing.specs.Model.{Model}
-use Rattle.plan.specs.Plan.{countOf, ofItem, boards}
+use Rattle.plan.specs.Plan.{ofItem, boards}
 use Rattle.plan.specs.Prices.{Prices, itemPrice, priced, priceSum, fewest}
 use Rattle.plan.proofs.PlanExact.{Accepted, NonePast}
 use Rattle.plan.proofs.PriceExact.{Priced, fewest-exact}
@@ -21,10 +21,10 @@ use Rattle.layouts.specs.Layout.{Board}
 use Rattle.layouts.specs.Placement.{itemsOfSet}
 use Rattle.layouts.specs.Unfold.{unfolded}
 use Rattle.layouts.proofs.CountBasics.{bit}
-use Rattle.layouts.proofs.Tree.{Tree, fsum}
+use Rattle.layouts.proofs.Tree.{Tree}
 use Rattle.layouts.proofs.Sums.{wsum, weight, countOf-wsum}
 use Rattle.layouts.proofs.Leaves.{Sided}
-use Rattle.layouts.proofs.Balance.{Roots, itemCost, value-set}
+use Rattle.layouts.proofs.Balance.{Roots, value-set}
 use Rattle.layouts.proofs.TreeItems.{layoutOf, roots-items}
 use Rattle.layouts.proofs.MachineEnds.{Unfolding, unfolds}
 use Rattle.layouts.proofs.Tally.{occurs-sum, tally-length, tally-at, tally-le}
@@ -95,6 +95,7 @@ module _ (job : Job) (l : Listing) (m : Model job l) (sided : Sided job) (ps : P
   -- of a set of layouts
   module _ (bs : List Board) (fold : Trees job l bs) (kept : (f : ℕ → ℕ) → sumOf f (itemsOfSet (allOrdered job bs)) ≡ sumOf f (itemsOfSet bs))
       (meets : (i : ℕ) → 1 ≤ i → i ≤ length (job .items) → itemAt job i .demand ≤ occurs i (itemsOfSet bs)) where
+    -- at least as many boards as the bound
     pub bound-set : priceSum job ps ≤ length bs * ps .denominator
     bound-set = rw (fold .number) at (bound-trees (fold .trees) (fold .roots) at-least)
       where

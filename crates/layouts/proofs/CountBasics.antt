@@ -1,11 +1,11 @@
 -- Laws of tests and sums over lists that the proofs on counts rest on.
 -- Assumes nothing.
-use Prim.Native.Nat.{ℕ, zero, suc, _+_, _≤_, _<_, max}
+use Prim.Native.Nat.{ℕ, zero, suc, _+_, _≤_, _<_}
 use native.Mathlib.Omega.{arith}
-use mathlib.Core.Path.{_≡_, refl, sym, _∙_, ap}
+use mathlib.Core.Path.{_≡_, refl, sym}
 use mathlib.Core.Logic.{_⊎_, inl, inr, _≢_}
 use mathlib.Core.Bool.{Bool, true, false, cond}
-use mathlib.Core.List.{List, [], _∷_, _++_, map}
+use mathlib.Core.List.{List, [], _∷_, _++_}
 use lib.Dec.{eqb}
 use lib.ListN.{length, getD}
 use borrow.Author.Tests.{eqb-true, eqb-false, eq-eqb, ne-eqb}
@@ -23,6 +23,7 @@ eq? a b = go (eqb a b) refl
 abbrev pub bit : Bool → ℕ
 bit t = cond t 1 0
 
+-- 1 where two numbers are equal, 0 where they differ
 pub bit-same : {a b : ℕ} → a ≡ b → bit (eqb a b) ≡ 1
 bit-same {a} {b} e = rw (eq-eqb a b e)
 
@@ -30,11 +31,13 @@ pub bit-diff : {a b : ℕ} → a ≢ b → bit (eqb a b) ≡ 0
 bit-diff {a} {b} d = rw (ne-eqb a b d)
 
 module _ {A : Type 0} where
+  -- a sum over two lists in a row
   pub sumOf-append : (f : A → ℕ) (as′ bs : List A) → sumOf f (as′ ++ bs) ≡ sumOf f as′ + sumOf f bs
   unfolding sumOf
   sumOf-append f [] bs = omega arith
   sumOf-append f (a ∷ as′) bs = omega (arith, sumOf-append f as′ bs)
 
+  -- as many ones as elements
   pub length-sum : (as′ : List A) → sumOf (λ _. 1) as′ ≡ length as′
   unfolding sumOf
   length-sum [] = refl

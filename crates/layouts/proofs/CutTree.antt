@@ -1,28 +1,25 @@
 -- Trees of cuts and patterns: the items of a tree of cuts are a pattern, and each pattern of the board has exactly one tree of cuts.
 -- Assumes nothing.
-use Prim.Native.Nat.{ℕ, zero, suc, _+_, _≤_, _<_}
+use Prim.Native.Nat.{ℕ, suc}
 use native.Mathlib.Omega.{arith}
 use mathlib.Core.Path.{_≡_, refl, sym, _∙_, ap, subst}
-use mathlib.Core.Logic.{_⊎_, inl, inr, _≢_}
-use mathlib.Core.Bool.{Bool, true, false}
-use mathlib.Core.List.{List, [], _∷_, map}
-use lib.ListN.{length}
-use Rattle.job.specs.Lists.{sumOf}
+use mathlib.Core.Logic.{inl, inr, _≢_}
 use Rattle.job.specs.Job.{Job}
 use Rattle.listing.specs.declared.plate.Plate.{Plate}
 use Rattle.listing.specs.Plate.{board}
-use Rattle.listing.specs.Listing.{Cut, Listing, plateAt, cutAt}
+use Rattle.listing.specs.Listing.{Listing, plateAt, cutAt}
 use Rattle.listing.specs.Model.{Model, Numbered}
-use Rattle.layouts.proofs.Tree.{Tree, leaf, node, tsum, fsum, tmap}
-use Rattle.layouts.proofs.Pattern.{Fits, branch, rest, Pattern, branchOf, restOf}
+use Rattle.layouts.proofs.Tree.{Tree, leaf, node, tsum, tmap}
+use Rattle.layouts.proofs.Pattern.{branch, rest, Pattern, branchOf, restOf}
 use Rattle.layouts.proofs.Leaves.{fits-kept}
 use Rattle.layouts.proofs.Cuts.{IsCut, cut-fits, branch-number, rest-number, one-cut}
-use Rattle.layouts.proofs.Balance.{Ok, Root, Roots}
+use Rattle.layouts.proofs.Balance.{Ok, Root}
 
 -- the item types of a tree of cuts
 abbrev pub itemTree : Listing → Tree → Tree
 itemTree l t = tmap (λ c. cutAt l c .item) t
 
+-- a sum over the tree with g of each label
 pub tsum-map : (f g : ℕ → ℕ) (t : Tree) → tsum f (tmap g t) ≡ tsum (λ c. f (g c)) t
 tsum-map f g leaf = refl
 tsum-map f g (node c a b) = omega (arith, tsum-map f g a, tsum-map f g b)

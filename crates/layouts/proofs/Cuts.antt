@@ -3,19 +3,19 @@
 use Prim.Native.Nat.{ℕ, zero, suc, _+_, _≤_, _<_}
 use native.Mathlib.Omega.{arith}
 use mathlib.Core.Path.{_≡_, refl, sym, _∙_, ap}
-use mathlib.Core.Logic.{_⊎_, inl, inr, _≢_}
+use mathlib.Core.Logic.{_⊎_, inl, inr}
 use mathlib.Core.Bool.{Bool, true, false, cond, _||_}
 use lib.Dec.{eqb}
 use lib.ListN.{length}
 use borrow.Author.Tests.{eqb-true}
 use Rattle.job.specs.Job.{Job, itemAt}
 use Rattle.listing.specs.declared.plate.Plate.{Plate}
-use Rattle.listing.specs.Plate.{leaves, kept}
-use Rattle.listing.specs.Listing.{Cut, Listing, plateAt, cutAt}
+use Rattle.listing.specs.Plate.{kept}
+use Rattle.listing.specs.Listing.{Listing, plateAt, cutAt}
 use Rattle.listing.specs.Model.{Model, Numbered, Before, leftBy}
 use Rattle.plan.specs.Plan.{leavesPlate}
 use Rattle.plan.proofs.CountBasics.{le-or-lt}
-use Rattle.layouts.proofs.CountBasics.{eq?, bit}
+use Rattle.layouts.proofs.CountBasics.{bit}
 use Rattle.layouts.proofs.Leaves.{Sided, size, stages-differ, leaves-smaller}
 use Rattle.layouts.proofs.Pattern.{Fits, branch, rest, branchOf, restOf}
 
@@ -43,14 +43,17 @@ bit-or true false d = refl
 bit-or false b d = omega arith
 
 module _ (job : Job) (l : Listing) (m : Model job l) where
+  -- the item of a cut may be cut from its plate
   pub cut-fits : (c : ℕ) → IsCut l c → Fits job (plateOf l c) (cutAt l c .item)
   cut-fits =
       of-number l (λ c. Fits job (plateOf l c) (cutAt l c .item))
       (λ d p. record { low = m .of-item d p .0; top = m .of-item d p .1; cut = m .permitted d p })
 
+  -- the plate type of a cut is one of the listing
   pub cut-plate : (c : ℕ) → IsCut l c → cutAt l c .plate < length (l .plates)
   cut-plate = of-number l (λ c. cutAt l c .plate < length (l .plates)) (m .on-plate)
 
+  -- top and right have their numbers
   pub top-number : (c : ℕ) → IsCut l c → Numbered job l (leftBy job l (cutAt l c) .top) (cutAt l c .top)
   top-number = of-number l (λ c. Numbered job l (leftBy job l (cutAt l c) .top) (cutAt l c .top)) (m .top-numbered)
 

@@ -1,14 +1,14 @@
 -- Document 01, "Layouts and folding": the counts of a set of layouts, from the trees of cuts of its boards in folding's order.
 -- Assumes nothing.
-use Prim.Native.Nat.{ℕ, zero, suc, _+_, _*_, _≤_, _<_}
+use Prim.Native.Nat.{ℕ, suc, _≤_, _<_}
 use native.Mathlib.Omega.{arith}
 use mathlib.Core.Path.{_≡_, refl, sym, _∙_, ap, ap₂}
 use mathlib.Core.Logic.{_≢_}
 use mathlib.Core.Bool.{Bool}
 use mathlib.Core.List.{List, [], _∷_, _++_, map}
 use lib.Dec.{eqb}
-use lib.ListN.{length, getD, List·getD-eq-default}
-use Rattle.job.specs.Lists.{sumOf, occurs, tally}
+use lib.ListN.{length, List·getD-eq-default}
+use Rattle.job.specs.Lists.{sumOf, occurs}
 use Rattle.job.specs.Job.{Job, itemAt, maxPieces}
 use Rattle.listing.specs.Plate.{board}
 use Rattle.listing.specs.Listing.{Cut, Listing, cutAt}
@@ -19,13 +19,12 @@ use Rattle.layouts.specs.Layout.{Board}
 use Rattle.layouts.specs.Placement.{itemsOfSet}
 use Rattle.layouts.specs.Fold.{ordered, boardCuts, setCuts, folded}
 use Rattle.layouts.proofs.CountBasics.{bit, length-sum}
-use Rattle.layouts.proofs.Tree.{Tree, leaf, node, tsum, fsum, labels}
+use Rattle.layouts.proofs.Tree.{Tree, leaf, node, fsum, labels}
 use Rattle.layouts.proofs.Pattern.{Pattern, branchOf, restOf, boardOf, boardTree}
 use Rattle.layouts.proofs.Sums.{wsum, weight, total-wsum, countOf-wsum}
 use Rattle.layouts.proofs.Leaves.{Sided}
-use Rattle.layouts.proofs.Cuts.{IsCut}
 use Rattle.layouts.proofs.Balance.{Ok, Root, Roots, balance-set, boards-set}
-use Rattle.layouts.proofs.CutTree.{itemTree, root-tree}
+use Rattle.layouts.proofs.CutTree.{root-tree}
 use Rattle.layouts.proofs.TreeItems.{layoutOf, roots-items}
 use Rattle.layouts.proofs.Tally.{occurs-sum, tally-length, tally-sum, Ranged, ranged-append, allLabels, all-labels-sum}
 use Rattle.layouts.proofs.FoldCuts.{root-cuts}
@@ -36,6 +35,7 @@ pub record InOrder (job : Job) (b : Board) : Type 0 where
   pub some-cut : boardTree (map (ordered job) b) ≢ leaf
   pub same : boardOf (boardTree (map (ordered job) b)) ≡ map (ordered job) b
 
+-- every board of a set is so
 abbrev pub AllInOrder : Job → List Board → Type 0
 AllInOrder job [] = Unit {0}
 AllInOrder job (b ∷ bs) = InOrder job b × AllInOrder job bs
@@ -69,6 +69,7 @@ root-ranged l (node c a b) h = (
   ranged-append (length (l .cuts)) 1 (labels a) (labels b) (ok-ranged l (branchOf l c) a (h .2)) (ok-ranged l (restOf l c) b (h .3)),
 )
 
+-- so are the labels of some boards
 pub roots-ranged : (l : Listing) (ts : List Tree) → Roots l ts → Ranged (length (l .cuts)) 1 (allLabels ts)
 roots-ranged l [] h = tt
 roots-ranged l (t ∷ ts) h =
@@ -110,6 +111,7 @@ module _ (job : Job) (l : Listing) (m : Model job l) (sided : Sided job) where
     unfolding folded
     folded-length = tally-length (length (l .cuts)) 1 (setCuts job l bs)
 
+    -- no word stands past the last cut
     pub folded-past : NonePast l ns
     folded-past c h = List·getD-eq-default ns 0 (omega (arith, folded-length))
 

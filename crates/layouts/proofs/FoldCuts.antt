@@ -1,13 +1,12 @@
 -- Document 01, "Layouts and folding": "it then counts the cuts of that order". The cuts of a layout that is the layout of a tree of cuts are the
 -- tree's labels.
 -- Assumes nothing.
-use Prim.Native.Nat.{ℕ, zero, suc, _+_, _≤_, _<_}
+use Prim.Native.Nat.{ℕ, zero, suc, _+_, _<_}
 use native.Mathlib.Omega.{arith}
-use native.Mathlib.Nat.{add-zero, add-suc, suc-add}
+use native.Mathlib.Nat.{add-suc, suc-add}
 use mathlib.Core.Path.{_≡_, refl, sym, _∙_, ap, ap₂}
-use mathlib.Core.Logic.{_⊎_, inl, inr, _≢_}
 use mathlib.Core.Bool.{Bool, true, false, _&&_}
-use mathlib.Core.List.{List, [], _∷_, _++_, map}
+use mathlib.Core.List.{List, [], _∷_, _++_}
 use lib.Dec.{eqb}
 use lib.ListN.{length, getD}
 use borrow.Author.Tests.{eqb-true, eq-eqb}
@@ -20,8 +19,8 @@ use Rattle.layouts.proofs.Tree.{Tree, leaf, node, labels}
 use Rattle.layouts.proofs.Pattern.{branchOf, restOf, stackOf, stripOf, boardOf}
 use Rattle.layouts.proofs.Leaves.{Sided}
 use Rattle.layouts.proofs.Cuts.{IsCut, plateOf, one-cut}
-use Rattle.layouts.proofs.Stages.{branch-1, rest-1, branch-2, rest-2, rest-3, branch-stage-1, rest-stage-1, branch-stage-2, rest-stage-2, branch-stage-3, rest-stage-3}
-use Rattle.layouts.proofs.Balance.{Ok, Root}
+use Rattle.layouts.proofs.Stages.{cut-stage, board-stage, branch-1, rest-1, branch-2, rest-2, rest-3, branch-stage-1, rest-stage-1, branch-stage-2, rest-stage-2, branch-stage-3, rest-stage-3}
+use Rattle.layouts.proofs.Balance.{Ok, Root, ok-none}
 use Rattle.layouts.proofs.CutTree.{itemTree}
 
 -- the cut is on plate type j and of item type i
@@ -50,11 +49,6 @@ cutFrom-is j i k (c ∷ cs) (suc d) p q r u =
     go true e rec = let (a, b) = both j i c e in absurd (u 0 (omega arith) a b)
     go false e rec = rw (e, cutFrom) (rw (add-suc, ← suc-add) rec)
 
--- from 0 nothing is cut
-none-cut : (l : Listing) (j : ℕ) (t : Tree) → Ok l j t → j ≡ 0 → labels t ≡ []
-none-cut l j leaf h e = refl
-none-cut l j (node c a b) h e = absurd (omega (arith, h .0))
-
 module _ (job : Job) (l : Listing) (m : Model job l) where
   -- the cut of a plate type and an item type is the one of that pair
   pub cutOf-is : (c j i : ℕ) → IsCut l c → cutAt l c .plate ≡ j → cutAt l c .item ≡ i → cutOf l j i ≡ c
@@ -70,8 +64,8 @@ module _ (job : Job) (l : Listing) (m : Model job l) where
     unfolding stackCuts
     cuts-3 j leaf h s = refl
     cuts-3 j (node c a b) h s =
-        let e : plateOf l c .stage ≡ 3 = ap (λ (z : ℕ). plateAt l z .stage) (h .2) ∙ s (h .0) in
-        rw (cutOf-is c j (cutAt l c .item) (h .1) (h .2) refl, none-cut l (branchOf l c) a (h .3) (branch-stage-3 job l m sided c (h .1) e))
+        let e : plateOf l c .stage ≡ 3 = cut-stage l c j 3 (h .2) (s (h .0)) in
+        rw (cutOf-is c j (cutAt l c .item) (h .1) (h .2) refl, ok-none l (branchOf l c) a (h .3) (branch-stage-3 job l m sided c (h .1) e))
         (ap (λ (ks : List ℕ). c ∷ ks)
         (ap (λ (z : ℕ). stackCuts l z (stackOf (itemTree l b))) (sym (rest-3 l c e)) ∙ cuts-3 (restOf l c) b (h .4) (rest-stage-3 job l m sided c (h .1) e)))
 
@@ -79,7 +73,7 @@ module _ (job : Job) (l : Listing) (m : Model job l) where
     unfolding stripCuts
     cuts-2 j leaf h s = refl
     cuts-2 j (node c a b) h s =
-        let e : plateOf l c .stage ≡ 2 = ap (λ (z : ℕ). plateAt l z .stage) (h .2) ∙ s (h .0) in
+        let e : plateOf l c .stage ≡ 2 = cut-stage l c j 2 (h .2) (s (h .0)) in
         rw (cutOf-is c j (cutAt l c .item) (h .1) (h .2) refl)
         (ap₂ (λ (ks ms : List ℕ). c ∷ (ks ++ ms))
         (ap (λ (z : ℕ). stackCuts l z (stackOf (itemTree l a))) (sym (branch-2 l c e)) ∙ cuts-3 (branchOf l c) a (h .3) (branch-stage-2 job l m sided c (h .1) e))
@@ -99,12 +93,12 @@ module _ (job : Job) (l : Listing) (m : Model job l) where
     unfolding boardCuts
     cuts-1 j leaf h s = refl
     cuts-1 j (node c a b) h s =
-        let e : plateOf l c .stage ≡ 1 = ap (λ (z : ℕ). plateAt l z .stage) (h .2) ∙ s (h .0) in
+        let e : plateOf l c .stage ≡ 1 = cut-stage l c j 1 (h .2) (s (h .0)) in
         cuts-node j c a b (h .1) (h .2) e (h .3) (cuts-1 (restOf l c) b (h .4) (rest-stage-1 job l m sided c (h .1) e))
 
     -- the cuts of the layout of a board's tree
     pub root-cuts : (t : Tree) → Root l t → boardCuts l 0 (boardOf (itemTree l t)) ≡ labels t
     root-cuts leaf h = absurd h
     root-cuts (node c a b) h =
-        let e : plateOf l c .stage ≡ 1 = ap (λ (z : ℕ). plateAt l z .stage) (h .1) ∙ ap (λ q. q .stage) (m .first) in
+        let e : plateOf l c .stage ≡ 1 = board-stage job l m c (h .1) in
         cuts-node 0 c a b (h .0) (h .1) e (h .2) (cuts-1 (restOf l c) b (h .3) (rest-stage-1 job l m sided c (h .0) e))

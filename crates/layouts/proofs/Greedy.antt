@@ -1,17 +1,16 @@
 -- The unfolding as a relation between counts and trees of cuts: from each piece the lowest-numbered cut with a count left, its branch first and
 -- then its rest. The cuts done and the counts left make the counts before; the trees are trees of the listing; and it always ends.
 -- Assumes nothing.
-use Prim.Native.Nat.{ℕ, zero, suc, _+_, _*_, _≤_, _<_}
+use Prim.Native.Nat.{ℕ, zero, suc, _+_, _≤_, _<_}
 use native.Mathlib.Omega.{arith}
-use mathlib.Core.Path.{_≡_, refl, sym, _∙_, ap}
-use mathlib.Core.Logic.{_⊎_, inl, inr, _≢_}
+use mathlib.Core.Path.{_≡_, refl, _∙_, ap}
 use mathlib.Core.List.{List, [], _∷_}
 use mathlib.Core.Option.{Option, none, some}
 use lib.Dec.{eqb}
 use lib.ListN.{length}
 use Rattle.job.specs.Lists.{sumOf}
 use Rattle.job.specs.Job.{Job}
-use Rattle.listing.specs.Listing.{Cut, Listing, cutAt}
+use Rattle.listing.specs.Listing.{Listing, cutAt}
 use Rattle.listing.specs.Model.{Model}
 use Rattle.plan.specs.Plan.{onPlate, leavesPlate}
 use Rattle.plan.proofs.PlanExact.{NonePast}
@@ -21,8 +20,8 @@ use Rattle.layouts.proofs.Tree.{Tree, leaf, node, tsum, fsum}
 use Rattle.layouts.proofs.Pattern.{branchOf, restOf}
 use Rattle.layouts.proofs.Sums.{wsum, weight}
 use Rattle.layouts.proofs.Leaves.{Sided}
-use Rattle.layouts.proofs.Cuts.{IsCut, sizeOf, leaves-once, branch-smaller, rest-smaller}
-use Rattle.layouts.proofs.Balance.{Ok, Root, Roots}
+use Rattle.layouts.proofs.Cuts.{sizeOf, leaves-once, branch-smaller, rest-smaller}
+use Rattle.layouts.proofs.Balance.{Ok, Roots}
 use Rattle.layouts.proofs.Search.{onSum, found-cut, spent-sum, spent-length, spent-past, not-found}
 
 module _ (l : Listing) where

@@ -1,23 +1,22 @@
 -- Document 01, "Unfolding": "for an accepted plan every count ends at 0". Of balanced counts every one is spent, by falling size of the plate types.
 -- Assumes nothing.
-use Prim.Native.Nat.{ℕ, zero, suc, _+_, _*_, _≤_, _<_}
+use Prim.Native.Nat.{ℕ, zero, suc, _+_, _≤_, _<_}
 use native.Mathlib.Omega.{arith}
-use mathlib.Core.Path.{_≡_, refl, sym, _∙_, ap}
+use mathlib.Core.Path.{_≡_, refl, _∙_, ap}
 use mathlib.Core.Logic.{_⊎_, inl, inr, _≢_}
-use mathlib.Core.List.{List, [], _∷_}
-use mathlib.Core.Option.{Option, none, some}
+use mathlib.Core.List.{List}
 use lib.Dec.{eqb}
 use lib.ListN.{length, getD}
-use Rattle.job.specs.Lists.{sumOf, maxOf}
+use Rattle.job.specs.Lists.{maxOf}
 use Rattle.job.specs.Job.{Job}
 use Rattle.listing.specs.Plate.{waste}
-use Rattle.listing.specs.Listing.{Cut, Listing, plateAt, cutAt}
+use Rattle.listing.specs.Listing.{Listing, plateAt, cutAt}
 use Rattle.listing.specs.Model.{Model}
-use Rattle.plan.specs.Plan.{countOf, onPlate, leavesPlate}
+use Rattle.plan.specs.Plan.{onPlate, leavesPlate}
 use Rattle.plan.proofs.CountBasics.{le-or-lt}
 use Rattle.plan.proofs.PlanExact.{Accepted, NonePast}
 use Rattle.layouts.proofs.CountBasics.{eq?, bit, bit-same, bit-diff, le-maxOf}
-use Rattle.layouts.proofs.Tree.{Tree, tsum, fsum}
+use Rattle.layouts.proofs.Tree.{Tree, fsum}
 use Rattle.layouts.proofs.Pattern.{branchOf, restOf}
 use Rattle.layouts.proofs.Sums.{wsum, wsum-zero, wsum-none, wsum-at, weight, countOf-wsum}
 use Rattle.layouts.proofs.Leaves.{Sided, size}
@@ -95,6 +94,7 @@ module _ (job : Job) (l : Listing) (m : Model job l) where
     type-spent zero k h = any-type k (λ c i s. absurd (omega (arith, cut-size c i)))
     type-spent (suc n) k h = any-type k (λ c i s. type-spent n (cutAt l c .plate) (omega arith))
 
+    -- every count ends at 0, and each cut was done as often as it was counted
     pub spends : (c : ℕ) → getD ns′ c 0 ≡ 0
     spends c = there c (type-spent largest (cutAt l (1 + c) .plate) (omega arith))
 
@@ -116,5 +116,6 @@ module _ (job : Job) (l : Listing) (m : Model job l) where
     done-sum =
         spends-sum sided ns ns′ past′ (λ f. fsum f ts) (grows-sum l g) (not-found l 0 ns′ past′ (grows-ended l g)) (λ k p h. taken-all job l m k p g past h) (balanced ns past a)
 
+    -- the cuts done of one number
     pub done-each : (c : ℕ) → fsum (λ d. bit (eqb d (1 + c))) ts ≡ getD ns c 0
     done-each c = done-sum (λ d. bit (eqb d (1 + c))) ∙ wsum-at 1 ns c

@@ -2,7 +2,7 @@
 -- Assumes nothing.
 use Prim.Native.Nat.{ℕ, zero, suc, _+_, _-_, _≤_, _<_}
 use native.Mathlib.Omega.{arith}
-use mathlib.Core.Path.{_≡_, refl, sym, _∙_, ap}
+use mathlib.Core.Path.{_≡_, refl, sym, _∙_}
 use mathlib.Core.Logic.{_⊎_, inl, inr, _≢_}
 use mathlib.Core.Bool.{Bool, true, false, cond, _&&_}
 use lib.Dec.{leb, eqb}
@@ -10,7 +10,6 @@ use lib.ListN.{length, getD}
 use borrow.Author.Tests.{leb-true, lt-leb, eqb-true, eqb-false}
 use Rattle.job.specs.declared.mode.Mode.{Mode}
 use Rattle.job.specs.declared.item.Item.{Item}
-use Rattle.job.specs.Lists.{any}
 use Rattle.job.specs.Mode.{three}
 use Rattle.job.specs.Job.{Job, itemAt, noItem}
 use Rattle.listing.specs.declared.plate.Plate.{Plate}

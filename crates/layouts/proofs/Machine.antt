@@ -1,25 +1,21 @@
 -- Document 01, "Unfolding": the machine with at most three pieces waiting does the cuts of the trees, and places their items in turn.
 -- Assumes nothing.
-use Prim.Native.Nat.{ℕ, zero, suc, _+_, _*_, _≤_, _<_}
+use Prim.Native.Nat.{ℕ, suc, _+_, _*_, _<_}
 use native.Mathlib.Omega.{arith}
-use mathlib.Core.Path.{_≡_, refl, sym, _∙_, ap, subst}
-use mathlib.Core.Bool.{Bool, true, false, cond}
-use mathlib.Core.List.{List, [], _∷_, _++_, map}
+use mathlib.Core.Path.{_≡_, refl}
+use mathlib.Core.List.{List, [], _∷_, _++_}
 use mathlib.Core.Option.{Option, none, some}
-use lib.Dec.{eqb}
-use lib.ListN.{length}
-use Rattle.job.specs.Lists.{sumOf}
 use Rattle.job.specs.Job.{Job}
-use Rattle.listing.specs.Listing.{Cut, Listing, plateAt, cutAt}
+use Rattle.listing.specs.Listing.{Listing, plateAt, cutAt}
 use Rattle.listing.specs.Model.{Model}
 use Rattle.layouts.specs.Layout.{widthOf, heightOf}
-use Rattle.layouts.specs.Placement.{Turn, turn, Placement, stackLines}
-use Rattle.layouts.specs.Unfold.{Piece, State, spent}
-use Rattle.layouts.proofs.Tree.{Tree, leaf, node, tsum, fsum}
+use Rattle.layouts.specs.Placement.{turn, Placement, stackLines}
+use Rattle.layouts.specs.Unfold.{Piece, spent}
+use Rattle.layouts.proofs.Tree.{Tree, leaf, node, tsum}
 use Rattle.layouts.proofs.Pattern.{branchOf, restOf, stackOf}
 use Rattle.layouts.proofs.Leaves.{Sided}
 use Rattle.layouts.proofs.Cuts.{IsCut, plateOf}
-use Rattle.layouts.proofs.Stages.{branch-1, rest-1, branch-2, rest-2, branch-3, rest-3, top-1, right-1, top-2, right-2, top-3, right-3, branch-stage-1, rest-stage-1, branch-stage-2, rest-stage-2, branch-stage-3, rest-stage-3}
+use Rattle.layouts.proofs.Stages.{cut-stage, branch-1, rest-1, branch-2, rest-2, rest-3, top-1, right-1, top-2, right-2, top-3, right-3, branch-stage-1, rest-stage-1, branch-stage-2, rest-stage-2, branch-stage-3, rest-stage-3}
 use Rattle.layouts.proofs.CutTree.{itemTree}
 use Rattle.layouts.proofs.Search.{found-cut}
 use Rattle.layouts.proofs.Greedy.{pick, Grow, wasted, over, cut}
@@ -60,6 +56,7 @@ module _ (job : Job) (l : Listing) (m : Model job l) (sided : Sided job) where
     is-cut : IsCut l c
     is-cut = found-cut l j ns c q .0
 
+    -- at stage 3, 2 and 1
     place-3 : plateOf l c .stage ≡ 3 → (ns₁ : List ℕ) → ns₁ ≡ spent ns c
         → Leads job l 1 (state u v (some (piece j x y)) (turn bd s k p) ns) (placement (turn bd s k (suc p)) i x y ∷ [])
         (state u v (slot (restOf l c) x (y + heightOf job i)) (turn bd s k (suc p)) ns₁)
@@ -89,7 +86,7 @@ module _ (job : Job) (l : Listing) (m : Model job l) (sided : Sided job) where
   reach-3 (over {j} {ns} q) h u v x y bd s k p = (p, step-over job l _ _ _ (over-3 job l u v (suc j) x y (turn bd s k p) ns q))
   reach-3 (cut {j} {c} {ns} {ns₁} {ns₂} {a} {b} q g r) h u v x y bd s k p =
       let (i, on) = found-cut l (suc j) ns c q in
-      let e : plateOf l c .stage ≡ 3 = ap (λ (z : ℕ). plateAt l z .stage) on ∙ h (omega arith) in
+      let e : plateOf l c .stage ≡ 3 = cut-stage l c (suc j) 3 on (h (omega arith)) in
       let (_, same) = grow-none l g (branch-stage-3 job l m sided c i e) in
       let (p′, w) = reach-3 r (rest-stage-3 job l m sided c i e) u v x (y + heightOf job (cutAt l c .item)) bd s k (suc p) in (
         p′,
@@ -104,7 +101,7 @@ module _ (job : Job) (l : Listing) (m : Model job l) (sided : Sided job) where
   reach-2 (over {j} {ns} q) h u x y bd s k p = (k, p, step-over job l _ _ _ (over-2 job l u none (suc j) x y (turn bd s k p) ns q))
   reach-2 (cut {j} {c} {ns} {ns₁} {ns₂} {a} {b} q g r) h u x y bd s k p =
       let (i, on) = found-cut l (suc j) ns c q in
-      let e : plateOf l c .stage ≡ 2 = ap (λ (z : ℕ). plateAt l z .stage) on ∙ h (omega arith) in
+      let e : plateOf l c .stage ≡ 2 = cut-stage l c (suc j) 2 on (h (omega arith)) in
       let (p₁, w) = reach-3 g (branch-stage-2 job l m sided c i e) u (slot (restOf l c) (x + widthOf job (cutAt l c .item)) y) x (y + heightOf job (cutAt l c .item)) bd s (suc k) 1 in
       let (k′, p′, w′) = reach-2 r (rest-stage-2 job l m sided c i e) u (x + widthOf job (cutAt l c .item)) y bd s (suc k) p₁ in (
         k′,
@@ -120,7 +117,7 @@ module _ (job : Job) (l : Listing) (m : Model job l) (sided : Sided job) where
   reach-1 (over {j} {ns} q) h y bd s k p = (s, k, p, step-over job l _ _ _ (over-1 job l none none (suc j) 0 y (turn bd s k p) ns q))
   reach-1 (cut {j} {c} {ns} {ns₁} {ns₂} {a} {b} q g r) h y bd s k p =
       let (i, on) = found-cut l (suc j) ns c q in
-      let e : plateOf l c .stage ≡ 1 = ap (λ (z : ℕ). plateAt l z .stage) on ∙ h (omega arith) in
+      let e : plateOf l c .stage ≡ 1 = cut-stage l c (suc j) 1 on (h (omega arith)) in
       let (k₁, p₁, w) = reach-2 g (branch-stage-1 job l m sided c i e) (slot (restOf l c) 0 (y + heightOf job (cutAt l c .item))) (0 + widthOf job (cutAt l c .item)) y bd (suc s) 1 1 in
       let (s′, k′, p′, w′) = reach-1 r (rest-stage-1 job l m sided c i e) (y + heightOf job (cutAt l c .item)) bd (suc s) k₁ p₁ in (
         s′,

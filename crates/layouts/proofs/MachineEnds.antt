@@ -1,33 +1,33 @@
 -- Document 01, "Unfolding": of an accepted plan the machine does the cuts of the boards' trees, spends every count, and its steps are enough.
 -- Assumes nothing.
-use Prim.Native.Nat.{ℕ, zero, suc, _+_, _*_, _-_, _≤_, _<_}
+use Prim.Native.Nat.{ℕ, suc, _+_, _*_, _-_, _≤_, _<_}
 use native.Mathlib.Omega.{arith}
 use mathlib.Core.Path.{_≡_, refl, sym, _∙_, ap}
-use mathlib.Core.List.{List, [], _∷_, _++_, map, append-nil}
-use mathlib.Core.Option.{Option, none, some}
+use mathlib.Core.List.{List, map, append-nil}
+use mathlib.Core.Option.{none, some}
 use lib.Dec.{eqb}
 use lib.ListN.{length, getD}
 use Rattle.job.specs.Lists.{sumOf}
 use Rattle.job.specs.Job.{Job}
-use Rattle.listing.specs.Listing.{Cut, Listing, plateAt, cutAt}
+use Rattle.listing.specs.Listing.{Listing, cutAt}
 use Rattle.listing.specs.Model.{Model}
-use Rattle.plan.specs.Plan.{countOf, onPlate, boards, total}
+use Rattle.plan.specs.Plan.{onPlate, boards, total}
 use Rattle.plan.proofs.PlanExact.{Accepted, NonePast}
 use Rattle.layouts.specs.Layout.{widthOf, heightOf}
-use Rattle.layouts.specs.Placement.{Turn, turn, Placement}
-use Rattle.layouts.specs.Unfold.{State, spent, nothingWaits, openBoard, Run, run, stepsFor, unfolded}
+use Rattle.layouts.specs.Placement.{turn, Placement}
+use Rattle.layouts.specs.Unfold.{State, openBoard, Run, run, stepsFor, unfolded}
 use Rattle.layouts.proofs.CountBasics.{bit, bit-same, length-sum}
-use Rattle.layouts.proofs.Tree.{Tree, leaf, node, tsum, fsum}
-use Rattle.layouts.proofs.Pattern.{branchOf, restOf}
+use Rattle.layouts.proofs.Tree.{Tree, fsum}
+use Rattle.layouts.proofs.Pattern.{restOf}
 use Rattle.layouts.proofs.Sums.{wsum, weight, total-wsum, countOf-wsum}
 use Rattle.layouts.proofs.Leaves.{Sided}
-use Rattle.layouts.proofs.Cuts.{IsCut, plateOf}
-use Rattle.layouts.proofs.Stages.{branch-stage-1, rest-stage-1}
+use Rattle.layouts.proofs.Cuts.{plateOf}
+use Rattle.layouts.proofs.Stages.{board-stage, branch-stage-1, rest-stage-1}
 use Rattle.layouts.proofs.Balance.{Roots, boards-set}
 use Rattle.layouts.proofs.CutTree.{itemTree}
 use Rattle.layouts.proofs.TreeItems.{roots-items}
-use Rattle.layouts.proofs.Search.{onSum, found-cut, spent-sum, spent-past, not-found}
-use Rattle.layouts.proofs.Greedy.{pick, Grow, Grows, ended, opened, grow-past, grows, grows-past, grows-ended, grows-ok}
+use Rattle.layouts.proofs.Search.{found-cut, spent-sum, spent-past, not-found}
+use Rattle.layouts.proofs.Greedy.{pick, Grows, ended, opened, grow-past, grows, grows-past, grows-ended, grows-ok}
 use Rattle.layouts.proofs.GreedyEnds.{all-spent, done-sum, done-each}
 use Rattle.layouts.proofs.MachineSteps.{state, slot, before, stays, Leads, no-step, _and-then_, more-steps, step-open, step-ends, none-waits}
 use Rattle.layouts.proofs.Machine.{emitSet, place-1, reach-1, reach-2}
@@ -76,7 +76,7 @@ module _ (job : Job) (l : Listing) (m : Model job l) (sided : Sided job) where
   reach-0 (ended q) past bd s k p = (bd, s, k, p, omega arith, no-step job l _)
   reach-0 (opened {c} {ns} {ns₁} {ns₂} {ns₃} {a} {b} {ts} q g r gs) past bd s k p =
       let (i, on) = found-cut l 0 ns c q in
-      let e : plateOf l c .stage ≡ 1 = ap (λ (z : ℕ). plateAt l z .stage) on ∙ ap (λ z. z .stage) (m .first) in
+      let e : plateOf l c .stage ≡ 1 = board-stage job l m c on in
       let past₁ = grow-past l g (spent-past l 0 ns c q past) in
       let w : ℕ = widthOf job (cutAt l c .item) in
       let h : ℕ = heightOf job (cutAt l c .item) in

@@ -1,9 +1,9 @@
 -- The items that the machine places are those of the layouts of its trees.
 -- Assumes nothing.
-use Prim.Native.Nat.{ℕ, zero, suc, _+_}
+use Prim.Native.Nat.{ℕ, suc, _+_}
 use native.Mathlib.Omega.{arith}
-use mathlib.Core.Path.{_≡_, refl, sym, _∙_, ap}
-use mathlib.Core.List.{List, [], _∷_, _++_, map, flatMap}
+use mathlib.Core.Path.{_≡_, refl}
+use mathlib.Core.List.{List, [], _∷_, map, flatMap}
 use Rattle.job.specs.Lists.{sumOf}
 use Rattle.job.specs.Job.{Job}
 use Rattle.listing.specs.Listing.{Listing}

@@ -1,16 +1,14 @@
 -- Document 01, "Unfolding": single steps of the machine, and runs of several steps from one state to another.
 -- Assumes nothing.
-use Prim.Native.Nat.{ℕ, zero, suc, _+_, _*_, _≤_, _<_}
+use Prim.Native.Nat.{ℕ, zero, suc, _+_, _≤_, _<_}
 use native.Mathlib.Omega.{arith}
-use native.Mathlib.Nat.{zero-add, suc-add, add-assoc}
-use mathlib.Core.Path.{_≡_, refl, sym, _∙_, ap}
-use mathlib.Core.Bool.{Bool, true, false}
-use mathlib.Core.List.{List, [], _∷_, _++_, append-assoc, append-nil}
+use native.Mathlib.Nat.{zero-add, add-assoc}
+use mathlib.Core.Path.{_≡_, refl, _∙_, ap}
+use mathlib.Core.List.{List, [], _∷_, _++_, append-assoc}
 use mathlib.Core.Option.{Option, none, some}
-use lib.Dec.{ltb, eqb}
 use borrow.Author.Tests.{lt-ltb, le-ltb}
-use Rattle.job.specs.Job.{Job, itemAt}
-use Rattle.listing.specs.Listing.{Cut, Listing, plateAt, cutAt}
+use Rattle.job.specs.Job.{Job}
+use Rattle.listing.specs.Listing.{Listing, plateAt, cutAt}
 use Rattle.plan.specs.Plan.{boards}
 use Rattle.layouts.specs.Layout.{widthOf, heightOf}
 use Rattle.layouts.specs.Placement.{Turn, turn, Placement}
@@ -20,6 +18,7 @@ use Rattle.layouts.specs.Unfold.{Piece, Waiting, waiting, State, spent, 
 abbrev pub state : Option Piece → Option Piece → Option Piece → Turn → List ℕ → State
 state a b c t ns = record { counts = ns; waiting = waiting a b c; turn = t }
 
+-- a piece of plate type j at (x, y)
 abbrev pub piece : ℕ → ℕ → ℕ → Piece
 piece j x y = record { plate = j; x = x; y = y }
 
@@ -28,6 +27,7 @@ abbrev pub slot : ℕ → ℕ → ℕ → Option Piece
 slot zero x y = none
 slot (suc j) x y = some (piece (suc j) x y)
 
+-- an item of type i at (x, y)
 abbrev pub placement : Turn → ℕ → ℕ → ℕ → Placement
 placement t i x y = record { turn = t; item = i; x = x; y = y }
 
@@ -46,9 +46,11 @@ module _ (job : Job) (l : Listing) where
     pub few : steps ≤ most
     pub runs : (fuel : ℕ) → run (steps + fuel) job l st ≡ before ps (run fuel job l st′)
 
+  -- no step at all
   pub no-step : (st : State) → Leads 0 st [] st
   no-step st = record { steps = 0; few = omega arith; runs = λ fuel. rw (zero-add fuel) }
 
+  -- one run and then another
   pub _and-then_ : {m n : ℕ} {st st′ st″ : State} {ps qs : List Placement} → Leads m st ps st′ → Leads n st′ qs st″ → Leads (m + n) st (ps ++ qs) st″
   _and-then_ {st = st} {ps = ps} {qs = qs} p q =
       record {
@@ -132,6 +134,7 @@ module _ (job : Job) (l : Listing) where
   wait-3 (suc j) x y a b h = ap (λ (z : ℕ). waitAt z (piece (suc j) x y) (waiting a b none)) (h (omega arith))
 
   module _ (a b : Option Piece) (j x y bd s k p : ℕ) (ns : List ℕ) (c : ℕ) (found : search j 1 (l .cuts) ns ≡ some c) where
+    -- the item, the top and the right of the cut
     abbrev i : ℕ
     i = cutAt l c .item
 

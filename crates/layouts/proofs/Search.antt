@@ -2,23 +2,22 @@
 -- Assumes nothing.
 use Prim.Native.Nat.{ℕ, zero, suc, _+_, _-_, _≤_, _<_}
 use native.Mathlib.Omega.{arith}
-use native.Mathlib.Nat.{add-zero, add-suc, suc-add}
-use mathlib.Core.Path.{_≡_, refl, sym, _∙_, ap}
+use mathlib.Core.Path.{_≡_, refl, sym}
 use mathlib.Core.Logic.{_⊎_, inl, inr, _≢_}
 use mathlib.Core.Bool.{Bool, true, false, _&&_}
 use mathlib.Core.List.{List, [], _∷_}
 use mathlib.Core.Option.{Option, none, some}
 use lib.Dec.{ltb, eqb}
-use lib.ListN.{length, getD, set, length-set}
+use lib.ListN.{length, getD, length-set}
 use lib.Seq.{getD-set-other}
-use borrow.Author.Tests.{ltb-true, ltb-false, eqb-true, eqb-false, eq-eqb, lt-ltb, le-ltb}
+use borrow.Author.Tests.{ltb-true, ltb-false, eqb-true, eq-eqb}
 use Rattle.listing.specs.Listing.{Cut, Listing, cutAt, noCut}
-use Rattle.plan.specs.Plan.{countOf, onPlate, boards}
+use Rattle.plan.specs.Plan.{onPlate}
 use Rattle.plan.proofs.CountBasics.{le-or-lt}
 use Rattle.plan.proofs.PlanExact.{NonePast}
 use Rattle.layouts.specs.Unfold.{search, spent}
-use Rattle.layouts.proofs.CountBasics.{eq?, bit, bit-diff}
-use Rattle.layouts.proofs.Sums.{wsum, wsum-dec, wsum-zero, wsum-none, weight, countOf-wsum}
+use Rattle.layouts.proofs.CountBasics.{eq?, bit-diff}
+use Rattle.layouts.proofs.Sums.{wsum, wsum-dec, wsum-none, weight}
 use Rattle.layouts.proofs.Cuts.{IsCut}
 
 none-no-some : {c : ℕ} → _≡_ {A = Option ℕ} none (some c) → ⊥
@@ -89,6 +88,7 @@ module _ (l : Listing) where
   pub found : (j : ℕ) (ns : List ℕ) (c : ℕ) → search j 1 (l .cuts) ns ≡ some c → (d : ℕ) × (c ≡ suc d) × At j (l .cuts) ns d
   found j ns c h = let (d, e, r) = search-some j 1 (l .cuts) ns c h in (d, omega arith, r)
 
+  -- it is a cut on that plate type
   pub found-cut : (j : ℕ) (ns : List ℕ) (c : ℕ) → search j 1 (l .cuts) ns ≡ some c → IsCut l c × (cutAt l c .plate ≡ j)
   unfolding cutAt
   found-cut j ns c h = let (d, e, r) = found j ns c h in (omega (arith, r .in-cuts), rw e (r .on))
@@ -101,6 +101,7 @@ module _ (l : Listing) where
       let s : 1 + d ≡ suc d = omega arith in
       rw e (rw s at (wsum-dec f 1 ns d (getD ns d 0 - 1) (omega (arith, r .left))))
 
+  -- there are as many counts, and words past the last cut stay 0
   pub spent-length : (ns : List ℕ) (c : ℕ) → length (spent ns c) ≡ length ns
   unfolding spent
   spent-length ns zero = refl

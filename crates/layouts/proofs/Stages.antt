@@ -1,19 +1,26 @@
 -- The stages of a cut's residuals in a model: at stage 1 top is of stage 1 and right of stage 2, at stage 2 top of stage 3 and right of stage 2,
 -- at stage 3 top of stage 3 and no right.
 -- Assumes nothing.
-use Prim.Native.Nat.{ℕ, _≤_, _<_}
+use Prim.Native.Nat.{ℕ, _<_}
 use native.Mathlib.Omega.{arith}
-use mathlib.Core.Path.{_≡_, refl, sym, _∙_, ap}
+use mathlib.Core.Path.{_≡_, sym, _∙_, ap}
 use mathlib.Core.Logic.{_⊎_, inl, inr}
-use mathlib.Core.Bool.{true, false}
 use Rattle.job.specs.Job.{Job, itemAt}
 use Rattle.listing.specs.declared.plate.Plate.{Plate}
-use Rattle.listing.specs.Plate.{waste, kept}
-use Rattle.listing.specs.Listing.{Cut, Listing, plateAt, cutAt}
+use Rattle.listing.specs.Plate.{waste}
+use Rattle.listing.specs.Listing.{Listing, plateAt, cutAt}
 use Rattle.listing.specs.Model.{Model, Numbered, leftBy}
 use Rattle.layouts.proofs.Pattern.{branchOf, restOf}
 use Rattle.layouts.proofs.Leaves.{Sided, stages-1, stages-2, stages-3, none-kept}
 use Rattle.layouts.proofs.Cuts.{IsCut, plateOf, top-number, right-number, number-kept}
+
+-- a cut has the stage of the plate type that it is on
+pub cut-stage : (l : Listing) (c j s : ℕ) → cutAt l c .plate ≡ j → plateAt l j .stage ≡ s → plateOf l c .stage ≡ s
+cut-stage l c j s e f = ap (λ (z : ℕ). plateAt l z .stage) e ∙ f
+
+-- a cut on type 0 is of stage 1
+pub board-stage : (job : Job) (l : Listing) → Model job l → (c : ℕ) → cutAt l c .plate ≡ 0 → plateOf l c .stage ≡ 1
+board-stage job l m c e = cut-stage l c 0 1 e (ap (λ (q : Plate). q .stage) (m .first))
 
 -- which residual is the branch and which the rest, by the stage
 pub branch-1 : (l : Listing) (c : ℕ) → plateOf l c .stage ≡ 1 → branchOf l c ≡ cutAt l c .right
@@ -46,6 +53,7 @@ module _ (job : Job) (l : Listing) (m : Model job l) (sided : Sided job) where
   number-stage q r s k e h = ap (λ (p : Plate). p .stage) (number-kept job l m q r k h .2) ∙ e
 
   module _ (c : ℕ) (i : IsCut l c) where
+    -- the stages of top and right, by the stage of the cut
     pub top-1 : plateOf l c .stage ≡ 1 → 0 < cutAt l c .top → plateAt l (cutAt l c .top) .stage ≡ 1
     top-1 e = number-stage _ (cutAt l c .top) 1 (top-number job l m c i) (stages-1 (job .mode) (itemAt job (cutAt l c .item)) (plateOf l c) e .0)
 

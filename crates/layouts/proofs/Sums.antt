@@ -1,9 +1,9 @@
 -- Weighted sums over counts: each count times a weight of its cut's number.
 -- Assumes nothing.
-use Prim.Native.Nat.{ℕ, zero, suc, _+_, _*_, _-_, _≤_, _<_}
+use Prim.Native.Nat.{ℕ, zero, suc, _+_, _*_, _≤_, _<_}
 use native.Mathlib.Omega.{arith}
 use native.Mathlib.Nat.{add-zero, add-suc, suc-add, mul-le-mul-right}
-use mathlib.Core.Path.{_≡_, refl, sym, _∙_, ap}
+use mathlib.Core.Path.{_≡_, refl, sym, _∙_}
 use mathlib.Core.Logic.{_⊎_, inl, inr, _≢_}
 use mathlib.Core.Bool.{Bool, true, false, cond}
 use mathlib.Core.List.{List, [], _∷_}
@@ -47,6 +47,7 @@ wsum-agree f g k (n ∷ ns) h =
     go rest (inl e) = rw e (omega arith)
     go rest (inr d) = let z : f k ≡ g k = rw add-zero at (h zero (omega arith)) in rw z (omega arith)
 
+-- weights of 0
 pub wsum-zeros : (k : ℕ) (ns : List ℕ) → wsum (λ _. 0) k ns ≡ 0
 unfolding wsum
 wsum-zeros k [] = refl

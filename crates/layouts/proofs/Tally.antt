@@ -3,9 +3,9 @@
 use Prim.Native.Nat.{ℕ, zero, suc, _+_, _*_, _≤_, _<_}
 use native.Mathlib.Omega.{arith}
 use native.Mathlib.Nat.{add-zero, add-suc, suc-add}
-use mathlib.Core.Path.{_≡_, refl, sym, _∙_, ap}
+use mathlib.Core.Path.{_≡_, refl, ap}
 use mathlib.Core.Logic.{_⊎_, inl, inr, _≢_}
-use mathlib.Core.Bool.{Bool, true, false, cond}
+use mathlib.Core.Bool.{Bool, true, false}
 use mathlib.Core.List.{List, [], _∷_, _++_}
 use lib.Dec.{eqb}
 use lib.ListN.{length, getD}
@@ -29,6 +29,7 @@ unfolding sumOf occurs
 occurs-sum i [] = refl
 occurs-sum i (k ∷ ks) = omega (arith, occurs-cons i k ks, occurs-sum i ks)
 
+-- a count for each of the numbers
 pub tally-length : (n k : ℕ) (ks : List ℕ) → length (tally n k ks) ≡ n
 unfolding tally
 tally-length zero k ks = refl
@@ -46,6 +47,7 @@ abbrev pub Ranged : ℕ → ℕ → List ℕ → Type 0
 Ranged n k [] = Unit {0}
 Ranged n k (d ∷ ks) = (k ≤ d) × (d < k + n) × Ranged n k ks
 
+-- so is every number of two such lists in a row
 pub ranged-append : (n k : ℕ) (ks ms : List ℕ) → Ranged n k ks → Ranged n k ms → Ranged n k (ks ++ ms)
 ranged-append n k [] ms p q = q
 ranged-append n k (d ∷ ks) ms p q = (p .0, p .1, ranged-append n k ks ms (p .2) q)
@@ -90,7 +92,7 @@ tally-le f n k (d ∷ ks) = go (tally-le f n k ks) (le-or-lt k d) (le-or-lt (k +
     go rec (inl p) (inr q) = omega (arith, tally-cons f n k d ks p q)
     go rec (inr p) q = omega (arith, tally-skip f n k d ks (λ c r e. omega arith))
 
--- the labels of a tree, of some trees, in the order of cutting
+-- sums over the labels of a tree, and of some trees, in the order of cutting
 pub labels-sum : (f : ℕ → ℕ) (t : Tree) → sumOf f (labels t) ≡ tsum f t
 unfolding sumOf
 labels-sum f leaf = refl

@@ -1,12 +1,12 @@
 -- The items of the layouts of trees of cuts: of each type as many as the trees have cuts of it.
 -- Assumes nothing.
-use Prim.Native.Nat.{ℕ, zero, suc, _+_, _≤_, _<_}
+use Prim.Native.Nat.{ℕ, _+_, _<_}
 use native.Mathlib.Omega.{arith}
-use mathlib.Core.Path.{_≡_, refl, sym, _∙_, ap}
-use mathlib.Core.List.{List, [], _∷_, _++_, map, flatMap}
+use mathlib.Core.Path.{_≡_, refl, ap}
+use mathlib.Core.List.{List, [], _∷_, map, flatMap}
 use Rattle.job.specs.Lists.{sumOf}
 use Rattle.job.specs.Job.{Job}
-use Rattle.listing.specs.Listing.{Cut, Listing, plateAt, cutAt}
+use Rattle.listing.specs.Listing.{Listing, plateAt, cutAt}
 use Rattle.listing.specs.Model.{Model}
 use Rattle.layouts.specs.Layout.{Stack, Strip, Board}
 use Rattle.layouts.specs.Placement.{itemsOfStrip, itemsOfBoard, itemsOfSet}
@@ -15,8 +15,8 @@ use Rattle.layouts.proofs.Tree.{Tree, leaf, node, tsum, fsum}
 use Rattle.layouts.proofs.Pattern.{branchOf, restOf, stackOf, stripOf, boardOf}
 use Rattle.layouts.proofs.Leaves.{Sided}
 use Rattle.layouts.proofs.Cuts.{IsCut, plateOf}
-use Rattle.layouts.proofs.Stages.{branch-stage-1, rest-stage-1, branch-stage-2, rest-stage-2, branch-stage-3, rest-stage-3}
-use Rattle.layouts.proofs.Balance.{Ok, Root, Roots}
+use Rattle.layouts.proofs.Stages.{cut-stage, board-stage, branch-stage-1, rest-stage-1, branch-stage-2, rest-stage-2, branch-stage-3, rest-stage-3}
+use Rattle.layouts.proofs.Balance.{Ok, Root, Roots, ok-none}
 use Rattle.layouts.proofs.CutTree.{itemTree}
 
 -- the layout of a tree of cuts
@@ -42,19 +42,14 @@ module _ (f : ℕ → ℕ) where
     abbrev ofCut : ℕ → ℕ
     ofCut c = f (cutAt l c .item)
 
-    -- from 0 nothing is cut
-    none-cut : (j : ℕ) (t : Tree) → Ok l j t → j ≡ 0 → tsum ofCut t ≡ 0
-    none-cut j leaf h e = refl
-    none-cut j (node c a b) h e = absurd (omega (arith, h .0))
-
     items-3 : (j : ℕ) (t : Tree) → Ok l j t → (0 < j → plateAt l j .stage ≡ 3) → sumOf f (stackOf (itemTree l t)) ≡ tsum ofCut t
     unfolding sumOf
     items-3 j leaf h s = refl
     items-3 j (node c a b) h s =
-        let e : plateOf l c .stage ≡ 3 = ap (λ (z : ℕ). plateAt l z .stage) (h .2) ∙ s (h .0) in
+        let e : plateOf l c .stage ≡ 3 = cut-stage l c j 3 (h .2) (s (h .0)) in
         omega (
           arith,
-          none-cut (branchOf l c) a (h .3) (branch-stage-3 job l m sided c (h .1) e),
+          ap (tsum ofCut) (ok-none l (branchOf l c) a (h .3) (branch-stage-3 job l m sided c (h .1) e)),
           items-3 (restOf l c) b (h .4) (rest-stage-3 job l m sided c (h .1) e),
         )
 
@@ -62,7 +57,7 @@ module _ (f : ℕ → ℕ) where
     unfolding sumOf itemsOfStrip flatMap
     items-2 j leaf h s = refl
     items-2 j (node c a b) h s =
-        let e : plateOf l c .stage ≡ 2 = ap (λ (z : ℕ). plateAt l z .stage) (h .2) ∙ s (h .0) in
+        let e : plateOf l c .stage ≡ 2 = cut-stage l c j 2 (h .2) (s (h .0)) in
         omega (
           arith,
           strip-sum (cutAt l c .item ∷ stackOf (itemTree l a)) (stripOf (itemTree l b)),
@@ -87,16 +82,17 @@ module _ (f : ℕ → ℕ) where
     unfolding sumOf itemsOfBoard flatMap
     items-1 j leaf h s = refl
     items-1 j (node c a b) h s =
-        let e : plateOf l c .stage ≡ 1 = ap (λ (z : ℕ). plateAt l z .stage) (h .2) ∙ s (h .0) in
+        let e : plateOf l c .stage ≡ 1 = cut-stage l c j 1 (h .2) (s (h .0)) in
         items-node c a b (h .1) e (h .3) (items-1 (restOf l c) b (h .4) (rest-stage-1 job l m sided c (h .1) e))
 
     -- the items of a board's layout are those of its cuts
     pub root-items : (t : Tree) → Root l t → sumOf f (itemsOfBoard (layoutOf l t)) ≡ tsum ofCut t
     root-items leaf h = absurd h
     root-items (node c a b) h =
-        let e : plateOf l c .stage ≡ 1 = ap (λ (z : ℕ). plateAt l z .stage) (h .1) ∙ ap (λ q. q .stage) (m .first) in
+        let e : plateOf l c .stage ≡ 1 = board-stage job l m c (h .1) in
         items-node c a b (h .0) e (h .2) (items-1 (restOf l c) b (h .3) (rest-stage-1 job l m sided c (h .0) e))
 
+    -- the items of the layouts of some boards are those of their cuts
     pub roots-items : (ts : List Tree) → Roots l ts → sumOf f (itemsOfSet (map (layoutOf l) ts)) ≡ fsum ofCut ts
     unfolding sumOf itemsOfSet flatMap
     roots-items [] h = refl

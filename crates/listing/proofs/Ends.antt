@@ -15,6 +15,19 @@ use Rattle.listing.proofs.Growth.{done-longer, done-plate, done-count}
 use Rattle.listing.proofs.Steps.{limited-going, limited-cuts, limited-plates, pair-skipped, pair-cut, items-drop-going, items-drop-stopped, items-drop-end, plates-going, plates-stopped, plates-end}
 use Rattle.listing.proofs.Reached.{Reached, start, skipped, done, row, after, begun, Few}
 
+-- the pair that makes listing l into l′ passes a limit: as a cut that of cuts, which is 7, or else by its residuals that of plate types, which is 6
+pub data Over (P C n : ℕ) (l l′ : Listing) : Type 0 where
+  by-cut : n ≡ 7 → length (l .cuts) ≡ C → Over P C n l l′
+  by-plate : n ≡ 6 → length (l .cuts) < C → P < length (l′ .plates) → Over P C n l l′
+
+pub over-seven : {P C : ℕ} {l l′ : Listing} → Over P C 7 l l′ → length (l .cuts) ≡ C
+over-seven (by-cut e h) = h
+over-seven (by-plate e h k) = absurd (omega arith)
+
+pub over-six : {P C : ℕ} {l l′ : Listing} → Over P C 6 l l′ → (length (l .cuts) < C) × (P < length (l′ .plates))
+over-six (by-cut e h) = absurd (omega arith)
+over-six (by-plate e h k) = (h, k)
+
 module _ (P C : ℕ) (job : Job) where
   -- the walk has done every plate type, within both limits
   pub record Complete (l : Listing) : Type 0 where
@@ -23,8 +36,7 @@ module _ (P C : ℕ) (job : Job) where
     pub few : Few P C l
     pub none-left : length (l .plates) ≤ place
 
-  -- the walk has come, within both limits, to a permitted pair with which it passes one: as a cut that of cuts, which is 7, or else by
-  -- its residuals that of plate types, which is 6
+  -- the walk has come, within both limits, to a permitted pair with which it passes one
   pub record Halted (n : ℕ) : Type 0 where
     pub plate : ℕ
     pub item : ℕ
@@ -34,9 +46,7 @@ module _ (P C : ℕ) (job : Job) where
     pub on-plate : plate < length (listing .plates)
     pub of-item : item ≤ length (job .items)
     pub allowed : mayCut (job .mode) (itemAt job item) (plateAt listing plate) ≡ true
-    pub passed :
-        ((n ≡ 7) × (length (listing .cuts) ≡ C))
-        ⊎ ((n ≡ 6) × (length (listing .cuts) < C) × (P < length (after job plate item listing .plates)))
+    pub passed : Over P C n listing (after job plate item listing)
 
   abbrev pub Ended : Walk → Type 0
   Ended (going l) = Complete l
@@ -76,7 +86,12 @@ module _ (P C : ℕ) (job : Job) where
       go :
           (t : Bool)
           → mayCut (job .mode) (itemAt job (suc k)) (plateAt l j) ≡ t
-          → ((l′ : Listing) → suc k + m ≡ length (job .items) → Reached job j (suc (suc k)) l′ → Few P C l′ → j < length (l′ .plates) → RowEnded j (overItems P C job j (plateAt l′ j) (suc (suc k)) (drop (suc k) (job .items)) l′))
+          → ((l′ : Listing)
+          → suc k + m ≡ length (job .items)
+          → Reached job j (suc (suc k)) l′
+          → Few P C l′
+          → j < length (l′ .plates)
+          → RowEnded j (overItems P C job j (plateAt l′ j) (suc (suc k)) (drop (suc k) (job .items)) l′))
           → RowEnded j (overItems P C job j (plateAt l j) (suc k) (drop k (job .items)) l)
       go false c ih =
           rw
@@ -88,7 +103,7 @@ module _ (P C : ℕ) (job : Job) where
           is-pair : pair P C job j (plateAt l j) (suc k) (itemAt job (suc k)) l ≡ limited P C job next
           is-pair = pair-cut P C job j (plateAt l j) (suc k) (itemAt job (suc k)) l c
 
-          halted : (n : ℕ) → ((n ≡ 7) × (length (l .cuts) ≡ C)) ⊎ ((n ≡ 6) × (length (l .cuts) < C) × (P < length (next .plates))) → Halted n
+          halted : (n : ℕ) → Over P C n l next → Halted n
           halted n p =
               record {
                 plate = j;
@@ -110,12 +125,12 @@ module _ (P C : ℕ) (job : Job) where
               rw
               (items-drop-stopped P C job j (plateAt l j) (suc k) k (job .items) l 7 b
               (is-pair ∙ limited-cuts P C job next p))
-              (halted 7 (inl (refl, omega (arith, n, f .few-cuts))))
+              (halted 7 (by-cut refl (omega (arith, n, f .few-cuts))))
           limits (inl p) (inr q) =
               rw
               (items-drop-stopped P C job j (plateAt l j) (suc k) k (job .items) l 6 b
               (is-pair ∙ limited-plates P C job next p q))
-              (halted 6 (inr (refl, omega (arith, n), q)))
+              (halted 6 (by-plate refl (omega (arith, n)) q))
           limits (inl p) (inl q) =
               rw
               (items-drop-going P C job j (plateAt l j) (suc k) k (job .items) l next b

@@ -2,7 +2,7 @@
 -- Assumes nothing.
 use Prim.Native.Nat.{ℕ, suc, _+_, _≤_, _<_}
 use native.Mathlib.Omega.{arith}
-use mathlib.Core.Path.{_≡_, refl, _∙_}
+use mathlib.Core.Path.{_≡_, refl, _∙_, ap}
 use mathlib.Core.List.{List, [], _∷_, _++_}
 use lib.ListN.{length, getD, length-append, List·getD-append}
 use lib.Seq.{getD-append-seam}
@@ -11,6 +11,7 @@ use Rattle.listing.specs.declared.plate.Plate.{Plate}
 use Rattle.listing.specs.declared.plate.Residuals.{Residuals}
 use Rattle.listing.specs.Plate.{waste}
 use Rattle.listing.specs.Listing.{Listing, noCut, plateAt, cutAt, entered, cutDone}
+use Rattle.listing.proofs.Steps.{cutOf, done-plates, done-cuts}
 use Rattle.listing.proofs.Numbers.{Entering, not-kept, met, fresh, entering}
 
 -- the elements of one list stand at the same places in the other, which may have more
@@ -32,6 +33,22 @@ module _ {A : Type 0} (d : A) where
         keeps = λ k h. b .keeps k (omega (arith, a .no-fewer)) ∙ a .keeps k h;
       }
 
+-- plate types and cuts keep their numbers
+pub record Grown (l l′ : Listing) : Type 0 where
+  pub plates-longer : Longer waste (l .plates) (l′ .plates)
+  pub cuts-longer : Longer noCut (l .cuts) (l′ .cuts)
+
+pub grown-same : (l : Listing) → Grown l l
+grown-same l =
+    record { plates-longer = longer-same waste (l .plates); cuts-longer = longer-same noCut (l .cuts) }
+
+pub grown-trans : (l l′ l″ : Listing) → Grown l l′ → Grown l′ l″ → Grown l l″
+grown-trans l l′ l″ a b =
+    record {
+      plates-longer = longer-trans waste (l .plates) (l′ .plates) (l″ .plates) (a .plates-longer) (b .plates-longer);
+      cuts-longer = longer-trans noCut (l .cuts) (l′ .cuts) (l″ .cuts) (a .cuts-longer) (b .cuts-longer);
+    }
+
 -- to enter a residual loses no plate type, and adds one at the most
 module _ (job : Job) (p : Plate) (ps : List Plate) where
   pub entered-longer : Longer waste ps (entered job p ps .plates)
@@ -52,43 +69,39 @@ module _ (job : Job) (p : Plate) (ps : List Plate) where
 
 -- the cut done with residuals r at plate type j with item type i
 module _ (job : Job) (j i : ℕ) (r : Residuals) (l : Listing) where
+  -- it loses no plate type, and adds two at the most
   pub done-longer : Longer waste (l .plates) (cutDone job j i r l .plates)
-  unfolding cutDone
   done-longer =
-      longer-trans waste (l .plates) (entered job (r .top) (l .plates) .plates) _ (entered-longer job (r .top) (l .plates))
-      (entered-longer job (r .right) (entered job (r .top) (l .plates) .plates))
+      let ps = entered job (r .top) (l .plates) .plates in
+      rw (done-plates job j i r l)
+      (longer-trans waste (l .plates) ps (entered job (r .right) ps .plates) (entered-longer job (r .top) (l .plates)) (entered-longer job (r .right) ps))
 
   pub done-two : length (cutDone job j i r l .plates) ≤ 2 + length (l .plates)
-  unfolding cutDone
   done-two =
-      omega (arith, entered-one job (r .top) (l .plates), entered-one job (r .right) (entered job (r .top) (l .plates) .plates))
+      let ps = entered job (r .top) (l .plates) .plates in
+      omega (arith, ap length (done-plates job j i r l), entered-one job (r .top) (l .plates), entered-one job (r .right) ps)
 
   -- a plate type keeps its number
   pub done-plate : (k : ℕ) → k < length (l .plates) → plateAt (cutDone job j i r l) k ≡ plateAt l k
   unfolding plateAt
   done-plate k h = done-longer .keeps k h
 
-  -- the cut is the next one
+  -- it is one cut more
   pub done-count : length (cutDone job j i r l .cuts) ≡ suc (length (l .cuts))
-  unfolding cutDone
-  done-count = simp length-append (omega arith)
+  done-count = rw (done-cuts job j i r l) (simp length-append (omega arith))
 
-  -- and the cuts before it keep their numbers
+  -- the cuts before it keep their numbers
   pub done-cuts-longer : Longer noCut (l .cuts) (cutDone job j i r l .cuts)
-  unfolding cutDone
-  done-cuts-longer = longer-append noCut (l .cuts) _
+  done-cuts-longer = rw (done-cuts job j i r l) (longer-append noCut (l .cuts) (cutOf job j i r (l .plates) ∷ []))
 
   pub done-cut : (c : ℕ) → c < length (l .cuts) → cutAt (cutDone job j i r l) (suc c) ≡ cutAt l (suc c)
   unfolding cutAt
   done-cut c h = done-cuts-longer .keeps c h
 
-  pub done-last :
-      cutAt (cutDone job j i r l) (suc (length (l .cuts)))
-      ≡ record {
-        plate = j;
-        item = i;
-        top = entered job (r .top) (l .plates) .number;
-        right = entered job (r .right) (entered job (r .top) (l .plates) .plates) .number;
-      }
-  unfolding cutAt cutDone
-  done-last = getD-append-seam (l .cuts) _ [] noCut
+  -- and it has the next number
+  pub done-last : cutAt (cutDone job j i r l) (suc (length (l .cuts))) ≡ cutOf job j i r (l .plates)
+  unfolding cutAt
+  done-last = rw (done-cuts job j i r l) (getD-append-seam (l .cuts) (cutOf job j i r (l .plates)) [] noCut)
+
+  pub done-grown : Grown l (cutDone job j i r l)
+  done-grown = record { plates-longer = done-longer; cuts-longer = done-cuts-longer }

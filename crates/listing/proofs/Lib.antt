@@ -11,3 +11,9 @@ pub mod Walked
 pub mod Reached
 pub mod Ends
 pub mod WalkModel
+pub mod RecordWords
+pub mod Along
+pub mod Fuel
+pub mod Limits
+pub mod ModelLaws
+pub mod Origin

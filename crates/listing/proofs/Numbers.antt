@@ -25,7 +25,12 @@ unfolding numberIn
 number-next p q qs h = rw (h, numberIn)
 
 -- the number is that of the first plate type that is the one
-pub number-first : (ps : List Plate) (p : Plate) (k : ℕ) → k < length ps → getD ps k waste ≡ p → ((j : ℕ) → j < k → getD ps j waste ≡ p → ⊥) → numberIn ps p ≡ k
+pub number-first :
+    (ps : List Plate) (p : Plate) (k : ℕ)
+    → k < length ps
+    → getD ps k waste ≡ p
+    → ((j : ℕ) → j < k → getD ps j waste ≡ p → ⊥)
+    → numberIn ps p ≡ k
 number-first [] p k h e f = absurd (omega arith)
 number-first (q ∷ qs) p zero h e f = number-here p q qs (equal-same p q (sym e))
 number-first (q ∷ qs) p (suc k) h e f =
@@ -77,7 +82,12 @@ number-found (q ∷ qs) p h = go (same p q) refl h (number-found qs p)
     at : Bool → ℕ
     at t = elim t [ true ↦ 0 | false ↦ suc (numberIn qs p) ]
 
-    go : (t : Bool) → same p q ≡ t → at t < suc (length qs) → (numberIn qs p < length qs → getD qs (numberIn qs p) waste ≡ p) → getD (q ∷ qs) (at t) waste ≡ p
+    go :
+        (t : Bool)
+        → same p q ≡ t
+        → at t < suc (length qs)
+        → (numberIn qs p < length qs → getD qs (numberIn qs p) waste ≡ p)
+        → getD (q ∷ qs) (at t) waste ≡ p
     go true s h f = sym (same-equal p q s)
     go false s h f = f (omega arith)
 

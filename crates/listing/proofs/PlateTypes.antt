@@ -46,7 +46,14 @@ module _ (job : Job) where
   -- a residual that is smaller than the board, and of stage 1 to 3 if it is kept, may be entered
   module _ (p : Plate) (ps : List Plate) (ok : PlatesOk ps) (less : sides p < sides (board job)) (stage : kept job p ≡ true → Staged p) where
     -- what holds of the plate types and of one more holds of all
-    snoc : (Q : Plate → Type 0) (lo : ℕ) → ((j : ℕ) → lo ≤ j → j < length ps → Q (getD ps j waste)) → Q p → (j : ℕ) → lo ≤ j → j < length (ps ++ (p ∷ [])) → Q (getD (ps ++ (p ∷ [])) j waste)
+    snoc :
+        (Q : Plate → Type 0) (lo : ℕ)
+        → ((j : ℕ) → lo ≤ j → j < length ps → Q (getD ps j waste))
+        → Q p
+        → (j : ℕ)
+        → lo ≤ j
+        → j < length (ps ++ (p ∷ []))
+        → Q (getD (ps ++ (p ∷ [])) j waste)
     snoc Q lo f g j h l = go (at-most-or-above (length ps) j)
       where
         go : (length ps ≤ j) ⊎ (j < length ps) → Q (getD (ps ++ (p ∷ [])) j waste)

@@ -62,7 +62,9 @@ module _ (job : Job) where
   pub reached-walked : Sided job → {j i : ℕ} {l : Listing} → Reached j i l → Walked job j i l
   reached-walked sided start = walked-start job
   reached-walked sided (skipped {j = j} {i = i} {l = l} r a b c) = walked-skip job j i l (reached-walked sided r) (λ f. not-both (f .allowed) c)
-  reached-walked sided (done {j = j} {i = i} {l = l} r a b c) = walked-cut job sided j i l (reached-walked sided r) a (record { from-one = reached-from-one r; to-last = b; allowed = c })
+  reached-walked sided (done {j = j} {i = i} {l = l} r a b c) =
+      walked-cut job sided j i l (reached-walked sided r) a
+      (record { from-one = reached-from-one r; to-last = b; allowed = c })
   reached-walked sided (row {j = j} {i = i} {l = l} r a b) = walked-row job j i l (reached-walked sided r) b a
 
 -- both limits are kept
@@ -104,7 +106,11 @@ module _ (P C : ℕ) (job : Job) where
   pub rest-plates : (j : ℕ) (l : Listing) → length (l .plates) ≤ P → overPlates P C job (P - j) j l ≡ rest j 1 l
   rest-plates j l few = go (at-most-or-above (length (l .plates)) j)
     where
-      by : (w : Walk) → j < length (l .plates) → overItems P C job j (plateAt l j) 1 (job .items) l ≡ w → overPlates P C job (suc (P - suc j)) j l ≡ onward j w
+      by :
+          (w : Walk)
+          → j < length (l .plates)
+          → overItems P C job j (plateAt l j) 1 (job .items) l ≡ w
+          → overPlates P C job (suc (P - suc j)) j l ≡ onward j w
       by (going l′) h e = plates-going P C job (P - suc j) j l l′ h e
       by (stopped n) h e = plates-stopped P C job (P - suc j) j l n h e
 
@@ -181,7 +187,13 @@ module _ (P C : ℕ) (job : Job) where
   pub reached-end : {j i : ℕ} {l : Listing} → Reached job j i l → Few P C l → length (l .plates) ≤ j → walkWithin P C job ≡ going l
   reached-end {j = j} {i = i} {l = l} r f h = reached-rest r f ∙ rest-end j i l h
 
-  module _ {j i : ℕ} {l : Listing} (r : Reached job j i l) (f : Few P C l) (a : j < length (l .plates)) (b : i ≤ length (job .items)) (c : mayCut (job .mode) (itemAt job i) (plateAt l j) ≡ true) where
+  module _
+      {j i : ℕ} {l : Listing}
+      (r : Reached job j i l)
+      (f : Few P C l)
+      (a : j < length (l .plates))
+      (b : i ≤ length (job .items))
+      (c : mayCut (job .mode) (itemAt job i) (plateAt l j) ≡ true) where
     -- a permitted pair past the limit of cuts
     pub reached-seven : C ≤ length (l .cuts) → walkWithin P C job ≡ stopped 7
     reached-seven h =

@@ -15,7 +15,7 @@ use Rattle.job.proofs.Verdicts.{pass-not-refuse}
 use Rattle.listing.specs.declared.plate.Plate.{Plate}
 use Rattle.listing.specs.declared.plate.Residuals.{Residuals}
 use Rattle.listing.specs.Plate.{mayCut, leaves}
-use Rattle.listing.specs.Listing.{Listing, Walk, going, stopped, plateAt, entered, cutDone, limited, pair, overItems, overPlates, walkWithin, walk, modelRow, listingOf, maxPlates, maxCuts}
+use Rattle.listing.specs.Listing.{Cut, Listing, Walk, going, stopped, plateAt, entered, cutDone, limited, pair, overItems, overPlates, walkWithin, walk, modelRow, listingOf, maxPlates, maxCuts}
 
 -- a walk that goes on is not stopped
 pub going-not-stopped : {w : Walk} {l : Listing} {n : ℕ} → w ≡ going l → w ≡ stopped n → ⊥
@@ -28,22 +28,19 @@ going-one e f = cc
 pub stopped-one : {w : Walk} {n n′ : ℕ} → w ≡ stopped n → w ≡ stopped n′ → n ≡ n′
 stopped-one e f = cc
 
--- the parts of what a cut adds
+-- the cut of plate type j and item type i with residuals r: its top is numbered among the plate types, its right among those with the top
+abbrev pub cutOf : Job → ℕ → ℕ → Residuals → List Plate → Cut
+cutOf job j i r ps =
+    let t = entered job (r .top) ps in
+    record { plate = j; item = i; top = t .number; right = entered job (r .right) (t .plates) .number }
+
+-- what the cut adds: its top and after it its right to the plate types, and itself to the cuts
 module _ (job : Job) (j i : ℕ) (r : Residuals) (l : Listing) where
   pub done-plates : cutDone job j i r l .plates ≡ entered job (r .right) (entered job (r .top) (l .plates) .plates) .plates
   unfolding cutDone
   done-plates = refl
 
-  pub done-cuts :
-      cutDone job j i r l .cuts
-      ≡ l .cuts
-      ++ (record {
-        plate = j;
-        item = i;
-        top = entered job (r .top) (l .plates) .number;
-        right = entered job (r .right) (entered job (r .top) (l .plates) .plates) .number;
-      }
-      ∷ [])
+  pub done-cuts : cutDone job j i r l .cuts ≡ l .cuts ++ (cutOf job j i r (l .plates) ∷ [])
   unfolding cutDone
   done-cuts = refl
 
@@ -64,7 +61,10 @@ module _ (plateLimit cutLimit : ℕ) (job : Job) where
   limited-going l h k = rw (limited, le-ltb cutLimit (length (l .cuts)) h, le-ltb plateLimit (length (l .plates)) k)
 
   -- a pair that is not permitted changes nothing
-  pub pair-skipped : (j : ℕ) (p : Plate) (i : ℕ) (it : Item) (l : Listing) → mayCut (job .mode) it p ≡ false → pair plateLimit cutLimit job j p i it l ≡ going l
+  pub pair-skipped :
+      (j : ℕ) (p : Plate) (i : ℕ) (it : Item) (l : Listing)
+      → mayCut (job .mode) it p ≡ false
+      → pair plateLimit cutLimit job j p i it l ≡ going l
   unfolding pair
   pair-skipped j p i it l h = rw (h, pair)
 

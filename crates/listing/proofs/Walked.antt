@@ -16,6 +16,7 @@ use Rattle.listing.specs.Listing.{Cut, Listing, plateAt, cutAt, entered,
 use Rattle.listing.specs.Model.{Numbered, Before, leftBy}
 use Rattle.listing.proofs.Residuals.{sides}
 use Rattle.listing.proofs.Kept.{CutFrom, top-smaller, right-smaller, top-staged, right-staged}
+use Rattle.listing.proofs.Steps.{cutOf, done-plates}
 use Rattle.listing.proofs.Growth.{Longer, longer-same, entered-longer, done-longer, done-plate, done-count, done-cut, done-last}
 use Rattle.listing.proofs.PlateTypes.{PlatesOk, board-ok, entered-ok, entered-numbered}
 
@@ -26,6 +27,10 @@ Passed j i k x = (k < j) ⊎ ((k ≡ j) × (x < i))
 pub passed-next : {j i k x : ℕ} → Passed j i k x → Passed j (suc i) k x
 passed-next (inl h) = inl h
 passed-next (inr h) = inr (h .0, omega (arith, h .1))
+
+-- the pair of plate type k and item type x is a cut of the listing
+abbrev pub IsCut : Listing → ℕ → ℕ → Type 0
+IsCut l k x = (c : ℕ) × (c < length (l .cuts)) × (cutAt l (suc c) .plate ≡ k) × (cutAt l (suc c) .item ≡ x)
 
 module _ (job : Job) where
   -- a cut of the listing: a permitted pair, with the numbers of its residuals
@@ -58,7 +63,7 @@ module _ (job : Job) where
     pub here : j ≤ length (l .plates)
     pub cuts-ok : (c : ℕ) → c < length (l .cuts) → CutOk l (cutAt l (suc c))
     pub passed : (c : ℕ) → c < length (l .cuts) → Passed j i (cutAt l (suc c) .plate) (cutAt l (suc c) .item)
-    pub each : (k x : ℕ) → k < length (l .plates) → Passed j i k x → CutFrom job (plateAt l k) x → (c : ℕ) × (c < length (l .cuts)) × (cutAt l (suc c) .plate ≡ k) × (cutAt l (suc c) .item ≡ x)
+    pub each : (k x : ℕ) → k < length (l .plates) → Passed j i k x → CutFrom job (plateAt l k) x → IsCut l k x
     pub rising : (c d : ℕ) → c < d → d < length (l .cuts) → Before (cutAt l (suc c)) (cutAt l (suc d))
 
   -- the board alone, before the first pair
@@ -89,11 +94,11 @@ module _ (job : Job) where
         rising = v .rising;
       }
     where
-      find : (k x : ℕ) → k < length (l .plates) → Passed j (suc i) k x → CutFrom job (plateAt l k) x → (c : ℕ) × (c < length (l .cuts)) × (cutAt l (suc c) .plate ≡ k) × (cutAt l (suc c) .item ≡ x)
+      find : (k x : ℕ) → k < length (l .plates) → Passed j (suc i) k x → CutFrom job (plateAt l k) x → IsCut l k x
       find k x h (inl p) f = v .each k x h (inl p) f
       find k x h (inr p) f = go (equal-or-not x i)
         where
-          go : (x ≡ i) ⊎ (x ≡ i → ⊥) → (c : ℕ) × (c < length (l .cuts)) × (cutAt l (suc c) .plate ≡ k) × (cutAt l (suc c) .item ≡ x)
+          go : (x ≡ i) ⊎ (x ≡ i → ⊥) → IsCut l k x
           go (inl e) = absurd (not-fit (rw (p .0, e) at f))
           go (inr e) = v .each k x h (inr (p .0, omega (arith, p .1))) f
 
@@ -113,11 +118,11 @@ module _ (job : Job) where
       up (inl h) = omega arith
       up (inr h) = omega (arith, h .0)
 
-      find : (k x : ℕ) → k < length (l .plates) → Passed (suc j) 1 k x → CutFrom job (plateAt l k) x → (c : ℕ) × (c < length (l .cuts)) × (cutAt l (suc c) .plate ≡ k) × (cutAt l (suc c) .item ≡ x)
+      find : (k x : ℕ) → k < length (l .plates) → Passed (suc j) 1 k x → CutFrom job (plateAt l k) x → IsCut l k x
       find k x h (inr p) f = absurd (omega (arith, p .1, f .from-one))
       find k x h (inl p) f = go (equal-or-not k j)
         where
-          go : (k ≡ j) ⊎ (k ≡ j → ⊥) → (c : ℕ) × (c < length (l .cuts)) × (cutAt l (suc c) .plate ≡ k) × (cutAt l (suc c) .item ≡ x)
+          go : (k ≡ j) ⊎ (k ≡ j → ⊥) → IsCut l k x
           go (inl e) = v .each k x h (inr (e, omega (arith, f .to-last))) f
           go (inr e) = v .each k x h (inl (omega arith)) f
 
@@ -141,35 +146,28 @@ module _ (job : Job) where
 
     -- and then the right
     right-ok : PlatesOk job (next .plates)
-    unfolding cutDone
     right-ok =
-        entered-ok job (left .right) (entered job (left .top) (l .plates) .plates) top-ok
+        rw (done-plates job j i left l)
+        (entered-ok job (left .right) (entered job (left .top) (l .plates) .plates) top-ok
         (smaller (left .right) (right-smaller job sided (plateAt l j) i f))
-        (right-staged job sided (plateAt l j) (itemAt job i))
+        (right-staged job sided (plateAt l j) (itemAt job i)))
 
     -- the cut that is added
     abbrev added : Cut
-    added =
-        record {
-          plate = j;
-          item = i;
-          top = entered job (left .top) (l .plates) .number;
-          right = entered job (left .right) (entered job (left .top) (l .plates) .plates) .number;
-        }
+    added = cutOf job j i left (l .plates)
 
     added-ok : CutOk next added
-    unfolding cutDone
     added-ok =
         let e : plateAt next j ≡ plateAt l j = done-plate job j i left l j b in
         let ps = entered job (left .top) (l .plates) .plates in
         let top : Numbered job next (left .top) (added .top)
         = entered-numbered job (left .top) (l .plates) (v .plates-ok)
         (smaller (left .top) (top-smaller job sided (plateAt l j) i f)) (top-staged job sided (plateAt l j) (itemAt job i))
-        next (entered-longer job (left .right) ps) in
+        next (rw (done-plates job j i left l) (entered-longer job (left .right) ps)) in
         let right : Numbered job next (left .right) (added .right)
         = entered-numbered job (left .right) ps top-ok
         (smaller (left .right) (right-smaller job sided (plateAt l j) i f)) (right-staged job sided (plateAt l j) (itemAt job i))
-        next (longer-same waste (next .plates)) in
+        next (rw (done-plates job j i left l) (longer-same waste (entered job (left .right) ps .plates))) in
         record {
           on-plate = omega (arith, done-longer job j i left l .no-fewer);
           fits = rw e f;
@@ -181,7 +179,13 @@ module _ (job : Job) where
     n = done-count job j i left l
 
     -- what holds of the cuts before and of the cut that is added holds of all
-    every : (Q : Cut → Type 0) → ((c : ℕ) → c < length (l .cuts) → Q (cutAt l (suc c))) → Q added → (c : ℕ) → c < length (next .cuts) → Q (cutAt next (suc c))
+    every :
+        (Q : Cut → Type 0)
+        → ((c : ℕ) → c < length (l .cuts) → Q (cutAt l (suc c)))
+        → Q added
+        → (c : ℕ)
+        → c < length (next .cuts)
+        → Q (cutAt next (suc c))
     every Q g a c h = go (at-most-or-above (length (l .cuts)) c)
       where
         go : (length (l .cuts) ≤ c) ⊎ (c < length (l .cuts)) → Q (cutAt next (suc c))
@@ -190,14 +194,10 @@ module _ (job : Job) where
             rw (e, done-last job j i left l) a
         go (inr p) = rw (done-cut job j i left l c p) (g c p)
 
-    -- the pair of plate type k and item type x is a cut of the listing
-    abbrev Cuts : Listing → ℕ → ℕ → Type 0
-    Cuts m k x = (c : ℕ) × (c < length (m .cuts)) × (cutAt m (suc c) .plate ≡ k) × (cutAt m (suc c) .item ≡ x)
-
-    still : {k x : ℕ} → Cuts l k x → Cuts next k x
+    still : {k x : ℕ} → IsCut l k x → IsCut next k x
     still (c, h, p, q) = (c, omega (arith, n), rw (done-cut job j i left l c h) p, rw (done-cut job j i left l c h) q)
 
-    find : (k x : ℕ) → k < length (next .plates) → Passed j (suc i) k x → CutFrom job (plateAt next k) x → Cuts next k x
+    find : (k x : ℕ) → k < length (next .plates) → Passed j (suc i) k x → CutFrom job (plateAt next k) x → IsCut next k x
     find k x h (inl p) g =
         let m : k < length (l .plates) = omega (arith, v .here) in
         still (v .each k x m (inl p) (rw (done-plate job j i left l k m) at g))
@@ -206,7 +206,7 @@ module _ (job : Job) where
         m : k < length (l .plates)
         m = omega (arith, p .0)
 
-        go : (x ≡ i) ⊎ (x ≡ i → ⊥) → Cuts next k x
+        go : (x ≡ i) ⊎ (x ≡ i → ⊥) → IsCut next k x
         go (inl e) = (length (l .cuts), omega (arith, n), rw (done-last job j i left l) (sym (p .0)), rw (done-last job j i left l) (sym e))
         go (inr e) = still (v .each k x m (inr (p .0, omega (arith, p .1))) (rw (done-plate job j i left l k m) at g))
 

@@ -2,10 +2,9 @@
 -- Assumes nothing.
 use Prim.Native.Nat.{ℕ, zero, suc, _+_, _-_, _≤_, _<_}
 use native.Mathlib.Omega.{arith}
-use native.Mathlib.Nat.{add-zero, zero-add, suc-add}
-use mathlib.Core.Path.{_≡_, refl, sym, _∙_, ap}
+use mathlib.Core.Path.{_≡_, refl, sym, ap}
 use mathlib.Core.Logic.{_↔_, _⊎_, inl, inr}
-use mathlib.Core.Bool.{Bool, true, false, not}
+use mathlib.Core.Bool.{Bool, false, not}
 use mathlib.Core.List.{List, [], _∷_}
 use lib.Dec.{ltb, eqb}
 use lib.ListN.{length, getD, take, drop, length-drop, List·getD-eq-default}
@@ -29,6 +28,10 @@ pub record Accepted (job : Job) (l : Listing) (ns : List ℕ) : Type 0 where
 -- every word past the last cut is 0
 abbrev pub NonePast : Listing → List ℕ → Type 0
 NonePast l ns = (c : ℕ) → length (l .cuts) ≤ c → getD ns c 0 ≡ 0
+
+-- so are those of counts that are no more than the cuts
+pub none-past : (l : Listing) (ns : List ℕ) → length ns ≤ length (l .cuts) → NonePast l ns
+none-past l ns h c p = List·getD-eq-default ns 0 (omega arith)
 
 one-more : (i : ℕ) → 1 + i ≡ suc i
 one-more i = omega arith

@@ -48,7 +48,10 @@ pub fn bytes(text: &[u8]) -> String {
         let part = std::str::from_utf8(&rest[..length]).unwrap();
         let ended = rest.get(length) == Some(&b'\n');
         match length > 0 || ended {
-            true => parts.push(format!("bytes \"{part}{}\"", ["", "\\n"][usize::from(ended)])),
+            true => parts.push(format!(
+                "bytes \"{part}{}\"",
+                ["", "\\n"][usize::from(ended)]
+            )),
             false => parts.push(numbers([first])),
         }
         rest = &rest[(length + usize::from(ended)).max(1)..];

@@ -1,11 +1,11 @@
 //! Theorems over the five calls: the answer, and every lent buffer when the call ends.
 
 use crate::antt::{numbers, words, Equation};
-use crate::damage::{damage_order, damage_words};
-use crate::inputs::{grow, random_plan, random_prices, random_set, words_of_set, Model};
+use crate::damage::{damage_job, damage_order, damage_words};
+use crate::inputs::{random_layouts, random_plan, random_prices, Model};
 use crate::random::Random;
 use crate::{is_small, Theorem};
-use reference::buffers::{Kind, COUNTS, CUTS, PLACEMENTS, PLATES};
+use reference::buffers::{COUNTS, CUTS, PLACEMENTS, PLATES};
 use reference::{calls, Refusal};
 
 /// The most pieces of an unfolding that the definitions are asked to compute.
@@ -36,13 +36,16 @@ impl Call {
         matches!(self, Call::PlanTest | Call::Unfolding)
     }
 
-    /// The buffer that the call is lent besides plates and cuts.
-    fn third(self) -> Option<Kind> {
-        match self {
+    /// The full sizes of the buffers that the call is lent: plates, cuts, and the third if there
+    /// is one.
+    fn full_sizes(self) -> Vec<usize> {
+        let third = match self {
             Call::Unfolding => Some(PLACEMENTS),
             Call::Folding => Some(COUNTS),
             _ => None,
-        }
+        };
+        let lent = [PLATES, CUTS].into_iter().chain(third);
+        lent.map(|kind| kind.full_size).collect()
     }
 }
 
@@ -50,16 +53,29 @@ impl Call {
 struct Input {
     job: Vec<u16>,
     own: Vec<u16>,
-    lent: [Vec<u16>; 3],
+    lent: Vec<Vec<u16>>,
+}
+
+/// Where an input is damaged.
+#[derive(Clone, Copy, PartialEq, Eq)]
+enum Damage {
+    Nowhere,
+    Job,
+    Own,
+    Buffers,
 }
 
 /// A theorem over a call on a random input.
 pub fn theorem(random: &mut Random, call: Call) -> Theorem {
     loop {
         let input = random_input(random, call);
-        let (answer, after) = answer(call, &input);
-        let small = call != Call::Unfolding || answer.as_ref().map_or(0, |pair| pair[1]) <= MOST_PLACED;
-        if small {
+        let mut after = input.lent.clone();
+        let answer = answer(call, &input, &mut after);
+        let placed = match (call, &answer) {
+            (Call::Unfolding, Ok(results)) => results[1],
+            _ => 0,
+        };
+        if placed <= MOST_PLACED {
             return Theorem {
                 equation: equation(call, &input, &answer, &after),
                 refusal: answer.err().map(|refusal| refusal.number),
@@ -68,55 +84,54 @@ pub fn theorem(random: &mut Random, call: Call) -> Theorem {
     }
 }
 
-/// An input of which a good half is valid: damage is done to the job, to the call's own words, or
-/// to the sizes of buffers.
+/// An input that is damaged in one place or, more often, nowhere.
 fn random_input(random: &mut Random, call: Call) -> Input {
-    let model = Model::random(random);
-    let mut job = model.words.clone();
-    let fault = random.below(10);
-    while fault == 0 && (job == model.words || !is_small(&job)) {
-        job = model.words.clone();
-        damage_words(random, &mut job);
-    }
-    let mut own = own_words(random, call, &model, (1..4).contains(&fault));
-    let full = [Some(PLATES), Some(CUTS), call.third()];
-    let sizes = full.map(|kind| kind.map_or(0, |kind| kind.full_size));
-    let mut input = Input {
-        job,
-        own: own.clone(),
-        lent: sizes.map(|size| vec![0; size]),
+    use Damage::{Buffers, Job, Nowhere, Own};
+    let damage = match (
+        call,
+        random.pick(&[Nowhere, Nowhere, Nowhere, Nowhere, Job, Own, Own, Buffers]),
+    ) {
+        (Call::Listing, Own) => Job,
+        (_, damage) => damage,
     };
-    if call.takes_counts() {
-        own.resize(COUNTS.full_size.max(own.len()), 0);
-        input.own.clone_from(&own);
+    let model = Model::random(random);
+    let full = call.full_sizes();
+    let mut input = Input {
+        job: model.words.clone(),
+        own: own_words(random, call, &model, damage == Own),
+        lent: full.iter().map(|&size| vec![0; size]).collect(),
+    };
+    while damage == Job && (input.job == model.words || !is_small(&input.job)) {
+        input.job.clone_from(&model.words);
+        damage_job(random, &mut input.job);
     }
-    let refused_early = matches!(answer(call, &input).0, Err(refusal) if refusal.number < 5);
-    let short = if fault == 4 { random.below(4) } else { 4 };
-    let few = refused_early && !random.once_in(6);
-    for (index, size) in sizes.into_iter().enumerate() {
-        let kind = Kind {
-            place: index,
-            full_size: size,
-        };
-        input.lent[index] = buffer(random, kind, few || short == index);
+    // A job that is refused for its words needs no large buffers.
+    let refusal = answer(call, &input, &mut input.lent.clone()).err();
+    let small = refusal.is_some_and(|refusal| refusal.number < 5) && !random.once_in(8);
+    let short = if damage == Buffers {
+        random.below(4)
+    } else {
+        4
+    };
+    for (index, &size) in full.iter().enumerate() {
+        input.lent[index] = random_buffer(random, size, small || short == index);
     }
-    if call.takes_counts() && (few || short == 3) {
-        input.own.truncate(random.pick(&[0, 3, COUNTS.full_size - 1]));
+    if call.takes_counts() && (small || short == 3) {
+        let length = random.pick(&[0, 3, COUNTS.full_size - 1]);
+        input.own.truncate(length);
     }
     input
 }
 
-/// A buffer before the call, of full size or a little longer, or else shorter; its words are
-/// arbitrary.
-fn buffer(random: &mut Random, kind: Kind, short: bool) -> Vec<u16> {
-    let full = kind.full_size;
-    let length = match (full, short) {
-        (0, _) => 0,
-        (_, true) => random.pick(&[0, 1, 5, 5, 5, full - 1]),
-        (_, false) => full + random.pick(&[0, 0, 0, 1, 9]),
+/// A buffer before the call: of full size, a little longer, or shorter; its words are arbitrary.
+fn random_buffer(random: &mut Random, full: usize, short: bool) -> Vec<u16> {
+    let length = match short {
+        true => random.pick(&[0, 1, 5, 5, 5, full - 1]),
+        false => full + random.pick(&[0, 0, 0, 1, 9]),
     };
     let mut buffer = vec![random.pick(&[0, 1, 7, 65_535]); length];
-    for word in buffer.iter_mut().take(random.below(6)) {
+    let different = random.below(6);
+    for word in buffer.iter_mut().take(different) {
         *word = random.between(0, 40);
     }
     buffer
@@ -124,76 +139,92 @@ fn buffer(random: &mut Random, kind: Kind, short: bool) -> Vec<u16> {
 
 /// Counts, prices or layouts, damaged or not.
 fn own_words(random: &mut Random, call: Call, model: &Model, damaged: bool) -> Vec<u16> {
-    let mut own = match call {
-        Call::Listing => return Vec::new(),
-        Call::PlanTest | Call::Unfolding => random_plan(random, model),
-        Call::PriceTest => random_prices(random, model),
-        Call::Folding => return layout_words(random, model, damaged),
-    };
-    while damaged {
-        damage_words(random, &mut own);
-        if !random.once_in(3) {
-            break;
+    match call {
+        Call::Listing => Vec::new(),
+        Call::PlanTest | Call::Unfolding => count_words(random, model, damaged),
+        Call::PriceTest => {
+            let mut prices = random_prices(random, model);
+            if damaged {
+                damage_words(random, &mut prices);
+            }
+            prices
         }
+        Call::Folding => layout_words(random, model, damaged),
     }
-    own
+}
+
+/// The words of a plan, of full size or a little longer.
+fn count_words(random: &mut Random, model: &Model, damaged: bool) -> Vec<u16> {
+    let mut counts = random_plan(random, model);
+    if damaged {
+        damage_words(random, &mut counts);
+    }
+    counts.resize(COUNTS.full_size + random.pick(&[0, 0, 0, 2]), 0);
+    if damaged && random.once_in(8) {
+        *counts.last_mut().expect("the words are of full size") = 1;
+    }
+    counts
 }
 
 /// The words of layouts; damaged ones break the rules, the order of lines, or single words.
 fn layout_words(random: &mut Random, model: &Model, damaged: bool) -> Vec<u16> {
-    let mut set = random_set(random, &model.job);
-    let how = if damaged { random.below(8) } else { 8 };
-    if how < 3 {
-        let item = random.between(1, model.job.items.len() as u16);
-        let board = random.below(set.len());
-        grow(random, &mut set[board], item);
-    }
-    let mut own = words_of_set(&model.job, &set);
+    let how = if damaged { random.below(16) } else { 16 };
+    let mut layouts = random_layouts(random, &model.job, how < 6);
     match how {
-        3 => {
-            let mut lines: Vec<Vec<u16>> = own.chunks(7).map(<[u16]>::to_vec).collect();
+        6 | 7 => {
+            let mut lines: Vec<_> = layouts.chunks(7).map(<[u16]>::to_vec).collect();
             damage_order(random, &mut lines);
-            own = lines.concat();
+            layouts = lines.concat();
         }
-        4 if random.once_in(4) => own = vec![1; 7 * random.pick(&[4_000, 4_001])],
-        4..=7 => damage_words(random, &mut own),
+        8 => layouts = vec![1; 7 * random.pick(&[4_000, 4_001])],
+        9..=15 => damage_words(random, &mut layouts),
         _ => {}
     }
-    own
+    layouts
 }
 
-/// The reference's answer, and the lent buffers after the call.
-fn answer(call: Call, input: &Input) -> (Result<Vec<u32>, Refusal>, [Vec<u16>; 3]) {
-    let mut lent = input.lent.clone();
-    let [plates, cuts, third] = &mut lent;
+/// The reference's answer; the buffers are lent to it.
+fn answer(call: Call, input: &Input, lent: &mut [Vec<u16>]) -> Result<Vec<u32>, Refusal> {
     let (job, own) = (&input.job, &input.own);
-    let answer = match call {
-        Call::Listing => calls::list(job, plates, cuts).map(|listed| vec![listed.residuals, listed.cuts]),
-        Call::PlanTest => calls::test_plan(job, own, plates, cuts).map(|boards| vec![boards]),
-        Call::PriceTest => calls::test_prices(job, own, plates, cuts).map(|bound| vec![bound.sum, bound.d]),
-        Call::Unfolding => calls::unfold(job, own, plates, cuts, third)
-            .map(|unfolded| vec![unfolded.boards, unfolded.pieces]),
-        Call::Folding => calls::fold(job, own, plates, cuts, third).map(|boards| vec![boards]),
-    };
-    (answer, lent)
+    match (call, lent) {
+        (Call::Listing, [plates, cuts]) => {
+            calls::list(job, plates, cuts).map(|listed| vec![listed.residuals, listed.cuts])
+        }
+        (Call::PlanTest, [plates, cuts]) => {
+            calls::test_plan(job, own, plates, cuts).map(|boards| vec![boards])
+        }
+        (Call::PriceTest, [plates, cuts]) => {
+            calls::test_prices(job, own, plates, cuts).map(|bound| vec![bound.sum, bound.d])
+        }
+        (Call::Unfolding, [plates, cuts, placements]) => {
+            calls::unfold(job, own, plates, cuts, placements)
+                .map(|unfolded| vec![unfolded.boards, unfolded.pieces])
+        }
+        (Call::Folding, [plates, cuts, counts]) => {
+            calls::fold(job, own, plates, cuts, counts).map(|boards| vec![boards])
+        }
+        _ => unreachable!("each call is lent its buffers"),
+    }
 }
 
 /// The call's outcome, as the definition and as the reference have it.
-fn equation(call: Call, input: &Input, answer: &Result<Vec<u32>, Refusal>, after: &[Vec<u16>; 3]) -> Equation {
-    let mut arguments = vec![words(&input.job)];
-    if call != Call::Listing {
-        arguments.push(words(&input.own));
-    }
-    let lent = if call.third().is_some() { 3 } else { 2 };
-    arguments.extend(input.lent[..lent].iter().map(|buffer| words(buffer)));
+fn equation(
+    call: Call,
+    input: &Input,
+    answer: &Result<Vec<u32>, Refusal>,
+    after: &[Vec<u16>],
+) -> Equation {
+    let own = (call != Call::Listing).then_some(&input.own);
+    let arguments = [&input.job].into_iter().chain(own).chain(&input.lent);
     let answer = match answer {
         Ok(results) => format!("outcome (given {})", numbers(results)),
         Err(refusal) => format!("outcome (refused {} {})", refusal.number, refusal.place),
     };
-    let ends = after.iter().map(|buffer| words(buffer));
+    let no_third = (after.len() == 2).then(|| words(&[]));
+    let ends = after.iter().map(|buffer| words(buffer)).chain(no_third);
     Equation {
         definition: call.definition(),
-        arguments,
+        arguments: arguments.map(|argument| words(argument)).collect(),
         answer: std::iter::once(answer).chain(ends).collect(),
     }
 }

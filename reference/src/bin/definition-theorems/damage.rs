@@ -27,6 +27,18 @@ pub fn damage_words(random: &mut Random, words: &mut Vec<u16>) {
     }
 }
 
+/// Changes a job's words: a demand or a side of a type moved past what the board or all demands
+/// allow, or any word.
+pub fn damage_job(random: &mut Random, words: &mut Vec<u16>) {
+    let first = 5 + 3 * random.below(usize::from(words[4]));
+    match random.below(6) {
+        0 => words[first + 2] = random.pick(&[3_999, 4_000, 4_001]),
+        1 => words[first] = words[2] + 1,
+        2 => words[first + 1] = words[3] + 1,
+        _ => damage_words(random, words),
+    }
+}
+
 /// Drops a line, doubles it, or swaps it with another.
 pub fn damage_order<T: Clone>(random: &mut Random, lines: &mut Vec<T>) {
     if lines.is_empty() {
@@ -40,17 +52,28 @@ pub fn damage_order<T: Clone>(random: &mut Random, lines: &mut Vec<T>) {
     }
 }
 
-/// Changes a number of a line, drops one or puts one in.
-pub fn damage_numbers(random: &mut Random, lines: &mut [Vec<u32>]) {
+/// Moves a number of a line after its kind, by one or to a limit.
+pub fn move_number(random: &mut Random, lines: &mut [Vec<u32>]) {
+    let which = random.below(lines.len());
+    let line = &mut lines[which];
+    let at = 1 + random.below(line.len() - 1);
+    line[at] = match random.below(5) {
+        0 | 1 => line[at] + 1,
+        2 => line[at].saturating_sub(1),
+        _ => u32::from(random.pick(&EDGES)),
+    }
+}
+
+/// Changes a number of a line, its kind too, drops one or puts one in.
+pub fn damage_line(random: &mut Random, lines: &mut [Vec<u32>]) {
     let which = random.below(lines.len());
     let line = &mut lines[which];
     let at = random.below(line.len());
-    match random.below(9) {
-        0..=2 => line[at] = u32::from(random.pick(&EDGES)),
-        3 | 4 => line[at] += 1,
-        5 => line[at] = line[at].saturating_sub(1),
-        6 => line[at] = 999_999_999,
-        7 => drop(line.remove(at)),
+    match random.below(5) {
+        0 => line[at] += 1,
+        1 => line[at] = 999_999_999,
+        2 => line[0] = random.between(0, 10).into(),
+        3 => drop(line.remove(at)),
         _ => line.insert(at, u32::from(random.pick(&EDGES))),
     }
 }

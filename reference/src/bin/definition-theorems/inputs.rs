@@ -181,7 +181,7 @@ pub fn random_set(random: &mut Random, job: &Job) -> Vec<Board> {
 }
 
 /// Puts an item into a stack, or as a stack into a strip, or as a strip on the board.
-pub fn grow(random: &mut Random, board: &mut Board, item: u16) {
+fn grow(random: &mut Random, board: &mut Board, item: u16) {
     let which = random.below(board.len());
     let strip = &mut board[which];
     match random.below(3) {
@@ -195,8 +195,23 @@ pub fn grow(random: &mut Random, board: &mut Board, item: u16) {
     }
 }
 
-/// The layout words of a set.
-pub fn words_of_set(job: &Job, set: &[Board]) -> Vec<u16> {
-    let placed = placements(job, set);
-    placed.iter().flat_map(Placement::words).collect()
+/// The layout words of a set; in a broken one an item more is put anywhere.
+pub fn random_layouts(random: &mut Random, job: &Job, broken: bool) -> Vec<u16> {
+    let mut set = random_set(random, job);
+    if broken {
+        grow_anywhere(random, job, &mut set);
+    }
+    words_of_lines(&placements(job, &set))
+}
+
+/// Puts an item of any type into any board of a set, whatever the rules are.
+pub fn grow_anywhere(random: &mut Random, job: &Job, set: &mut [Board]) {
+    let board = random.below(set.len());
+    let item = random.between(1, job.items.len() as u16);
+    grow(random, &mut set[board], item);
+}
+
+/// Layout words of lines.
+pub fn words_of_lines(lines: &[Placement]) -> Vec<u16> {
+    lines.iter().flat_map(Placement::words).collect()
 }

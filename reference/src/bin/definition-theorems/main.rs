@@ -54,18 +54,33 @@ const fn subject(
 }
 
 const SUBJECTS: [Subject; 12] = [
-    subject("Listing", "listing", 5, |random| calls::theorem(random, Call::Listing)),
-    subject("PlanTest", "plan-test", 6, |random| calls::theorem(random, Call::PlanTest)),
-    subject("PriceTest", "price-test", 6, |random| calls::theorem(random, Call::PriceTest)),
-    subject("Unfolding", "unfolding-call", 5, |random| calls::theorem(random, Call::Unfolding)),
-    subject("Folding", "folding-call", 6, |random| calls::theorem(random, Call::Folding)),
-    subject("SawText", "saw-text", 9, texts::saw_theorem),
-    subject("FoldText", "fold-text", 7, texts::fold_theorem),
+    subject("Listing", "listing", 3, |random| {
+        calls::theorem(random, Call::Listing)
+    }),
+    subject("PlanTest", "plan-test", 3, |random| {
+        calls::theorem(random, Call::PlanTest)
+    }),
+    subject("PriceTest", "price-test", 3, |random| {
+        calls::theorem(random, Call::PriceTest)
+    }),
+    subject("Unfolding", "unfolded", 2, |random| {
+        calls::theorem(random, Call::Unfolding)
+    }),
+    subject("Folding", "folded", 3, |random| {
+        calls::theorem(random, Call::Folding)
+    }),
+    subject("SawText", "saw-text", 14, texts::saw_theorem),
+    subject("FoldText", "fold-text", 12, texts::fold_theorem),
     subject("Walk", "walk", 2, structures::walk_theorem),
-    subject("Sets", "set", 2, structures::set_theorem),
-    subject("Rules", "rules-kept", 2, structures::rules_theorem),
-    subject("Rectangles", "rectangles-apart", 1, structures::rectangle_theorem),
-    subject("Fewest", "fewest-boards", 1, structures::fewest_theorem),
+    subject("Sets", "set", 3, structures::set_theorem),
+    subject("Rules", "layout-rules", 2, structures::rules_theorem),
+    subject(
+        "Rectangles",
+        "rectangles-of",
+        2,
+        structures::rectangle_theorem,
+    ),
+    subject("Fewest", "fewest-of", 1, structures::fewest_theorem),
 ];
 
 /// Whether the listing is small, if there is one: the words are a job's, and it is admitted.
@@ -134,11 +149,19 @@ fn print_summary(written: &[Written]) {
     for (subject, written) in SUBJECTS.iter().zip(written) {
         let some: usize = written.refused.values().sum();
         let all = written.theorems.len();
-        println!("{:<12}{all:>6} theorems, {some:>5} of a refusal", subject.file);
+        println!(
+            "{:<12}{all:>6} theorems, {some:>5} of a refusal",
+            subject.file
+        );
         for (number, count) in &written.refused {
             *refused.entry(*number).or_default() += count;
         }
     }
-    let numbers = refused.iter().map(|(number, count)| format!("{number}: {count}"));
-    println!("refusals by number  {}", numbers.collect::<Vec<_>>().join(", "));
+    let numbers = refused
+        .iter()
+        .map(|(number, count)| format!("{number}: {count}"));
+    println!(
+        "refusals by number  {}",
+        numbers.collect::<Vec<_>>().join(", ")
+    );
 }

@@ -2,7 +2,7 @@
 //! rectangles, and whether a plan is the fewest.
 
 use crate::antt::{list, numbers, words, Equation};
-use crate::inputs::{grow, random_prices, random_set, Model};
+use crate::inputs::{grow_anywhere, random_prices, random_set, words_of_lines, Model};
 use crate::random::Random;
 use crate::Theorem;
 use reference::layout::{keeps_rules, placements};
@@ -26,17 +26,28 @@ pub fn walk_theorem(random: &mut Random) -> Theorem {
     let walked = Listing::walk(&model.job, limits);
     let answer = match &walked {
         Ok(listing) => vec![
-            format!("outcome (given ({} ∷ {} ∷ []))", listing.residual_types(), listing.cuts.len()),
+            format!(
+                "outcome (given ({} ∷ {} ∷ []))",
+                listing.residual_types(),
+                listing.cuts.len()
+            ),
             words(&listing.plate_words()),
             words(&listing.cut_words()),
             words(&[]),
         ],
-        Err(refusal) => vec![format!("outcome (refused {} {}) [] [] []", refusal.number, refusal.place)],
+        Err(refusal) => vec![format!(
+            "outcome (refused {} {}) [] [] []",
+            refusal.number, refusal.place
+        )],
     };
     Theorem {
         equation: Equation {
             definition: "walkCall",
-            arguments: vec![limits.plate_types.to_string(), limits.cuts.to_string(), words(&model.words)],
+            arguments: vec![
+                limits.plate_types.to_string(),
+                limits.cuts.to_string(),
+                words(&model.words),
+            ],
             answer,
         },
         refusal: walked.err().map(|refusal| refusal.number),
@@ -50,19 +61,23 @@ pub fn set_theorem(random: &mut Random) -> Theorem {
     let set = set_or_broken(random, &model.job);
     let lines = placements(&model.job, &set);
     let mut laid = vec![0; model.job.items.len() + 1];
-    lines.iter().for_each(|line| laid[usize::from(line.item)] += 1);
+    lines
+        .iter()
+        .for_each(|line| laid[usize::from(line.item)] += 1);
     let holds = [
         set.iter().all(|board| keeps_rules(&model.job, board)),
         ensure_demands(&model.job, &laid).is_ok(),
         is_inside(&model.job, &lines),
         is_without_overlap(&model.job, &lines),
     ];
-    let line_words: Vec<u16> = lines.iter().flat_map(Placement::words).collect();
     Theorem {
         equation: Equation {
             definition: "judged",
             arguments: vec![words(&model.words), set_of(&set)],
-            answer: vec![format!("judgement {}", list(holds.map(|held| held.to_string()))), words(&line_words)],
+            answer: vec![
+                format!("judgement {}", list(holds.map(|held| held.to_string()))),
+                words(&words_of_lines(&lines)),
+            ],
         },
         refusal: None,
     }
@@ -109,12 +124,14 @@ pub fn rectangle_theorem(random: &mut Random) -> Theorem {
         3 => line.y = line.y.saturating_sub(1),
         _ => line.board = random.between(1, 2),
     }
-    let line_words: Vec<u16> = lines.iter().flat_map(Placement::words).collect();
-    let holds = [is_inside(&model.job, &lines), is_without_overlap(&model.job, &lines)];
+    let holds = [
+        is_inside(&model.job, &lines),
+        is_without_overlap(&model.job, &lines),
+    ];
     Theorem {
         equation: Equation {
             definition: "rectangles",
-            arguments: vec![words(&model.words), words(&line_words)],
+            arguments: vec![words(&model.words), words(&words_of_lines(&lines))],
             answer: vec![list(holds.map(|held| held.to_string()))],
         },
         refusal: None,
@@ -144,9 +161,7 @@ fn set_or_broken(random: &mut Random, job: &Job) -> Vec<Board> {
     let mut set = random_set(random, job);
     if random.once_in(2) {
         for _ in 0..=random.below(3) {
-            let board = random.below(set.len());
-            let item = random.between(1, job.items.len() as u16);
-            grow(random, &mut set[board], item);
+            grow_anywhere(random, job, &mut set);
         }
     }
     set
@@ -173,7 +188,9 @@ fn is_inside(job: &Job, lines: &[Placement]) -> bool {
 /// Whether no square millimetre is covered twice.
 fn is_without_overlap(job: &Job, lines: &[Placement]) -> bool {
     let mut covered = HashSet::new();
-    cells(job, lines).into_iter().all(|cell| covered.insert(cell))
+    cells(job, lines)
+        .into_iter()
+        .all(|cell| covered.insert(cell))
 }
 
 /// A set as a list of lists of lists of lists.

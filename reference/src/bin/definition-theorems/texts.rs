@@ -1,8 +1,8 @@
 //! Theorems over the saw text and the fold text: bytes in, bytes out.
 
 use crate::antt::{bytes, Equation};
-use crate::damage::{damage_bytes, damage_numbers, damage_order};
-use crate::inputs::{random_plan, random_prices, random_set, words_of_set, Model};
+use crate::damage::{damage_bytes, damage_line, damage_order, move_number};
+use crate::inputs::{random_layouts, random_plan, random_prices, Model};
 use crate::random::Random;
 use crate::{is_small_job, Theorem};
 use reference::columns::write_line;
@@ -54,11 +54,12 @@ fn theorem(
 /// The lines as bytes. Damage is done to numbers, to the order of all lines or of those after the
 /// job's, or to bytes.
 fn text_of(random: &mut Random, mut lines: Vec<Line>, types: usize, damaged: bool) -> Vec<u8> {
-    let how = if damaged { random.below(8) } else { 8 };
+    let how = if damaged { random.below(10) } else { 10 };
     match how {
-        0..=2 => damage_numbers(random, &mut lines),
-        3 => damage_order(random, &mut lines),
-        4 => {
+        0..=3 => move_number(random, &mut lines),
+        4 => damage_line(random, &mut lines),
+        5 => damage_order(random, &mut lines),
+        6 => {
             let mut body = lines.split_off(1 + types);
             damage_order(random, &mut body);
             lines.append(&mut body);
@@ -69,11 +70,8 @@ fn text_of(random: &mut Random, mut lines: Vec<Line>, types: usize, damaged: boo
     for line in lines {
         write_line(&mut text, &line);
     }
-    while (5..8).contains(&how) {
+    if (7..10).contains(&how) {
         damage_bytes(random, &mut text);
-        if !random.once_in(4) {
-            break;
-        }
     }
     text
 }
@@ -85,7 +83,9 @@ fn is_short(text: &[u8]) -> bool {
 
 /// Whether the job that the text begins with, if there is one, has a small listing.
 fn is_small_text(text: &[u8]) -> bool {
-    Lines::new(text).job().map_or(true, |job| is_small_job(&job))
+    Lines::new(text)
+        .job()
+        .map_or(true, |job| is_small_job(&job))
 }
 
 /// The refusal that an output is, if it is one line of kind 9.
@@ -137,16 +137,20 @@ fn saw_lines(random: &mut Random, model: &Model) -> Vec<Line> {
     let [types, plates] = [0, 1].map(|which: usize| prices[which].len() as u32);
     lines.push(vec![4, u32::from(words[0]), types, plates]);
     for (kind, list) in (5..).zip(&prices) {
-        lines.extend((1..).zip(list).map(|(number, &price)| vec![kind, number, u32::from(price)]));
+        lines.extend(
+            (1..)
+                .zip(list)
+                .map(|(number, &price)| vec![kind, number, u32::from(price)]),
+        );
     }
     lines
 }
 
-/// The lines of a fold text whose layouts keep the rules and meet the demands.
+/// The lines of a fold text whose layouts meet the demands and, but for some, keep the rules.
 fn fold_lines(random: &mut Random, model: &Model) -> Vec<Line> {
     let mut lines = job_lines(&model.words);
-    let set = random_set(random, &model.job);
-    for words in words_of_set(&model.job, &set).chunks(7) {
+    let broken = random.once_in(8);
+    for words in random_layouts(random, &model.job, broken).chunks(7) {
         let numbers = words.iter().map(|&word| u32::from(word));
         lines.push(std::iter::once(7).chain(numbers).collect());
     }

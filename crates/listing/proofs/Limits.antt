@@ -1,0 +1,173 @@
+-- The limits of the walk: what 6 and 7 mean exactly, and what a walk with larger limits says of one that is refused.
+-- Assumes nothing.
+use Prim.Native.Nat.{ℕ, suc, _-_, _≤_, _<_}
+use native.Mathlib.Omega.{arith}
+use mathlib.Core.Path.{_≡_, refl, sym, _∙_, ap}
+use mathlib.Core.Logic.{_⊎_, inl, inr, _↔_}
+use mathlib.Core.Bool.{true}
+use mathlib.Core.List.{List}
+use lib.ListN.{length, getD, drop}
+use Rattle.job.specs.Verdict.{pass, refuse}
+use Rattle.job.specs.Job.{Job, itemAt}
+use Rattle.job.proofs.Tests.{at-most-or-above}
+use Rattle.listing.specs.declared.plate.Plate.{Plate}
+use Rattle.listing.specs.declared.plate.Residuals.{Residuals}
+use Rattle.listing.specs.Plate.{waste, leaves, kept}
+use Rattle.listing.specs.Listing.{Listing, Walk, going, stopped, plateAt, entered, overItems, walkWithin, modelRow, maxPlates, maxCuts}
+use Rattle.listing.proofs.Numbers.{Entering, not-kept, met, fresh, entering}
+use Rattle.listing.proofs.Growth.{Grown, grown-same, grown-trans, entered-one, done-count}
+use Rattle.listing.proofs.Steps.{going-one, going-not-stopped, done-plates, walk-limits, row-going, row-stopped}
+use Rattle.listing.proofs.Along.{plates-grown, items-grown}
+use Rattle.listing.proofs.Reached.{done, after, Few, onward, rest, rest-row, rest-end, reached-rest, reached-end, reached-seven, reached-six}
+use Rattle.listing.proofs.Ends.{Over, by-cut, by-plate, over-seven, over-six, Complete, Halted, walk-complete, walk-halted}
+
+module _ (P C : ℕ) (job : Job) where
+  -- a walk that has done every plate type goes on with the listing
+  pub complete-walk : (l : Listing) → Complete P C job l → walkWithin P C job ≡ going l
+  complete-walk l c = reached-end P C job (c .reached) (c .few) (c .none-left)
+
+  -- a walk that has come to a pair past a limit is refused there
+  pub halted-walk : (n : ℕ) → Halted P C job n → walkWithin P C job ≡ stopped n
+  halted-walk n h = go (h .passed)
+    where
+      go : Over P C n (h .listing) (after job (h .plate) (h .item) (h .listing)) → walkWithin P C job ≡ stopped n
+      go (by-cut e k) =
+          reached-seven P C job (h .reached) (h .few) (h .on-plate) (h .of-item) (h .allowed) (omega arith) ∙ ap stopped (sym e)
+      go (by-plate e k q) =
+          reached-six P C job (h .reached) (h .few) (h .on-plate) (h .of-item) (h .allowed) k q ∙ ap stopped (sym e)
+
+  module _ (some : 1 ≤ P) where
+    -- exactly these are the ends of the walk
+    pub goes-exactly : (l : Listing) → (walkWithin P C job ≡ going l) ↔ Complete P C job l
+    goes-exactly l = (walk-complete P C job some l, complete-walk l)
+
+    pub stops-exactly : (n : ℕ) → (walkWithin P C job ≡ stopped n) ↔ Halted P C job n
+    stops-exactly n = (walk-halted P C job some n, halted-walk n)
+
+    -- the walk keeps both limits, or is refused with 6 or 7
+    pub walk-cases : ((l : Listing) × (walkWithin P C job ≡ going l) × Few P C l) ⊎ ((walkWithin P C job ≡ stopped 6) ⊎ (walkWithin P C job ≡ stopped 7))
+    walk-cases = go (walkWithin P C job) refl
+      where
+        number :
+            {l l′ : Listing} (n : ℕ)
+            → walkWithin P C job ≡ stopped n
+            → Over P C n l l′
+            → (walkWithin P C job ≡ stopped 6) ⊎ (walkWithin P C job ≡ stopped 7)
+        number n e (by-cut p k) = inr (e ∙ ap stopped p)
+        number n e (by-plate p k q) = inl (e ∙ ap stopped p)
+
+        go :
+            (w : Walk)
+            → walkWithin P C job ≡ w
+            → ((l : Listing) × (walkWithin P C job ≡ going l) × Few P C l) ⊎ ((walkWithin P C job ≡ stopped 6) ⊎ (walkWithin P C job ≡ stopped 7))
+        go (going l) e = inl (l, e, walk-complete P C job some l e .few)
+        go (stopped n) e = inr (number n e (walk-halted P C job some n e .passed))
+
+-- the model row passes, or refuses with 6 or 7
+pub row-cases : (job : Job) → (modelRow job ≡ pass) ⊎ ((modelRow job ≡ refuse 6 0) ⊎ (modelRow job ≡ refuse 7 0))
+row-cases job = go (walk-cases maxPlates maxCuts job (omega arith))
+  where
+    go :
+        ((l : Listing) × (walkWithin maxPlates maxCuts job ≡ going l) × Few maxPlates maxCuts l)
+        ⊎ ((walkWithin maxPlates maxCuts job ≡ stopped 6) ⊎ (walkWithin maxPlates maxCuts job ≡ stopped 7))
+        → (modelRow job ≡ pass) ⊎ ((modelRow job ≡ refuse 6 0) ⊎ (modelRow job ≡ refuse 7 0))
+    go (inl r) = inl (row-going job (r .0) (walk-limits job ∙ r .1))
+    go (inr (inl e)) = inr (inl (row-stopped job 6 (walk-limits job ∙ e)))
+    go (inr (inr e)) = inr (inr (row-stopped job 7 (walk-limits job ∙ e)))
+
+-- a residual that is kept and is none of the plate types
+abbrev pub New : Job → Plate → List Plate → Type 0
+New job p ps = (kept job p ≡ true) × ((j : ℕ) → j < length ps → getD ps j waste ≡ p → ⊥)
+
+-- only such a residual becomes a plate type
+pub entered-more : (job : Job) (p : Plate) (ps : List Plate) → length ps < length (entered job p ps .plates) → New job p ps
+entered-more job p ps h = go (entering job p ps)
+  where
+    go : Entering job p ps → New job p ps
+    go (not-kept a e) = absurd (omega (arith, rw e at h))
+    go (met k a l g e) = absurd (omega (arith, rw e at h))
+    go (fresh a f e) = (a, f)
+
+-- the plate types pass their limit where the top, or after it the right, is kept and new when the limit is reached
+pub over-new :
+    (P : ℕ) (job : Job) (j i : ℕ) (l : Listing)
+    → length (l .plates) ≤ P
+    → P < length (after job j i l .plates)
+    → let r = leaves (job .mode) (itemAt job i) (plateAt l j) in
+    let ps = entered job (r .top) (l .plates) .plates in
+    ((length (l .plates) ≡ P) × New job (r .top) (l .plates)) ⊎ ((length ps ≡ P) × New job (r .right) ps)
+over-new P job j i l few over = go (at-most-or-above (length ps) P)
+  where
+    r : Residuals
+    r = leaves (job .mode) (itemAt job i) (plateAt l j)
+
+    ps : List Plate
+    ps = entered job (r .top) (l .plates) .plates
+
+    more : length (entered job (r .right) ps .plates) ≡ length (after job j i l .plates)
+    more = ap length (sym (done-plates job j i r l))
+
+    go : (length ps ≤ P) ⊎ (P < length ps) → ((length (l .plates) ≡ P) × New job (r .top) (l .plates)) ⊎ ((length ps ≡ P) × New job (r .right) ps)
+    go (inl h) = inr (omega (arith, more, entered-one job (r .right) ps), entered-more job (r .right) ps (omega (arith, more)))
+    go (inr h) = inl (omega (arith, entered-one job (r .top) (l .plates)), entered-more job (r .top) (l .plates) (omega arith))
+
+-- along the rest of a walk plate types and cuts keep their numbers
+pub rest-grown : (P C : ℕ) (job : Job) (j i : ℕ) (l l′ : Listing) → rest P C job j i l ≡ going l′ → Grown l l′
+rest-grown P C job j i l l′ e = go (at-most-or-above (length (l .plates)) j) (overItems P C job j (plateAt l j) i (drop (i - 1) (job .items)) l) refl
+  where
+    go :
+        (length (l .plates) ≤ j) ⊎ (j < length (l .plates))
+        → (w : Walk)
+        → overItems P C job j (plateAt l j) i (drop (i - 1) (job .items)) l ≡ w
+        → Grown l l′
+    go (inl h) w f = rw (going-one e (rest-end P C job j i l h)) (grown-same l)
+    go (inr h) (going m) f =
+        grown-trans l m l′ (items-grown P C job j (plateAt l j) i (drop (i - 1) (job .items)) l m f)
+        (plates-grown P C job (P - suc j) (suc j) m l′ (sym (rest-row P C job j i l h ∙ ap (onward P C job j) f) ∙ e))
+    go (inr h) (stopped n) f = absurd (going-not-stopped e (rest-row P C job j i l h ∙ ap (onward P C job j) f))
+
+-- limits P, C and others that are no smaller
+module _ (P C P′ C′ : ℕ) (job : Job) (some : 1 ≤ P) (p : P ≤ P′) (c : C ≤ C′) where
+  few-larger : (l : Listing) → Few P C l → Few P′ C′ l
+  few-larger l f = record { few-plates = omega (arith, f .few-plates); few-cuts = omega (arith, f .few-cuts) }
+
+  -- a walk that is not refused is the same with larger limits
+  pub larger-same : (l : Listing) → walkWithin P C job ≡ going l → walkWithin P′ C′ job ≡ going l
+  larger-same l e =
+      let d = walk-complete P C job some l e in
+      reached-end P′ C′ job (d .reached) (few-larger l (d .few)) (d .none-left)
+
+  -- a walk that is refused is refused at a pair that a walk with larger limits has among its cuts
+  pub larger-grown :
+      (n : ℕ) (h : Halted P C job n) (l : Listing)
+      → walkWithin P′ C′ job ≡ going l
+      → Grown (after job (h .plate) (h .item) (h .listing)) l
+  larger-grown n h l e = go (at-most-or-above (length (next .cuts)) C′) (at-most-or-above (length (next .plates)) P′)
+    where
+      next : Listing
+      next = after job (h .plate) (h .item) (h .listing)
+
+      more : length (next .cuts) ≡ suc (length (h .listing .cuts))
+      more = done-count job (h .plate) (h .item) (leaves (job .mode) (itemAt job (h .item)) (plateAt (h .listing) (h .plate))) (h .listing)
+
+      few : Few P′ C′ (h .listing)
+      few = few-larger (h .listing) (h .few)
+
+      go : (length (next .cuts) ≤ C′) ⊎ (C′ < length (next .cuts)) → (length (next .plates) ≤ P′) ⊎ (P′ < length (next .plates)) → Grown next l
+      go (inr a) b = absurd (going-not-stopped e (reached-seven P′ C′ job (h .reached) few (h .on-plate) (h .of-item) (h .allowed) (omega (arith, more))))
+      go (inl a) (inr b) = absurd (going-not-stopped e (reached-six P′ C′ job (h .reached) few (h .on-plate) (h .of-item) (h .allowed) (omega (arith, more)) b))
+      go (inl a) (inl b) =
+          rest-grown P′ C′ job (h .plate) (suc (h .item)) next l
+          (sym (reached-rest P′ C′ job (done (h .reached) (h .on-plate) (h .of-item) (h .allowed)) (record { few-plates = b; few-cuts = a })) ∙ e)
+
+  -- where it is refused with 7, larger limits give more cuts; where with 6, more plate types
+  pub larger-cuts : (l : Listing) → walkWithin P C job ≡ stopped 7 → walkWithin P′ C′ job ≡ going l → C < length (l .cuts)
+  larger-cuts l e f =
+      let h = walk-halted P C job some 7 e in
+      let left = leaves (job .mode) (itemAt job (h .item)) (plateAt (h .listing) (h .plate)) in
+      omega (arith, larger-grown 7 h l f .cuts-longer .no-fewer, done-count job (h .plate) (h .item) left (h .listing), over-seven (h .passed))
+
+  pub larger-plates : (l : Listing) → walkWithin P C job ≡ stopped 6 → walkWithin P′ C′ job ≡ going l → P < length (l .plates)
+  larger-plates l e f =
+      let h = walk-halted P C job some 6 e in
+      omega (arith, larger-grown 6 h l f .plates-longer .no-fewer, over-six (h .passed) .1)

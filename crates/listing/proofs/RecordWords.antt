@@ -1,0 +1,80 @@
+-- The records of a listing as words: three for a plate type, four for a cut, each at its place.
+-- Assumes nothing.
+use Prim.Native.Nat.{ℕ, zero, suc, _+_, _*_}
+use native.Mathlib.Omega.{arith}
+use mathlib.Core.Path.{_≡_, refl, _∙_, ap}
+use mathlib.Core.List.{List, [], _∷_, _++_}
+use lib.ListN.{length, getD}
+use Rattle.job.proofs.Records.{words-last, words-length, words-read}
+use Rattle.listing.specs.declared.plate.Plate.{Plate}
+use Rattle.listing.specs.Plate.{plate, waste}
+use Rattle.listing.specs.Listing.{Cut, noCut}
+use Rattle.listing.specs.Records.{plateWords, cutWords}
+
+abbrev pub wordsOfPlate : Plate → List ℕ
+wordsOfPlate p = p .width ∷ p .height ∷ p .stage ∷ []
+
+abbrev pub wordsOfCut : Cut → List ℕ
+wordsOfCut c = c .plate ∷ c .item ∷ c .top ∷ c .right ∷ []
+
+-- how many words
+pub plate-words-length : (ps : List Plate) → length (plateWords ps) ≡ 3 * length ps
+unfolding plateWords
+plate-words-length ps = words-length wordsOfPlate 3 (λ p. refl) ps
+
+pub cut-words-length : (cs : List Cut) → length (cutWords cs) ≡ 4 * length cs
+unfolding cutWords
+cut-words-length cs = words-length wordsOfCut 4 (λ c. refl) cs
+
+-- one record more
+pub plate-words-last : (ps : List Plate) (p : Plate) → plateWords (ps ++ (p ∷ [])) ≡ plateWords ps ++ wordsOfPlate p
+unfolding plateWords
+plate-words-last ps p = words-last wordsOfPlate ps p
+
+pub cut-words-last : (cs : List Cut) (c : Cut) → cutWords (cs ++ (c ∷ [])) ≡ cutWords cs ++ wordsOfCut c
+unfolding cutWords
+cut-words-last cs c = words-last wordsOfCut cs c
+
+-- plate type j is read from words 3 j and the two after it
+pub plate-words-read : (ps : List Plate) (j : ℕ) → plate (getD (plateWords ps) (3 * j) 0) (getD (plateWords ps) (3 * j + 1) 0) (getD (plateWords ps) (3 * j + 2) 0) ≡ getD ps j waste
+unfolding plateWords
+plate-words-read ps j =
+    let e : 3 * j ≡ 3 * j + 0 = omega arith in
+    let at = words-read wordsOfPlate 3 (λ p. refl) waste none ps j in
+    let w : getD (plateWords ps) (3 * j) 0 ≡ getD ps j waste .width = ap (λ (k : ℕ). getD (plateWords ps) k 0) e ∙ at 0 (omega arith) in
+    let h : getD (plateWords ps) (3 * j + 1) 0 ≡ getD ps j waste .height = at 1 (omega arith) in
+    let s : getD (plateWords ps) (3 * j + 2) 0 ≡ getD ps j waste .stage = at 2 (omega arith) in
+    λ i. plate (w i) (h i) (s i)
+  where
+    none : (k : ℕ) → getD (wordsOfPlate waste) k 0 ≡ 0
+    none zero = refl
+    none (suc zero) = refl
+    none (suc (suc zero)) = refl
+    none (suc (suc (suc k))) = refl
+
+-- the cut at place c is read from words 4 c and the three after it
+pub cut-words-read :
+    (cs : List Cut) (c : ℕ)
+    → record {
+      plate = getD (cutWords cs) (4 * c) 0;
+      item = getD (cutWords cs) (4 * c + 1) 0;
+      top = getD (cutWords cs) (4 * c + 2) 0;
+      right = getD (cutWords cs) (4 * c + 3) 0;
+    }
+    ≡ getD cs c noCut
+unfolding cutWords
+cut-words-read cs c =
+    let e : 4 * c ≡ 4 * c + 0 = omega arith in
+    let at = words-read wordsOfCut 4 (λ x. refl) noCut none cs c in
+    let p : getD (cutWords cs) (4 * c) 0 ≡ getD cs c noCut .plate = ap (λ (k : ℕ). getD (cutWords cs) k 0) e ∙ at 0 (omega arith) in
+    let n : getD (cutWords cs) (4 * c + 1) 0 ≡ getD cs c noCut .item = at 1 (omega arith) in
+    let t : getD (cutWords cs) (4 * c + 2) 0 ≡ getD cs c noCut .top = at 2 (omega arith) in
+    let r : getD (cutWords cs) (4 * c + 3) 0 ≡ getD cs c noCut .right = at 3 (omega arith) in
+    λ i. record { plate = p i; item = n i; top = t i; right = r i }
+  where
+    none : (k : ℕ) → getD (wordsOfCut noCut) k 0 ≡ 0
+    none zero = refl
+    none (suc zero) = refl
+    none (suc (suc zero)) = refl
+    none (suc (suc (suc zero))) = refl
+    none (suc (suc (suc (suc k)))) = refl
