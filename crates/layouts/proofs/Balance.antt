@@ -13,7 +13,7 @@ use Rattle.listing.specs.Listing.{Listing, plateAt, cutAt}
 use Rattle.listing.specs.Model.{Model}
 use Rattle.plan.specs.Plan.{onPlate, leavesPlate}
 use Rattle.plan.specs.Prices.{Prices, itemPrice, residualPrice}
-use Rattle.plan.proofs.PriceExact.{costs, Priced}
+use Rattle.plan.specs.Feasible.{costs, DualFeasible}
 use Rattle.layouts.proofs.CountBasics.{bit, bit-same, bit-diff}
 use Rattle.layouts.proofs.Sums.{weight}
 use Rattle.layouts.proofs.Tree.{Tree, leaf, node, tsum, fsum}
@@ -88,7 +88,7 @@ abbrev pub itemCost : Listing → Prices → ℕ → ℕ
 itemCost l ps c = itemPrice ps (cutAt l c .item)
 
 -- Weak duality: what the items of some boards cost, with accepted prices.
-module _ (l : Listing) (ps : Prices) (priced : Priced l ps) where
+module _ (l : Listing) (ps : Prices) (priced : DualFeasible l ps) where
   by-stage : (c : ℕ) → residualPrice ps (branchOf l c) + residualPrice ps (restOf l c) ≡ residualPrice ps (cutAt l c .top) + residualPrice ps (cutAt l c .right)
   by-stage c = go (eqb (plateAt l (cutAt l c .plate) .stage) 2)
     where

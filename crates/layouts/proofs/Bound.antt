@@ -15,8 +15,8 @@ use Rattle.listing.specs.Listing.{Listing}
 use Rattle.listing.specs.Model.{Model}
 use Rattle.plan.specs.Plan.{ofItem, boards}
 use Rattle.plan.specs.Prices.{Prices, itemPrice, priced, priceSum, fewest}
-use Rattle.plan.proofs.PlanExact.{Accepted, NonePast}
-use Rattle.plan.proofs.PriceExact.{Priced, fewest-exact}
+use Rattle.plan.specs.Feasible.{Feasible, NonePast, DualFeasible}
+use Rattle.plan.proofs.PriceExact.{fewest-exact}
 use Rattle.layouts.specs.Layout.{Board}
 use Rattle.layouts.specs.Placement.{itemsOfSet}
 use Rattle.layouts.specs.Unfold.{unfolded}
@@ -66,7 +66,7 @@ price-le job ps is meets =
     price : (i : ℕ) → i < n → getD (ps .items) i 0 ≡ itemPrice ps (1 + i)
     price i p = let e : 1 + i ≡ suc i = omega arith in rw e
 
-module _ (job : Job) (l : Listing) (m : Model job l) (sided : Sided job) (ps : Prices) (accepted : Priced l ps) where
+module _ (job : Job) (l : Listing) (m : Model job l) (sided : Sided job) (ps : Prices) (accepted : DualFeasible l ps) where
   -- of some boards' trees
   bound-trees : (ts : List Tree) → Roots l ts → ((i : ℕ) → 1 ≤ i → i ≤ length (job .items) → itemAt job i .demand ≤ occurs i (itemsOfSet (map (layoutOf l) ts)))
       → priceSum job ps ≤ length ts * ps .denominator
@@ -74,7 +74,7 @@ module _ (job : Job) (l : Listing) (m : Model job l) (sided : Sided job) (ps : P
       omega (arith, price-le job ps (itemsOfSet (map (layoutOf l) ts)) meets, roots-items (itemPrice ps) job l m sided ts h, value-set l ps accepted ts h)
 
   -- of an accepted plan
-  pub bound-plan : (ns : List ℕ) → NonePast l ns → Accepted job l ns → priceSum job ps ≤ boards l ns * ps .denominator
+  pub bound-plan : (ns : List ℕ) → NonePast l ns → Feasible job l ns → priceSum job ps ≤ boards l ns * ps .denominator
   unfolding ofItem
   bound-plan ns past a = rw (u .opens) at (bound-trees (u .trees) (u .roots) meets)
     where

@@ -14,9 +14,9 @@ use Rattle.listing.specs.Listing.{Listing}
 use Rattle.listing.specs.Model.{Model}
 use Rattle.plan.specs.Plan.{countsRow, planRow}
 use Rattle.plan.specs.Prices.{Prices, pricesOf, priceWords, pricesSized, pricesRow, priceSum, fewest}
+use Rattle.plan.specs.Feasible.{DualFeasible}
 use Rattle.plan.proofs.PlanExact.{plan-exact, counts-exact}
 use Rattle.plan.proofs.PriceExact.{prices-exact}
-use Rattle.plan.proofs.PriceExact.{Priced as PricedList}
 use Rattle.layouts.specs.Layout.{Board, layoutRules}
 use Rattle.layouts.specs.Placement.{placementWords, linesOf, itemsOfSet, meetsDemands}
 use Rattle.layouts.specs.Lines.{setOf}
@@ -66,7 +66,7 @@ module _ (job : Job) (l : Listing) (m : Model job l) (sided : Sided job) where
       ps : Prices
       ps = pricesOf job prices
 
-      accepted : PricedList l ps
+      accepted : DualFeasible l ps
       unfolding ps
       accepted =
           prices-exact l (pricesOf job prices) .0

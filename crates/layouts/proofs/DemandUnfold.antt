@@ -21,8 +21,8 @@ use Rattle.listing.specs.Plate.{board, plate}
 use Rattle.listing.specs.Listing.{Listing}
 use Rattle.listing.specs.Model.{Model}
 use Rattle.plan.specs.Plan.{countOf, ofItem, total, countsRow, planRow}
-use Rattle.plan.proofs.PlanExact.{NonePast, plan-exact, counts-exact}
-use Rattle.plan.proofs.PlanExact.{Accepted as AcceptedPlan}
+use Rattle.plan.specs.Feasible.{NonePast, Feasible}
+use Rattle.plan.proofs.PlanExact.{plan-exact, counts-exact}
 use Rattle.layouts.specs.Layout.{Board, widthOf, layoutRules}
 use Rattle.layouts.specs.Placement.{Placement, placementWords, linesOf, itemsOfSet, meetsDemands}
 use Rattle.layouts.specs.Unfold.{Run, State, unfolded}
@@ -85,7 +85,7 @@ module _ (job : Job) (l : Listing) (m : Model job l) (sided : Sided job) where
     past : NonePast l ns
     past = counts-exact l ns .0 (then-first (countsRow l ns) (planRow job l ns) (plan .passed))
 
-    balanced : AcceptedPlan job l ns
+    balanced : Feasible job l ns
     balanced = plan-exact job l ns .0 (then-second (countsRow l ns) (planRow job l ns) (plan .passed))
 
     u : Unfolding job l ns r

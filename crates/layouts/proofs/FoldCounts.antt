@@ -14,7 +14,7 @@ use Rattle.listing.specs.Plate.{board}
 use Rattle.listing.specs.Listing.{Cut, Listing, cutAt}
 use Rattle.listing.specs.Model.{Model}
 use Rattle.plan.specs.Plan.{countOf, ofItem, onPlate, leavesPlate, boards, total}
-use Rattle.plan.proofs.PlanExact.{Accepted, NonePast}
+use Rattle.plan.specs.Feasible.{Feasible, NonePast}
 use Rattle.layouts.specs.Layout.{Board}
 use Rattle.layouts.specs.Placement.{itemsOfSet}
 use Rattle.layouts.specs.Fold.{ordered, boardCuts, setCuts, folded}
@@ -144,7 +144,7 @@ module _ (job : Job) (l : Listing) (m : Model job l) (sided : Sided job) where
       folded-total = total-wsum 1 ns ∙ folded-items (λ _. 1) ∙ kept (λ _. 1) ∙ length-sum (itemsOfSet bs)
 
       -- the counts of a set that meets the demands within 4,000 pieces are an accepted plan
-      pub folded-accepted : ((i : ℕ) → 1 ≤ i → i ≤ length (job .items) → itemAt job i .demand ≤ occurs i (itemsOfSet bs)) → length (itemsOfSet bs) ≤ maxPieces → Accepted job l ns
+      pub folded-accepted : ((i : ℕ) → 1 ≤ i → i ≤ length (job .items) → itemAt job i .demand ≤ occurs i (itemsOfSet bs)) → length (itemsOfSet bs) ≤ maxPieces → Feasible job l ns
       folded-accepted meets few =
           record {
             few = omega (arith, folded-total);

@@ -13,7 +13,7 @@ use Rattle.job.specs.Job.{Job}
 use Rattle.listing.specs.Listing.{Listing, cutAt}
 use Rattle.listing.specs.Model.{Model}
 use Rattle.plan.specs.Plan.{onPlate, leavesPlate}
-use Rattle.plan.proofs.PlanExact.{NonePast}
+use Rattle.plan.specs.Feasible.{NonePast}
 use Rattle.layouts.specs.Unfold.{search, spent}
 use Rattle.layouts.proofs.CountBasics.{bit, bit-diff}
 use Rattle.layouts.proofs.Tree.{Tree, leaf, node, tsum, fsum}

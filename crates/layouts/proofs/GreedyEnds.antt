@@ -13,8 +13,8 @@ use Rattle.listing.specs.Plate.{waste}
 use Rattle.listing.specs.Listing.{Listing, plateAt, cutAt}
 use Rattle.listing.specs.Model.{Model}
 use Rattle.plan.specs.Plan.{onPlate, leavesPlate}
+use Rattle.plan.specs.Feasible.{Feasible, NonePast}
 use Rattle.plan.proofs.CountBasics.{le-or-lt}
-use Rattle.plan.proofs.PlanExact.{Accepted, NonePast}
 use Rattle.layouts.proofs.CountBasics.{eq?, bit, bit-same, bit-diff, le-maxOf}
 use Rattle.layouts.proofs.Tree.{Tree, fsum}
 use Rattle.layouts.proofs.Pattern.{branchOf, restOf}
@@ -43,7 +43,7 @@ module _ (job : Job) (l : Listing) (m : Model job l) where
   cut-size c p = le-maxOf size (l .plates) waste (cutAt l c .plate) (cut-plate job l m c p)
 
   -- the counts of an accepted plan are balanced on every number from 1, also where there is no such plate type
-  pub balanced : (ns : List ℕ) → NonePast l ns → Accepted job l ns → (k : ℕ) → 0 < k → onSum l k ns ≤ leftSum l k ns
+  pub balanced : (ns : List ℕ) → NonePast l ns → Feasible job l ns → (k : ℕ) → 0 < k → onSum l k ns ≤ leftSum l k ns
   balanced ns past a k p = go (le-or-lt (length (l .plates)) k)
     where
       go : (length (l .plates) ≤ k) ⊎ (k < length (l .plates)) → onSum l k ns ≤ leftSum l k ns
@@ -102,7 +102,7 @@ module _ (job : Job) (l : Listing) (m : Model job l) where
     spends-sum f = omega (arith, keep f, wsum-none f 1 ns′ (λ c _. spends c))
 
   -- The unfolding of an accepted plan.
-  module _ (sided : Sided job) (ns ns′ : List ℕ) (ts : List Tree) (g : Grows l ns ts ns′) (past : NonePast l ns) (a : Accepted job l ns) where
+  module _ (sided : Sided job) (ns ns′ : List ℕ) (ts : List Tree) (g : Grows l ns ts ns′) (past : NonePast l ns) (a : Feasible job l ns) where
     past′ : NonePast l ns′
     past′ = grows-past l g past
 

@@ -12,7 +12,7 @@ use Rattle.job.specs.Job.{Job}
 use Rattle.listing.specs.Listing.{Listing, cutAt}
 use Rattle.listing.specs.Model.{Model}
 use Rattle.plan.specs.Plan.{onPlate, boards, total}
-use Rattle.plan.proofs.PlanExact.{Accepted, NonePast}
+use Rattle.plan.specs.Feasible.{Feasible, NonePast}
 use Rattle.layouts.specs.Layout.{widthOf, heightOf}
 use Rattle.layouts.specs.Placement.{turn, Placement}
 use Rattle.layouts.specs.Unfold.{State, openBoard, Run, run, stepsFor, unfolded}
@@ -96,7 +96,7 @@ module _ (job : Job) (l : Listing) (m : Model job l) (sided : Sided job) where
             (_and-then_ job l (place-1 job l m sided none none 0 0 0 (suc bd) 0 0 0 ns c q e) v₁) v₂) v₃)),
       )
 
-  module _ (ns : List ℕ) (past : NonePast l ns) (a : Accepted job l ns) where
+  module _ (ns : List ℕ) (past : NonePast l ns) (a : Feasible job l ns) where
     ending : (r : Run) × Unfolding job l ns r × ((fuel : ℕ) → 4 * total ns ≤ fuel → run fuel job l (start ns) ≡ r)
     unfolding boards
     ending =

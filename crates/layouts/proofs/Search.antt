@@ -13,8 +13,8 @@ use lib.Seq.{getD-set-other}
 use borrow.Author.Tests.{ltb-true, ltb-false, eqb-true, eq-eqb}
 use Rattle.listing.specs.Listing.{Cut, Listing, cutAt, noCut}
 use Rattle.plan.specs.Plan.{onPlate}
+use Rattle.plan.specs.Feasible.{NonePast}
 use Rattle.plan.proofs.CountBasics.{le-or-lt}
-use Rattle.plan.proofs.PlanExact.{NonePast}
 use Rattle.layouts.specs.Unfold.{search, spent}
 use Rattle.layouts.proofs.CountBasics.{eq?, bit-diff}
 use Rattle.layouts.proofs.Sums.{wsum, wsum-dec, wsum-none, weight}

@@ -12,7 +12,7 @@ use lib.ListN.{length, getD, set}
 use Rattle.job.specs.Lists.{sumOf}
 use Rattle.listing.specs.Listing.{Cut, Listing, cutAt, noCut}
 use Rattle.plan.specs.Plan.{countOf, total}
-use Rattle.plan.proofs.PlanExact.{NonePast}
+use Rattle.plan.specs.Feasible.{NonePast}
 use Rattle.layouts.proofs.CountBasics.{eq?, bit, bit-same, bit-diff}
 
 -- the sum of f c times the count of cut c; the counts are those of the cuts from k on

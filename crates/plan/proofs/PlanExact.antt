@@ -16,22 +16,8 @@ use Rattle.job.specs.Job.{Job, itemAt, noItem, maxPieces}
 use Rattle.listing.specs.Plate.{waste}
 use Rattle.listing.specs.Listing.{Cut, Listing}
 use Rattle.plan.specs.Plan.{countOf, ofItem, onPlate, leavesPlate, boards, total, short, overdrawn, countsRow, planRow}
+use Rattle.plan.specs.Feasible.{Feasible, NonePast}
 use Rattle.plan.proofs.CountBasics.{then-pass, refuseIf-pass, lowest-pass, le-or-lt}
-
--- an accepted plan: its counts come to at most 4,000, each item type's counts reach its demand, and the counts on each residual type are at
--- most the counts of cuts that leave it
-pub record Accepted (job : Job) (l : Listing) (ns : List ℕ) : Type 0 where
-  pub few : total ns ≤ maxPieces
-  pub met : (i : ℕ) → 1 ≤ i → i ≤ length (job .items) → itemAt job i .demand ≤ countOf (ofItem i) (l .cuts) ns
-  pub covered : (j : ℕ) → 1 ≤ j → j < length (l .plates) → countOf (onPlate j) (l .cuts) ns ≤ countOf (leavesPlate j) (l .cuts) ns
-
--- every word past the last cut is 0
-abbrev pub NonePast : Listing → List ℕ → Type 0
-NonePast l ns = (c : ℕ) → length (l .cuts) ≤ c → getD ns c 0 ≡ 0
-
--- so are those of counts that are no more than the cuts
-pub none-past : (l : Listing) (ns : List ℕ) → length ns ≤ length (l .cuts) → NonePast l ns
-none-past l ns h c p = List·getD-eq-default ns 0 (omega arith)
 
 one-more : (i : ℕ) → 1 + i ≡ suc i
 one-more i = omega arith
@@ -57,7 +43,7 @@ module _ (job : Job) (l : Listing) (ns : List ℕ) where
       rw (one-more j) (le-ltb _ _ (h (suc j) (omega arith) (omega (arith, length-drop 1 (l .plates)))))
 
   -- the plan row passes exactly where the plan is accepted
-  pub plan-exact : (planRow job l ns ≡ pass) ↔ Accepted job l ns
+  pub plan-exact : (planRow job l ns ≡ pass) ↔ Feasible job l ns
   unfolding planRow
   plan-exact = (to, from)
     where
@@ -67,7 +53,7 @@ module _ (job : Job) (l : Listing) (ns : List ℕ) where
       residuals : Verdict
       residuals = lowest 12 (overdrawn l ns) 1 (drop 1 (l .plates))
 
-      to : planRow job l ns ≡ pass → Accepted job l ns
+      to : planRow job l ns ≡ pass → Feasible job l ns
       to h =
           let a = then-pass (refuseIf (ltb maxPieces (total ns)) 10 0) (types then residuals) .0 h in
           let b = then-pass types residuals .0 (a .1) in
@@ -77,7 +63,7 @@ module _ (job : Job) (l : Listing) (ns : List ℕ) where
             covered = covered-to (lowest-pass 12 (overdrawn l ns) waste 1 (drop 1 (l .plates)) .0 (b .1));
           }
 
-      from : Accepted job l ns → planRow job l ns ≡ pass
+      from : Feasible job l ns → planRow job l ns ≡ pass
       from a =
           then-pass (refuseIf (ltb maxPieces (total ns)) 10 0) (types then residuals) .1 (
             refuseIf-pass (ltb maxPieces (total ns)) 10 0 .1 (le-ltb maxPieces (total ns) (a .few)),
@@ -131,7 +117,7 @@ total-take (suc n) (m ∷ ns) h = omega (arith, total-take n ns (λ c p. h (suc 
 
 -- a plan is accepted, and opens the boards that it opens, whether or not words that are 0 stand past its last cut
 module _ (job : Job) (l : Listing) (ns : List ℕ) (none : NonePast l ns) where
-  pub accepted-take : Accepted job l ns ↔ Accepted job l (take (length (l .cuts)) ns)
+  pub accepted-take : Feasible job l ns ↔ Feasible job l (take (length (l .cuts)) ns)
   accepted-take = (to, from)
     where
       cs : List Cut
@@ -140,7 +126,7 @@ module _ (job : Job) (l : Listing) (ns : List ℕ) (none : NonePast l ns) where
       same : (test : Cut → Bool) → countOf test cs (take (length cs) ns) ≡ countOf test cs ns
       same test = countOf-take test cs ns
 
-      to : Accepted job l ns → Accepted job l (take (length cs) ns)
+      to : Feasible job l ns → Feasible job l (take (length cs) ns)
       to a =
           record {
             few = omega (arith, a .few, total-take (length cs) ns none);
@@ -148,7 +134,7 @@ module _ (job : Job) (l : Listing) (ns : List ℕ) (none : NonePast l ns) where
             covered = λ j p q. omega (arith, a .covered j p q, same (onPlate j), same (leavesPlate j));
           }
 
-      from : Accepted job l (take (length cs) ns) → Accepted job l ns
+      from : Feasible job l (take (length cs) ns) → Feasible job l ns
       from a =
           record {
             few = omega (arith, a .few, total-take (length cs) ns none);

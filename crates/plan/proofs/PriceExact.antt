@@ -11,16 +11,8 @@ use Rattle.job.specs.Verdict.{pass}
 use Rattle.job.specs.Job.{Job}
 use Rattle.listing.specs.Listing.{Cut, Listing, cutAt, noCut}
 use Rattle.plan.specs.Prices.{Prices, itemPrice, residualPrice, priceLimit, worth, overLimit, pricesRow, priceSum, fewest}
+use Rattle.plan.specs.Feasible.{costs, DualFeasible}
 use Rattle.plan.proofs.CountBasics.{lowest-pass}
-
--- what the item and the kept residuals of a cut cost
-abbrev pub costs : Prices → Cut → ℕ
-costs ps c = itemPrice ps (c .item) + residualPrice ps (c .top) + residualPrice ps (c .right)
-
--- accepted prices: a cut on type 0 costs at most D, a cut on a residual type at most the price of that type
-pub record Priced (l : Listing) (ps : Prices) : Type 0 where
-  pub on-board : (c : ℕ) → c < length (l .cuts) → cutAt l (suc c) .plate ≡ 0 → costs ps (cutAt l (suc c)) ≤ ps .denominator
-  pub on-residual : (c : ℕ) → c < length (l .cuts) → 0 < cutAt l (suc c) .plate → costs ps (cutAt l (suc c)) ≤ residualPrice ps (cutAt l (suc c) .plate)
 
 -- the limit of a cut on type 0, and of a cut on a residual type
 pub limit-board : (ps : Prices) (j : ℕ) → j ≡ 0 → priceLimit ps j ≡ ps .denominator
@@ -35,11 +27,11 @@ limit-residual ps (suc j) p = refl
 
 module _ (l : Listing) (ps : Prices) where
   -- the prices row passes exactly where the prices are accepted
-  pub prices-exact : (pricesRow l ps ≡ pass) ↔ Priced l ps
+  pub prices-exact : (pricesRow l ps ≡ pass) ↔ DualFeasible l ps
   unfolding pricesRow overLimit worth cutAt
   prices-exact = (to, from)
     where
-      to : pricesRow l ps ≡ pass → Priced l ps
+      to : pricesRow l ps ≡ pass → DualFeasible l ps
       to h =
           let within : (c : ℕ) → c < length (l .cuts) → costs ps (cutAt l (suc c)) ≤ priceLimit ps (cutAt l (suc c) .plate)
           = λ c p. ltb-false _ _ (lowest-pass 14 (λ _ c. overLimit ps c) noCut 1 (l .cuts) .0 h c p) in
@@ -48,7 +40,7 @@ module _ (l : Listing) (ps : Prices) where
             on-residual = λ c p q. omega (arith, within c p, limit-residual ps (cutAt l (suc c) .plate) q);
           }
 
-      from : Priced l ps → pricesRow l ps ≡ pass
+      from : DualFeasible l ps → pricesRow l ps ≡ pass
       from a =
           lowest-pass 14 (λ _ c. overLimit ps c) noCut 1 (l .cuts) .1
           (λ c p. le-ltb _ _ (at c p (cutAt l (suc c) .plate) refl))

@@ -34,7 +34,7 @@ fn theorem(
     loop {
         let model = Model::random(random);
         let lines = lines(random, &model);
-        let damaged = random.below(9) < 5;
+        let damaged = random.below(9) < 4;
         let text = text_of(random, lines, model.job.items.len(), damaged);
         let output = program(&text);
         if !is_small_text(&text) || !is_short(&text) || !is_short(&output) {
