@@ -1,17 +1,14 @@
--- Tests and plain statements over lists: what `all`, `any` and `&&` decide, and how sums and the greatest value go with `++`, `map` and
--- `flatMap`.
+-- Tests, checks and sums over lists: what they say of the elements, and how they go with `++`, `map` and `flatMap`.
 -- Assumes nothing.
 use Prim.Native.Nat.{ℕ, zero, suc, _+_, _≤_, _<_}
 use native.Mathlib.Omega.{arith}
 use mathlib.Core.Path.{_≡_, refl, sym, _∙_}
-use mathlib.Core.Logic.{_⊎_, inl, inr, _↔_}
+use mathlib.Core.Logic.{_⊎_, inl, inr}
 use mathlib.Core.Bool.{Bool, true, false, not, _&&_, _||_, false≢true, and-eq-true-iff}
 use mathlib.Core.List.{List, [], _∷_, _++_, map, flatMap}
-use lib.Dec.{leb}
 use lib.ListN.{length, getD}
-use borrow.Author.Tests.{leb-true, le-leb}
 use Rattle.job.specs.Lists.{any, all, sumOf, maxOf, nonEmpty}
-use Rattle.job.specs.Verdict.{Verdict, pass, refuse, _then_, refuseIf, within, lowest}
+use Rattle.job.specs.Verdict.{Verdict, pass, refuse, _then_, refuseIf, lowest}
 use Rattle.layouts.specs.Rules.{Every, Some, Filled}
 
 -- both tests pass
@@ -20,33 +17,6 @@ and-true a b = and-eq-true-iff a b .0
 
 pub true-and : (a b : Bool) → a ≡ true → b ≡ true → a && b ≡ true
 true-and a b p q = and-eq-true-iff a b .1 (p, q)
-
--- all of seven tests pass
-pub seven-true :
-    (a b c d e f g : Bool)
-    → (a && b && c && d && e && f && g ≡ true)
-    ↔ ((a ≡ true) × (b ≡ true) × (c ≡ true) × (d ≡ true) × (e ≡ true) × (f ≡ true) × (g ≡ true))
-seven-true a b c d e f g = (to, back)
-  where
-    to : a && b && c && d && e && f && g ≡ true → (a ≡ true) × (b ≡ true) × (c ≡ true) × (d ≡ true) × (e ≡ true) × (f ≡ true) × (g ≡ true)
-    to h =
-        let q6 = and-true (a && b && c && d && e && f) g h in
-        let q5 = and-true (a && b && c && d && e) f (q6 .0) in
-        let q4 = and-true (a && b && c && d) e (q5 .0) in
-        let q3 = and-true (a && b && c) d (q4 .0) in
-        let q2 = and-true (a && b) c (q3 .0) in
-        let q1 = and-true a b (q2 .0) in
-        (q1 .0, q1 .1, q2 .1, q3 .1, q4 .1, q5 .1, q6 .1)
-
-    back : (a ≡ true) × (b ≡ true) × (c ≡ true) × (d ≡ true) × (e ≡ true) × (f ≡ true) × (g ≡ true) → a && b && c && d && e && f && g ≡ true
-    back h =
-        true-and (a && b && c && d && e && f) g
-        (true-and (a && b && c && d && e) f
-        (true-and (a && b && c && d) e
-        (true-and (a && b && c) d (true-and (a && b) c (true-and a b (h .0) (h .1)) (h .2)) (h .3))
-        (h .4))
-        (h .5))
-        (h .6)
 
 -- one of two tests passes
 pub or-true : (a b : Bool) → a || b ≡ true → (a ≡ true) ⊎ (b ≡ true)
@@ -68,14 +38,14 @@ false-or a b p q = rw p q
 
 -- one of four tests passes
 pub four-or :
-    (a b c d : Bool) → a || b || c || d ≡ true → (a ≡ true) ⊎ ((b ≡ true) ⊎ ((c ≡ true) ⊎ (d ≡ true)))
+    (a b c d : Bool) → a || b || c || d ≡ true → (a ≡ true) ⊎ (b ≡ true) ⊎ (c ≡ true) ⊎ (d ≡ true)
 four-or true b c d e = inl refl
 four-or false true c d e = inr (inl refl)
 four-or false false true d e = inr (inr (inl refl))
 four-or false false false d e = inr (inr (inr e))
 
 pub or-four :
-    (a b c d : Bool) → (a ≡ true) ⊎ ((b ≡ true) ⊎ ((c ≡ true) ⊎ (d ≡ true))) → a || b || c || d ≡ true
+    (a b c d : Bool) → (a ≡ true) ⊎ (b ≡ true) ⊎ (c ≡ true) ⊎ (d ≡ true) → a || b || c || d ≡ true
 or-four a b c d (inl e) = true-or (a || b || c) d (inl (true-or (a || b) c (inl (true-or a b (inl e)))))
 or-four a b c d (inr (inl e)) = true-or (a || b || c) d (inl (true-or (a || b) c (inl (true-or a b (inr e)))))
 or-four a b c d (inr (inr (inl e))) = true-or (a || b || c) d (inl (true-or (a || b) c (inr e)))
@@ -90,43 +60,17 @@ pub true-unless : (a b : Bool) → (a ≡ true → b ≡ true) → not a || b �
 true-unless true b h = h refl
 true-unless false b h = refl
 
--- within two limits
-pub within-true : (low high x : ℕ) → within low high x ≡ true → (low ≤ x) × (x ≤ high)
-within-true low high x e =
-    let h = and-true (leb low x) (leb x high) e in (leb-true low x (h .0), leb-true x high (h .1))
-
-pub true-within : (low high x : ℕ) → (low ≤ x) × (x ≤ high) → within low high x ≡ true
-true-within low high x h = true-and (leb low x) (leb x high) (le-leb low x (h .0)) (le-leb x high (h .1))
-
 -- a refusal does not pass
 pub refuse-pass : (n k : ℕ) → refuse n k ≡ pass → ⊥
 refuse-pass n k e = let z : _≡_ {A = ℕ} 0 1 = cc in omega arith
 
--- checks one after another pass exactly if each passes
+-- checks one after another pass exactly if each passes, one check exactly if its test fails
 pub pass-then : (v w : Verdict) → v then w ≡ pass → (v ≡ pass) × (w ≡ pass)
 pass-then pass w e = (refl, e)
 pass-then (refuse n k) w e = absurd (refuse-pass n k e)
 
 pub then-pass : (v w : Verdict) → v ≡ pass → w ≡ pass → v then w ≡ pass
 then-pass v w p q = rw p q
-
-pub six-pass :
-    (a b c d e f : Verdict)
-    → (a then b then c then d then e then f ≡ pass)
-    ↔ ((a ≡ pass) × (b ≡ pass) × (c ≡ pass) × (d ≡ pass) × (e ≡ pass) × (f ≡ pass))
-six-pass a b c d e f = (to, back)
-  where
-    to : a then b then c then d then e then f ≡ pass → (a ≡ pass) × (b ≡ pass) × (c ≡ pass) × (d ≡ pass) × (e ≡ pass) × (f ≡ pass)
-    to h =
-        let q1 = pass-then a (b then c then d then e then f) h in
-        let q2 = pass-then b (c then d then e then f) (q1 .1) in
-        let q3 = pass-then c (d then e then f) (q2 .1) in
-        let q4 = pass-then d (e then f) (q3 .1) in
-        let q5 = pass-then e f (q4 .1) in
-        (q1 .0, q2 .0, q3 .0, q4 .0, q5 .0, q5 .1)
-
-    back : (a ≡ pass) × (b ≡ pass) × (c ≡ pass) × (d ≡ pass) × (e ≡ pass) × (f ≡ pass) → a then b then c then d then e then f ≡ pass
-    back h = rw (h .0, h .1, h .2, h .3, h .4) (h .5)
 
 pub pass-refuse-if : (t : Bool) (n k : ℕ) → refuseIf t n k ≡ pass → t ≡ false
 pass-refuse-if true n k e = absurd (refuse-pass n k e)
@@ -178,22 +122,7 @@ module _ {A : Type 0} where
   some-any test P h (a ∷ l) (inl q) = any-cons test a l ∙ true-or (test a) (any test l) (inl (h a q))
   some-any test P h (a ∷ l) (inr q) = any-cons test a l ∙ true-or (test a) (any test l) (inr (some-any test P h l q))
 
-  -- a check over all places, by a test that does not depend on the place
-  pub lowest-every : (number k : ℕ) (test : A → Bool) (l : List A) → lowest number (λ _ a. not (test a)) k l ≡ pass → Every (λ a. test a ≡ true) l
-  unfolding lowest
-  lowest-every number k test [] e = tt
-  lowest-every number k test (a ∷ l) e = go (test a) refl e (lowest-every number (suc k) test l)
-    where
-      go : (t : Bool) → test a ≡ t → elim (not t) [ true ↦ refuse number k | false ↦ lowest number (λ _ b. not (test b)) (suc k) l ] ≡ pass
-          → (lowest number (λ _ b. not (test b)) (suc k) l ≡ pass → Every (λ b. test b ≡ true) l) → (test a ≡ true) × Every (λ b. test b ≡ true) l
-      go true h q rec = (h, rec q)
-      go false h q rec = absurd (refuse-pass number k q)
-
-  pub every-lowest : (number k : ℕ) (test : A → Bool) (l : List A) → Every (λ a. test a ≡ true) l → lowest number (λ _ a. not (test a)) k l ≡ pass
-  unfolding lowest
-  every-lowest number k test [] h = refl
-  every-lowest number k test (a ∷ l) h = rw (h .0, lowest) (every-lowest number (suc k) test l (h .1))
-
+  -- a list that is not empty
   pub filled-true : (l : List A) → nonEmpty l ≡ true → Filled l
   filled-true [] e = false≢true e
   filled-true (a ∷ l) e = tt
@@ -201,6 +130,32 @@ module _ {A : Type 0} where
   pub true-filled : (l : List A) → Filled l → nonEmpty l ≡ true
   true-filled [] h = absurd h
   true-filled (a ∷ l) h = refl
+
+  -- a check over all places, by a test that does not depend on the place
+  pub lowest-every :
+      (number k : ℕ) (test : A → Bool) (l : List A)
+      → lowest number (λ _ a. not (test a)) k l ≡ pass
+      → Every (λ a. test a ≡ true) l
+  unfolding lowest
+  lowest-every number k test [] e = tt
+  lowest-every number k test (a ∷ l) e = go (test a) refl e (lowest-every number (suc k) test l)
+    where
+      go :
+          (t : Bool)
+          → test a ≡ t
+          → elim (not t) [ true ↦ refuse number k | false ↦ lowest number (λ _ b. not (test b)) (suc k) l ] ≡ pass
+          → (lowest number (λ _ b. not (test b)) (suc k) l ≡ pass → Every (λ b. test b ≡ true) l)
+          → (test a ≡ true) × Every (λ b. test b ≡ true) l
+      go true h q rec = (h, rec q)
+      go false h q rec = absurd (refuse-pass number k q)
+
+  pub every-lowest :
+      (number k : ℕ) (test : A → Bool) (l : List A)
+      → Every (λ a. test a ≡ true) l
+      → lowest number (λ _ a. not (test a)) k l ≡ pass
+  unfolding lowest
+  every-lowest number k test [] h = refl
+  every-lowest number k test (a ∷ l) h = rw (h .0, lowest) (every-lowest number (suc k) test l (h .1))
 
   -- from one statement of every element to another
   pub every-map : {P Q : A → Type 0} → ((a : A) → P a → Q a) → (l : List A) → Every P l → Every Q l
@@ -251,20 +206,20 @@ module _ {A : Type 0} where
   sum-same f g h [] = refl
   sum-same f g h (a ∷ l) = omega (arith, h a, sum-same f g h l)
 
-  pub sum-less : (f g : A → ℕ) → ((a : A) → f a ≤ g a) → (l : List A) → sumOf f l ≤ sumOf g l
-  unfolding sumOf
-  sum-less f g h [] = omega arith
-  sum-less f g h (a ∷ l) = omega (arith, h a, sum-less f g h l)
-
   pub length-sum : (l : List A) → length l ≡ sumOf (λ _. 1) l
   unfolding sumOf
   length-sum [] = refl
   length-sum (a ∷ l) = omega (arith, length-sum l)
 
 module _ {A B : Type 0} where
+  -- of the values of f, and of the parts that f makes
   pub every-of-map : (P : B → Type 0) (f : A → B) (l : List A) → Every (λ a. P (f a)) l → Every P (map f l)
   every-of-map P f [] h = tt
   every-of-map P f (a ∷ l) h = (h .0, every-of-map P f l (h .1))
+
+  pub map-every : (P : B → Type 0) (f : A → B) (l : List A) → Every P (map f l) → Every (λ a. P (f a)) l
+  map-every P f [] h = tt
+  map-every P f (a ∷ l) h = (h .0, map-every P f l (h .1))
 
   pub some-of-map : (P : A → Type 0) (Q : B → Type 0) (f : A → B) → ((a : A) → P a → Q (f a)) → (l : List A) → Some P l → Some Q (map f l)
   some-of-map P Q f k [] h = h
@@ -290,7 +245,3 @@ module _ {A B : Type 0} where
   unfolding flatMap
   parts-every P f [] h = tt
   parts-every P f (a ∷ l) h = let q = append-every P (f a) (flatMap f l) h in (q .0, parts-every P f l (q .1))
-
-  pub map-every : (P : B → Type 0) (f : A → B) (l : List A) → Every P (map f l) → Every (λ a. P (f a)) l
-  map-every P f [] h = tt
-  map-every P f (a ∷ l) h = (h .0, map-every P f l (h .1))

@@ -21,7 +21,7 @@ use Rattle.layouts.specs.Layout.{Board, layoutRules}
 use Rattle.layouts.specs.Placement.{placementWords, linesOf, itemsOfSet, meetsDemands}
 use Rattle.layouts.specs.Lines.{setOf}
 use Rattle.layouts.specs.Fold.{ordered, folded}
-use Rattle.layouts.specs.Rules.{SetOk, BoardOk, Demanded}
+use Rattle.layouts.specs.Rules.{SetOk}
 use Rattle.layouts.specs.Demand3.{Accepted, Named, Folds, Priced}
 use Rattle.layouts.proofs.Leaves.{Sided}
 use Rattle.layouts.proofs.Order.{ordered-board-sum}
@@ -42,7 +42,7 @@ module _ (job : Job) (sided : Sided job) where
   in-order : (bs : List Board) → SetOk job bs → AllInOrder job bs
   in-order [] h = tt
   in-order (b ∷ bs) h =
-      let c : Cuttable job (sided-wide job sided) b = board-cuttable job (sided-wide job sided) b (h .0) in
+      let c : Cuttable job b = board-cuttable job b (h .0) in
       (record { pattern = c .pattern; some-cut = c .some; same = c .back }, in-order bs (h .1))
 
   -- ordering keeps the items of a set
@@ -97,7 +97,7 @@ module _ (job : Job) (l : Listing) (m : Model job l) (sided : Sided job) where
     unfolding setOf
     folds-so =
         record {
-          words = lines-words job wide high set (named .rules) (named .pieces);
+          words = lines-words job set wide high (named .rules) (named .pieces);
           row = set-row job 1 set (named .rules) (named .demands) (named .pieces);
           read = rw (words-rows (linesOf job set)) (lines-grouped job set (ok-full job set ok));
           accepted =

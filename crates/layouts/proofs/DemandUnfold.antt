@@ -37,7 +37,8 @@ use Rattle.layouts.proofs.Pattern.{Pattern, stackOf, stripOf}
 use Rattle.layouts.proofs.PatternSteps.{Wide}
 use Rattle.layouts.proofs.PatternRules.{pattern-ok, stack-width, strip-height}
 use Rattle.layouts.proofs.Order.{ordered-pattern}
-use Rattle.layouts.proofs.RulesExact.{set-exact, each-filled-exact}
+use Rattle.layouts.proofs.RulesExact.{set-exact}
+use Rattle.layouts.proofs.Exact.{decides-all, decides-filled}
 use Rattle.layouts.proofs.RulesWords.{demands-exact}
 use Rattle.layouts.proofs.Geometry.{rules-inside, rules-no-overlap}
 use Rattle.layouts.proofs.Grouping.{FullSet, ok-full, lines-grouped}
@@ -159,7 +160,7 @@ module _ (job : Job) (l : Listing) (m : Model job l) (sided : Sided job) where
           as-often = as-often;
           demands = demands-exact job set .1 (λ i p q. omega (arith, balanced .met i p q, as-often i));
           as-many = number ∙ u .opens;
-          none-empty = each-filled-exact set .1 (every-map (λ b (h : BoardOk job b). h .filled) set ok);
+          none-empty = decides-all decides-filled set .1 (every-map (λ b (h : BoardOk job b). h .filled) set ok);
           boards-given = u .last-board ∙ sym number;
           pieces-given = u .pieces;
           room = omega (arith, words-length (r .placements), u .pieces, balanced .few);

@@ -4,18 +4,17 @@ use Prim.Native.Nat.{ℕ, suc, _+_, _≤_, _<_}
 use native.Mathlib.Omega.{arith}
 use mathlib.Core.Path.{_≡_, refl}
 use mathlib.Core.Logic.{_⊎_, inl, inr}
-use mathlib.Core.Bool.{true, not}
+use mathlib.Core.Bool.{true}
 use mathlib.Core.List.{List, [], _∷_, _++_}
-use lib.Dec.{leb, eqb}
-use borrow.Author.Tests.{le-leb, ne-eqb}
 use Rattle.job.specs.Lists.{all, sumOf, maxOf}
 use Rattle.job.specs.Job.{Job}
 use Rattle.layouts.specs.Layout.{Stack, Strip, Board, widthOf, heightOf, stackWidth, stackHeight, stripWidth, stripHeight, boardHeight, layoutRules}
 use Rattle.layouts.specs.Placement.{Placement, stackLines, stripLines, boardLines, setLines, linesOf}
-use Rattle.layouts.specs.Rectangle.{endX, endY, inside, apart, clear, noOverlap}
-use Rattle.layouts.specs.Rules.{Every, StripOk, SetOk}
-use Rattle.layouts.proofs.Basics.{true-and, true-or, or-four, every-all, every-map, every-append, max-above}
+use Rattle.layouts.specs.Rectangle.{inside, clear, noOverlap}
+use Rattle.layouts.specs.Rules.{Every, StripOk, SetOk, Apart}
+use Rattle.layouts.proofs.Basics.{true-and, every-all, every-map, every-append, max-above}
 use Rattle.layouts.proofs.RulesExact.{set-exact}
+use Rattle.layouts.proofs.RulesWords.{inside-exact, clear-exact}
 
 -- each element is in the relation to every later one
 module _ {A : Type 0} (R : A → A → Type 0) where
@@ -36,10 +35,17 @@ module _ (job : Job) where
     pub high : r .y + heightOf job (r .item) ≤ y₁
 
   -- a smaller frame within a larger one
-  wider : (x₀ y₀ x₁ y₁ x₀′ y₀′ x₁′ y₁′ : ℕ) → x₀′ ≤ x₀ → y₀′ ≤ y₀ → x₁ ≤ x₁′ → y₁ ≤ y₁′ → (rs : List Placement) → Every (Between x₀ y₀ x₁ y₁) rs → Every (Between x₀′ y₀′ x₁′ y₁′) rs
+  wider :
+      (x₀ y₀ x₁ y₁ x₀′ y₀′ x₁′ y₁′ : ℕ)
+      → x₀′ ≤ x₀
+      → y₀′ ≤ y₀
+      → x₁ ≤ x₁′
+      → y₁ ≤ y₁′
+      → (rs : List Placement)
+      → Every (Between x₀ y₀ x₁ y₁) rs
+      → Every (Between x₀′ y₀′ x₁′ y₁′) rs
   wider x₀ y₀ x₁ y₁ x₀′ y₀′ x₁′ y₁′ a b c d rs h =
-      every-map (λ r (q : Between x₀ y₀ x₁ y₁ r).
-      record { left = omega (arith, q .left); low = omega (arith, q .low); right = omega (arith, q .right); high = omega (arith, q .high) }) rs h
+      every-map (λ r (q : Between x₀ y₀ x₁ y₁ r). search arith) rs h
 
   -- of two lines in turn: the second is on a later board, or the first ends where or before the second begins, across or upwards
   abbrev pub Ahead : Placement → Placement → Type 0
@@ -206,22 +212,15 @@ module _ (job : Job) where
 
   -- a line within the board's sides is inside, and one ahead of another is clear of it
   between-inside : (r : Placement) → Between 0 0 (job .width) (job .height) r → inside job r ≡ true
-  unfolding inside endX endY
-  between-inside r q =
-      true-and (leb (r .x + widthOf job (r .item)) (job .width)) (leb (r .y + heightOf job (r .item)) (job .height))
-      (le-leb (r .x + widthOf job (r .item)) (job .width) (q .right))
-      (le-leb (r .y + heightOf job (r .item)) (job .height) (q .high))
+  between-inside r q = inside-exact job r .1 (q .right, q .high)
 
   ahead-clear : (p q : Placement) → Ahead p q → clear job p q ≡ true
-  unfolding clear apart endX endY
-  ahead-clear p q h = true-or (not (eqb (p .turn .board) (q .turn .board))) (apart job p q) (go h)
+  ahead-clear p q h = clear-exact job p q .1 (go h)
     where
-      go : Ahead p q → (not (eqb (p .turn .board) (q .turn .board)) ≡ true) ⊎ (apart job p q ≡ true)
-      go (inl k) = inl (rw (ne-eqb (p .turn .board) (q .turn .board) (λ e. omega arith)) refl)
-      go (inr (inl k)) =
-          inr (or-four (leb (endX job p) (q .x)) (leb (endX job q) (p .x)) (leb (endY job p) (q .y)) (leb (endY job q) (p .y)) (inl (le-leb (endX job p) (q .x) k)))
-      go (inr (inr k)) =
-          inr (or-four (leb (endX job p) (q .x)) (leb (endX job q) (p .x)) (leb (endY job p) (q .y)) (leb (endY job q) (p .y)) (inr (inr (inl (le-leb (endY job p) (q .y) k)))))
+      go : Ahead p q → p .turn .board ≡ q .turn .board → Apart job p q
+      go (inl k) e = absurd (omega arith)
+      go (inr (inl k)) e = inl k
+      go (inr (inr k)) e = inr (inr (inl k))
 
   ahead-none : (ps : List Placement) → Pairwise Ahead ps → noOverlap job ps ≡ true
   unfolding noOverlap

@@ -51,7 +51,10 @@ pub grouped-on : (r : Placement) (rs : List Placement) → begun rs ≡ none →
 unfolding grouped
 grouped-on r rs e = rw (e, grouped)
 
-pub grouped-new : (r : Placement) (rs : List Placement) (v : Level) → begun rs ≡ some v → grouped (r ∷ rs) ≡ before v (r .item ∷ []) (grouped rs)
+pub grouped-new :
+    (r : Placement) (rs : List Placement) (v : Level)
+    → begun rs ≡ some v
+    → grouped (r ∷ rs) ≡ before v (r .item ∷ []) (grouped rs)
 unfolding grouped
 grouped-new r rs v e = rw (e, grouped)
 

@@ -41,3 +41,5 @@ pub mod RowWords
 pub mod DemandUnfold
 pub mod DemandFold
 pub mod Demand3
+pub mod Exact
+pub mod OrderForm

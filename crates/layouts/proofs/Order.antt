@@ -18,8 +18,8 @@ use Rattle.layouts.proofs.Sort.{Falling, every-falling, sum-falling, fi
 use Rattle.layouts.proofs.RulesExact.{full-exact}
 use Rattle.layouts.proofs.Tree.{Tree, leaf, node}
 use Rattle.layouts.proofs.Pattern.{Pattern, stackOf, stripOf, boardOf, stackTree, stripTree, boardTree}
-use Rattle.layouts.proofs.PatternSteps.{Wide, cut-1, cut-2-three, cut-2-two, cut-3}
-use Rattle.layouts.proofs.PatternRules.{Beside, beside, first-high, strip-high}
+use Rattle.layouts.proofs.PatternSteps.{Wide, cut-1, cut-2-three, cut-2-two, cut-3, waste-leaf}
+use Rattle.layouts.proofs.PatternRules.{Beside, single-high, strip-high, beside}
 
 -- the items of a strip, of a board, by their sums
 pub strip-sum : (f : ℕ → ℕ) (s : Strip) → sumOf f (itemsOfStrip s) ≡ sumOf (λ k. sumOf f k) s
@@ -32,7 +32,10 @@ board-sum f b = sum-of-parts f itemsOfStrip b
 
 module _ (job : Job) where
   -- folding's order, by the mode
-  pub ordered-three : (s : Strip) → three (job .mode) ≡ true → ordered job s ≡ toFront (fullStack job (stripHeight job s)) (map (falling (widthOf job)) s)
+  pub ordered-three :
+      (s : Strip)
+      → three (job .mode) ≡ true
+      → ordered job s ≡ toFront (fullStack job (stripHeight job s)) (map (falling (widthOf job)) s)
   unfolding ordered
   ordered-three s t = rw t refl
 
@@ -80,8 +83,11 @@ module _ (job : Job) where
 
   module _ (wide : Wide job) where
     -- a strip that a stage 1 cut begins is in order
-    ordered-strip : (w h i : ℕ) (a : Tree) → Beside job (w - widthOf job i) (heightOf job i) (stripOf a) → ordered job ((i ∷ []) ∷ stripOf a) ≡ (i ∷ []) ∷ stripOf a
-    ordered-strip w h i a u = go (three (job .mode)) refl
+    ordered-strip :
+        (w i : ℕ) (a : Tree)
+        → Beside job (w - widthOf job i) (heightOf job i) (stripOf a)
+        → ordered job ((i ∷ []) ∷ stripOf a) ≡ (i ∷ []) ∷ stripOf a
+    ordered-strip w i a u = go (three (job .mode)) refl
       where
         s : Strip
         s = (i ∷ []) ∷ stripOf a
@@ -91,11 +97,13 @@ module _ (job : Job) where
             ordered-three s t
             ∙ ap (toFront (fullStack job (stripHeight job s))) (same-stacks s ((tt, tt), u .falls))
             ∙ front-same (fullStack job (stripHeight job s)) (i ∷ []) (stripOf a)
-            (full-exact job (stripHeight job s) (i ∷ []) .1 (refl, first-high job wide w h i a u ∙ sym (strip-high job wide w h i a u)))
+            (full-exact job (stripHeight job s) (i ∷ []) .1 (refl, single-high job i ∙ sym (strip-high job w i a u)))
         go false t =
             ordered-two s t
-            ∙ falling-same (stackHeight job) s
-            (every-map (λ k (q : stackHeight job k ≤ heightOf job i). omega (arith, first-high job wide w h i a u)) (stripOf a) (u .low), u .order t)
+            ∙ falling-same (stackHeight job) s (
+              every-map (λ k (q : stackHeight job k ≤ heightOf job i). omega (arith, single-high job i)) (stripOf a) (u .low),
+              u .order t,
+            )
 
     -- the layout of a pattern is in order, ..
     pub ordered-pattern : (w h : ℕ) (x : Tree) → Pattern job (plate w h 1) x → map (ordered job) (boardOf x) ≡ boardOf x
@@ -103,15 +111,15 @@ module _ (job : Job) where
     ordered-pattern w h (node i a b) p =
         let q = cut-1 job w h i a b .0 p in
         ap₂ (λ (s : Strip) (r : Board). s ∷ r)
-        (ordered-strip w h i a (beside job wide (w - widthOf job i) (heightOf job i) a (q .1)))
+        (ordered-strip w i a (beside job wide (w - widthOf job i) (heightOf job i) a (q .1)))
         (ordered-pattern w (h - heightOf job i) b (q .2))
 
     -- .. and gives the pattern back
     tree-stack : (w h : ℕ) (x : Tree) → three (job .mode) ≡ true → Pattern job (plate w h 3) x → stackTree (stackOf x) ≡ x
     tree-stack w h leaf t p = refl
     tree-stack w h (node i a b) t p =
-        let q = cut-3 job wide w h i a b t .0 p in
-        let e : a ≡ leaf = q .2 in
+        let q = cut-3 job w h i a b t .0 p in
+        let e : a ≡ leaf = waste-leaf job wide a (q .2) in
         let r : stackTree (stackOf b) ≡ b = tree-stack (widthOf job i) (h - heightOf job i) b t (q .3) in
         cc
 
@@ -128,8 +136,8 @@ module _ (job : Job) where
             let r : stripTree (stripOf b) ≡ b = rec h (q .2) in
             cc
         go false t rec =
-            let q = cut-2-two job wide w h i a b t .0 p in
-            let e : a ≡ leaf = q .2 in
+            let q = cut-2-two job w h i a b t .0 p in
+            let e : a ≡ leaf = waste-leaf job wide a (q .2) in
             let e′ : stackTree (stackOf a) ≡ leaf = rw e refl in
             let r : stripTree (stripOf b) ≡ b = rec (heightOf job i) (q .3) in
             cc

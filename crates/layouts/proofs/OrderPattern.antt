@@ -2,7 +2,7 @@
 -- Assumes nothing.
 use Prim.Native.Nat.{ℕ, _-_, _≤_}
 use native.Mathlib.Omega.{arith}
-use mathlib.Core.Path.{_≡_, refl, sym, ap, ap₂, _∙_}
+use mathlib.Core.Path.{_≡_, refl, sym, _∙_}
 use mathlib.Core.Logic.{_≢_}
 use mathlib.Core.Bool.{Bool, true, false}
 use mathlib.Core.List.{[], _∷_, map}
@@ -18,55 +18,12 @@ use Rattle.layouts.proofs.Basics.{every-map, every-of-map, some-of-map,
 use Rattle.layouts.proofs.Sort.{Falling, every-falling, sum-falling, max-falling, length-falling, filled-falling, falling-falls, every-front, sum-front, front-passes, HeadPasses}
 use Rattle.layouts.proofs.RulesExact.{same-alike, alike-same, single-heights, full-exact, board-exact}
 use Rattle.layouts.proofs.Tree.{leaf, tsum}
-use Rattle.layouts.proofs.Pattern.{Pattern, stackOf, stripOf, boardOf, stackTree, stripTree, boardTree}
-use Rattle.layouts.proofs.PatternSteps.{Wide, Within, cut-1, cut-2-three, cut-2-two, cut-3}
-use Rattle.layouts.proofs.Order.{ordered-three, ordered-two, ordered-filled, strip-sum, board-sum, ordered-board-sum}
+use Rattle.layouts.proofs.Pattern.{Pattern, boardOf, stackTree, stripTree, boardTree}
+use Rattle.layouts.proofs.PatternSteps.{Within, cut-1, cut-2-three, cut-2-two, cut-3}
+use Rattle.layouts.proofs.OrderForm.{Formed, formed-back, formed-items, formed-node}
+use Rattle.layouts.proofs.Order.{ordered-three, ordered-two, ordered-filled, ordered-board-sum}
 
--- a strip in the form that a stage 1 cut begins: a single item first, and no empty stack beside it
-abbrev pub Formed : Strip → Type 0
-Formed [] = ⊥
-Formed ([] ∷ ks) = ⊥
-Formed ((i ∷ is) ∷ ks) = (is ≡ []) × Every Filled ks
-
--- the layout of the pattern of strips of that form: nothing is cut short
-stack-back : (s : Stack) → stackOf (stackTree s) ≡ s
-stack-back [] = refl
-stack-back (i ∷ s) = ap (λ (r : Stack). i ∷ r) (stack-back s)
-
-strip-back : (s : Strip) → Every Filled s → stripOf (stripTree s) ≡ s
-strip-back [] h = refl
-strip-back ([] ∷ s) h = absurd (h .0)
-strip-back ((i ∷ k) ∷ s) h = ap₂ (λ (a : Stack) (b : Strip). (i ∷ a) ∷ b) (stack-back k) (strip-back s (h .1))
-
-board-back : (b : Board) → Every Formed b → boardOf (boardTree b) ≡ b
-board-back [] h = refl
-board-back ([] ∷ b) h = absurd (h .0)
-board-back (([] ∷ ks) ∷ b) h = absurd (h .0)
-board-back (((i ∷ is) ∷ ks) ∷ b) h =
-    rw (h .0 .0) (ap₂ (λ (s : Strip) (r : Board). ((i ∷ []) ∷ s) ∷ r) (strip-back ks (h .0 .1)) (board-back b (h .1)))
-
--- and its items are the strips' items
-module _ (f : ℕ → ℕ) where
-  stack-total : (s : Stack) → tsum f (stackTree s) ≡ sumOf f s
-  unfolding sumOf
-  stack-total [] = refl
-  stack-total (i ∷ s) = omega (arith, stack-total s)
-
-  strip-total : (s : Strip) → Every Filled s → tsum f (stripTree s) ≡ sumOf (λ k. sumOf f k) s
-  unfolding sumOf
-  strip-total [] h = refl
-  strip-total ([] ∷ s) h = absurd (h .0)
-  strip-total ((i ∷ k) ∷ s) h = omega (arith, stack-total k, strip-total s (h .1))
-
-  board-total : (b : Board) → Every Formed b → tsum f (boardTree b) ≡ sumOf (λ s. sumOf (λ k. sumOf f k) s) b
-  unfolding sumOf
-  board-total [] h = refl
-  board-total ([] ∷ b) h = absurd (h .0)
-  board-total (([] ∷ ks) ∷ b) h = absurd (h .0)
-  board-total (((i ∷ is) ∷ ks) ∷ b) h =
-      let z : sumOf f is ≡ 0 = rw (h .0 .0) refl in omega (arith, strip-total ks (h .0 .1), board-total b (h .1))
-
-module _ (job : Job) (wide : Wide job) where
+module _ (job : Job) where
   -- items that fall in width are a pattern of a stage 3 plate
   pattern-stack :
       three (job .mode) ≡ true
@@ -80,10 +37,10 @@ module _ (job : Job) (wide : Wide job) where
   unfolding stackHeight sumOf
   pattern-stack t w h [] ty na sa fa up = tt
   pattern-stack t w h (i ∷ s) ty na sa fa up =
-      cut-3 job wide w h i leaf (stackTree s) t .1 (
+      cut-3 job w h i leaf (stackTree s) t .1 (
         record { type = ty .0; wide = na .0; high = omega arith },
         λ e. sa e .0,
-        refl,
+        tt,
         pattern-stack t (widthOf job i) (h - heightOf job i) s (ty .1) (fa .0)
             (λ e. every-map (λ j (q : widthOf job j ≡ w). q ∙ sym (sa e .0)) s (sa e .1)) (fa .1) (omega arith),
       )
@@ -123,7 +80,7 @@ module _ (job : Job) (wide : Wide job) where
     just : exact (job .mode) ≡ true → stackHeight job s ≡ h
 
   -- such items that fall in height are a pattern of a stage 2 plate of two stages
-  pattern-items :
+  pattern-singles :
       three (job .mode) ≡ false
       → (w h : ℕ) (s : Strip)
       → Every (Level h) s
@@ -131,19 +88,23 @@ module _ (job : Job) (wide : Wide job) where
       → stripWidth job s ≤ w
       → Pattern job (plate w h 2) (stripTree s)
   unfolding stripWidth stackWidth stackHeight sumOf maxOf
-  pattern-items t w h [] g fa up = tt
-  pattern-items t w h ([] ∷ s) g fa up = tt
-  pattern-items t w h ((i ∷ j ∷ k) ∷ s) g fa up = absurd (omega (arith, g .0 .single))
-  pattern-items t w h ((i ∷ []) ∷ s) g fa up =
+  pattern-singles t w h [] g fa up = tt
+  pattern-singles t w h ([] ∷ s) g fa up = tt
+  pattern-singles t w h ((i ∷ j ∷ k) ∷ s) g fa up = absurd (omega (arith, g .0 .single))
+  pattern-singles t w h ((i ∷ []) ∷ s) g fa up =
       let q = g .0 in
-      cut-2-two job wide w h i leaf (stripTree s) t .1 (
+      cut-2-two job w h i leaf (stripTree s) t .1 (
         record { type = q .types .0; wide = omega arith; high = omega (arith, q .low) },
         λ e. omega (arith, q .just e),
-        refl,
-        pattern-items t (w - widthOf job i) (heightOf job i) s (lower s (g .1) (fa .0) (q .just)) (fa .1) (omega arith),
+        tt,
+        pattern-singles t (w - widthOf job i) (heightOf job i) s (lower s (g .1) (fa .0) (q .just)) (fa .1) (omega arith),
       )
     where
-      lower : (m : Strip) → Every (Level h) m → Every (λ k. stackHeight job k ≤ stackHeight job (i ∷ [])) m → (exact (job .mode) ≡ true → stackHeight job (i ∷ []) ≡ h)
+      lower :
+          (m : Strip)
+          → Every (Level h) m
+          → Every (λ k. stackHeight job k ≤ stackHeight job (i ∷ [])) m
+          → (exact (job .mode) ≡ true → stackHeight job (i ∷ []) ≡ h)
           → Every (Level (heightOf job i)) m
       lower [] g f e = tt
       lower (k ∷ m) g f e = (
@@ -185,18 +146,24 @@ module _ (job : Job) (wide : Wide job) where
       → stripWidth job s ≤ job .width
       → Ready h s
   unfolding stripWidth stackWidth stackHeight sumOf maxOf
-  ready-items t h c [] fi si ty lo le fa ac = absurd fi
-  ready-items t h c ([] ∷ s) fi si ty lo le fa ac = absurd (omega (arith, si .0))
-  ready-items t h c ((i ∷ j ∷ k) ∷ s) fi si ty lo le fa ac = absurd (omega (arith, si .0))
-  ready-items t h c ((i ∷ []) ∷ s) fi si ty lo le fa ac = (
+  ready-items t h c [] fi si ty lo le fa cr = absurd fi
+  ready-items t h c ([] ∷ s) fi si ty lo le fa cr = absurd (omega (arith, si .0))
+  ready-items t h c ((i ∷ j ∷ k) ∷ s) fi si ty lo le fa cr = absurd (omega (arith, si .0))
+  ready-items t h c ((i ∷ []) ∷ s) fi si ty lo le fa cr = (
     refl,
     record { type = ty .0 .0; wide = omega arith; high = omega (arith, lo .0) },
-    pattern-items t (job .width - widthOf job i) (heightOf job i) s
+    pattern-singles t (job .width - widthOf job i) (heightOf job i) s
         (level s (si .1) (ty .1) (fa .0) (λ e. le e .1) (λ e. le e .0)) (fa .1) (omega arith),
   )
     where
-      level : (m : Strip) → Every Single m → Every (Every (OfJob job)) m → Every (λ k. stackHeight job k ≤ stackHeight job (i ∷ [])) m
-          → (exact (job .mode) ≡ true → Every (λ k. stackHeight job k ≡ c) m) → (exact (job .mode) ≡ true → stackHeight job (i ∷ []) ≡ c) → Every (Level (heightOf job i)) m
+      level :
+          (m : Strip)
+          → Every Single m
+          → Every (Every (OfJob job)) m
+          → Every (λ k. stackHeight job k ≤ stackHeight job (i ∷ [])) m
+          → (exact (job .mode) ≡ true → Every (λ k. stackHeight job k ≡ c) m)
+          → (exact (job .mode) ≡ true → stackHeight job (i ∷ []) ≡ c)
+          → Every (Level (heightOf job i)) m
       level [] a b f d e = tt
       level (k ∷ m) a b f d e = (
         record { single = a .0; types = b .0; low = omega (arith, f .0); just = λ x. omega (arith, d x .0, e x) },
@@ -227,10 +194,10 @@ module _ (job : Job) (wide : Wide job) where
       → stripWidth job s ≤ job .width
       → Ready h s
   unfolding stripWidth stackWidth stackHeight sumOf maxOf
-  ready-stacks t h [] hp g ac = absurd hp
-  ready-stacks t h ([] ∷ s) hp g ac = absurd (omega (arith, full-exact job h [] .0 hp .0))
-  ready-stacks t h ((i ∷ j ∷ k) ∷ s) hp g ac = absurd (omega (arith, full-exact job h (i ∷ j ∷ k) .0 hp .0))
-  ready-stacks t h ((i ∷ []) ∷ s) hp g ac =
+  ready-stacks t h [] hp g cr = absurd hp
+  ready-stacks t h ([] ∷ s) hp g cr = absurd (omega (arith, full-exact job h [] .0 hp .0))
+  ready-stacks t h ((i ∷ j ∷ k) ∷ s) hp g cr = absurd (omega (arith, full-exact job h (i ∷ j ∷ k) .0 hp .0))
+  ready-stacks t h ((i ∷ []) ∷ s) hp g cr =
       let z : heightOf job i ≡ h = omega (arith, full-exact job h (i ∷ []) .0 hp .1) in (
         refl,
         record { type = g .0 .types .0; wide = omega arith; high = omega arith },
@@ -265,7 +232,8 @@ module _ (job : Job) (wide : Wide job) where
       passes : Some (λ a. test a ≡ true) s₁
       passes =
           some-of-map (λ a. Single a × (stackHeight job a ≡ stripHeight job s)) (λ a. test a ≡ true) (falling (widthOf job))
-          (λ a q. full-exact job (stripHeight job s) (falling (widthOf job) a) .1 (length-falling (widthOf job) a ∙ q .0, falling-high a ∙ q .1)) s (k .staged .full t)
+          (λ a q. full-exact job (stripHeight job s) (falling (widthOf job) a) .1 (length-falling (widthOf job) a ∙ q .0, falling-high a ∙ q .1))
+          s (k .staged .full t)
 
       in-order : (m : Strip) → Every Filled m → Every (Every (OfJob job)) m → (exact (job .mode) ≡ true → Every (Alike (widthOf job)) m)
           → Every (λ a. stackHeight job a ≤ stripHeight job s) m → Every (InOrder (stripHeight job s)) (map (falling (widthOf job)) m)
@@ -301,12 +269,19 @@ module _ (job : Job) (wide : Wide job) where
   board-formed b k = every-of-map Formed (ordered job) b (every-map ordered-formed b k)
 
   -- strips that keep the rules, in order, are a pattern of a stage 1 plate
-  ordered-strips : (h : ℕ) (b : Board) → Every (StripOk job) b → boardHeight job b ≤ h → Pattern job (plate (job .width) h 1) (boardTree (map (ordered job) b))
+  ordered-strips :
+      (h : ℕ) (b : Board)
+      → Every (StripOk job) b
+      → boardHeight job b ≤ h
+      → Pattern job (plate (job .width) h 1) (boardTree (map (ordered job) b))
   unfolding boardHeight sumOf
   ordered-strips h [] k up = tt
   ordered-strips h (s ∷ b) k up = go (ordered job s) (ready s (k .0)) (λ m. ordered-strips m b (k .1))
     where
-      go : (m : Strip) → Ready (stripHeight job s) m → ((n : ℕ) → boardHeight job b ≤ n → Pattern job (plate (job .width) n 1) (boardTree (map (ordered job) b)))
+      go :
+          (m : Strip)
+          → Ready (stripHeight job s) m
+          → ((n : ℕ) → boardHeight job b ≤ n → Pattern job (plate (job .width) n 1) (boardTree (map (ordered job) b)))
           → Pattern job (plate (job .width) h 1) (boardTree (m ∷ map (ordered job) b))
       go [] q rec = tt
       go ([] ∷ m) q rec = tt
@@ -318,22 +293,9 @@ module _ (job : Job) (wide : Wide job) where
             rec (h - heightOf job i) (omega (arith, f .high)),
           )
 
-  node-formed : (b : Board) → Filled b → Every Formed b → boardTree b ≢ leaf
-  node-formed [] n q e = absurd n
-  node-formed ([] ∷ b) n q e = absurd (q .0)
-  node-formed (([] ∷ ks) ∷ b) n q e = absurd (q .0)
-  node-formed (((i ∷ is) ∷ ks) ∷ b) n q e = let z : _≡_ {A = ℕ} 0 1 = cc in omega arith
-
   filled-ordered : (b : Board) → Filled b → Filled (map (ordered job) b)
   filled-ordered [] n = absurd n
   filled-ordered (s ∷ b) n = tt
-
-  items-ordered : (f : ℕ → ℕ) (b : Board) → Every (StripOk job) b → tsum f (boardTree (map (ordered job) b)) ≡ sumOf f (itemsOfBoard b)
-  items-ordered f b k =
-      board-total f (map (ordered job) b) (board-formed b k)
-      ∙ sum-same (λ s. sumOf (λ a. sumOf f a) s) (λ s. sumOf f (itemsOfStrip s)) (λ s. sym (strip-sum f s)) (map (ordered job) b)
-      ∙ sym (board-sum f (map (ordered job) b))
-      ∙ ordered-board-sum job f b
 
   -- what a board becomes in folding's order: strips that each begin with a single item and have no empty stack, so that its tree cuts nothing
   -- short; the tree is a pattern of the board, not empty, and has all the board's items
@@ -349,10 +311,10 @@ module _ (job : Job) (wide : Wide job) where
   board-cuttable b k =
       record {
         formed = board-formed b (k .strips);
-        back = board-back (map (ordered job) b) (board-formed b (k .strips));
+        back = formed-back (map (ordered job) b) (board-formed b (k .strips));
         pattern = ordered-strips (job .height) b (k .strips) (k .up);
-        some = node-formed (map (ordered job) b) (filled-ordered b (k .filled)) (board-formed b (k .strips));
-        items = λ f. items-ordered f b (k .strips);
+        some = formed-node (map (ordered job) b) (filled-ordered b (k .filled)) (board-formed b (k .strips));
+        items = λ f. formed-items f (map (ordered job) b) (board-formed b (k .strips)) ∙ ordered-board-sum job f b;
       }
 
   pub rules-cuttable : (b : Board) → boardRules job b ≡ true → Cuttable b

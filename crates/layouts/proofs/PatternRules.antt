@@ -19,7 +19,7 @@ use Rattle.layouts.proofs.Sort.{Falling}
 use Rattle.layouts.proofs.RulesExact.{same-alike, single-heights, board-exact}
 use Rattle.layouts.proofs.Tree.{Tree, leaf, node}
 use Rattle.layouts.proofs.Pattern.{Pattern, stackOf, stripOf, boardOf}
-use Rattle.layouts.proofs.PatternSteps.{Wide, Within, cut-1, cut-2-three, cut-2-two, cut-3}
+use Rattle.layouts.proofs.PatternSteps.{Wide, Within, cut-1, cut-2-three, cut-2-two, cut-3, waste-leaf}
 
 module _ (job : Job) where
   -- what a pattern of a stage 3 plate of w by h makes of the items above
@@ -49,16 +49,72 @@ module _ (job : Job) where
     pub strips : w ≡ job .width → Every (StripOk job) b
     pub up : boardHeight job b ≤ h
 
+  -- a stack that is one item
+  pub single-high : (i : ℕ) → stackHeight job (i ∷ []) ≡ heightOf job i
+  unfolding stackHeight sumOf
+  single-high i = omega arith
+
+  single-wide : (i : ℕ) → stackWidth job (i ∷ []) ≡ widthOf job i
+  unfolding stackWidth maxOf
+  single-wide i = omega arith
+
   none-above : (w h : ℕ) → Above w h []
   unfolding sumOf
   none-above w h = record { types = tt; narrow = tt; same = λ e. tt; falls = tt; tall = omega arith }
 
+  -- a stage 2 cut: its item, the items above it in its stack, and the pattern of the further stacks
+  pub record Begun (w h i : ℕ) (a b : Tree) : Type 0 where
+    pub within : Within job w h i
+    pub items : Above (widthOf job i) (h - heightOf job i) (stackOf a)
+    pub alone : three (job .mode) ≡ false → stackOf a ≡ []
+    pub just : three (job .mode) ≡ false → exact (job .mode) ≡ true → heightOf job i ≡ h
+    pub further : Pattern job (plate (w - widthOf job i) (cond (three (job .mode)) h (heightOf job i)) 2) b
+
+  -- the stack's width is its first item's, since no other is wider; its height is at most the plate's
+  module _ (w h i : ℕ) (a b : Tree) (q : Begun w h i a b) where
+    pub stack-wide : stackWidth job (i ∷ stackOf a) ≡ widthOf job i
+    unfolding stackWidth maxOf
+    stack-wide = omega (arith, max-least (widthOf job) (widthOf job i) (stackOf a) (q .items .narrow))
+
+    stack-high : stackHeight job (i ∷ stackOf a) ≤ h
+    unfolding stackHeight sumOf
+    stack-high = omega (arith, q .within .high, q .items .tall)
+
+    stack-alone : three (job .mode) ≡ false → stackHeight job (i ∷ stackOf a) ≡ heightOf job i
+    unfolding stackHeight sumOf
+    stack-alone t = rw (q .alone t) (omega arith)
+
+    stack-even : exact (job .mode) ≡ true → Alike (widthOf job) (i ∷ stackOf a)
+    stack-even e = same-alike (widthOf job) (widthOf job i) (i ∷ stackOf a) (refl, q .items .same e)
+
+  -- the strip that a stage 1 cut begins: its height is its first item's, since no stack is higher
+  module _ (w i : ℕ) (a : Tree) (u : Beside (w - widthOf job i) (heightOf job i) (stripOf a)) where
+    pub strip-high : stripHeight job ((i ∷ []) ∷ stripOf a) ≡ heightOf job i
+    unfolding stripHeight maxOf
+    strip-high = omega (arith, single-high i, max-least (stackHeight job) (heightOf job i) (stripOf a) (u .low))
+
+    strip-staged : Staged job ((i ∷ []) ∷ stripOf a)
+    strip-staged =
+        record {
+          single = λ t. (refl, u .single t);
+          level = λ t e.
+              same-alike (heightOf job) (heightOf job i) (itemsOfStrip ((i ∷ []) ∷ stripOf a))
+              (single-heights job (heightOf job i) ((i ∷ []) ∷ stripOf a) (refl, u .single t) .0 (single-high i, u .level t e));
+          full = λ t. inl (refl, single-high i ∙ sym strip-high);
+          even = λ t e. (same-alike (widthOf job) (widthOf job i) (i ∷ []) (refl, tt), u .even e);
+        }
+
+    strip-across : widthOf job i ≤ w → stripWidth job ((i ∷ []) ∷ stripOf a) ≤ w
+    unfolding stripWidth sumOf
+    strip-across k = omega (arith, single-wide i, u .across)
+
   module _ (wide : Wide job) where
+    -- stage 3: the items above one another fall in width, in 3E all of one width
     pub above : three (job .mode) ≡ true → (w h : ℕ) (x : Tree) → Pattern job (plate w h 3) x → Above w h (stackOf x)
     unfolding sumOf
     above t w h leaf p = none-above w h
     above t w h (node i a b) p =
-        let q = cut-3 job wide w h i a b t .0 p in
+        let q = cut-3 job w h i a b t .0 p in
         let f = q .0 in
         let r = above t (widthOf job i) (h - heightOf job i) b (q .3) in
         record {
@@ -69,14 +125,7 @@ module _ (job : Job) where
           tall = omega (arith, f .high, r .tall);
         }
 
-    -- a stage 2 cut: its item, the items above it in its stack, and the pattern of the further stacks
-    pub record Begun (w h i : ℕ) (a b : Tree) : Type 0 where
-      pub within : Within job w h i
-      pub items : Above (widthOf job i) (h - heightOf job i) (stackOf a)
-      pub alone : three (job .mode) ≡ false → stackOf a ≡ []
-      pub just : three (job .mode) ≡ false → exact (job .mode) ≡ true → heightOf job i ≡ h
-      pub further : Pattern job (plate (w - widthOf job i) (cond (three (job .mode)) h (heightOf job i)) 2) b
-
+    -- stage 2, its first cut
     pub begun : (w h i : ℕ) (a b : Tree) → Pattern job (plate w h 2) (node i a b) → Begun w h i a b
     begun w h i a b p = go (three (job .mode)) refl
       where
@@ -91,32 +140,17 @@ module _ (job : Job) where
               further = rw t (q .2);
             }
         go false t =
-            let q = cut-2-two job wide w h i a b t .0 p in
+            let q = cut-2-two job w h i a b t .0 p in
+            let e : a ≡ leaf = waste-leaf job wide a (q .2) in
             record {
               within = q .0;
-              items = rw (q .2) (none-above (widthOf job i) (h - heightOf job i));
-              alone = λ t′. rw (q .2) refl;
+              items = rw e (none-above (widthOf job i) (h - heightOf job i));
+              alone = λ t′. rw e refl;
               just = λ t′. q .1;
               further = rw t (q .3);
             }
 
-    -- the stack's width is its first item's, since no other is wider; its height is at most the plate's
-    module _ (w h i : ℕ) (a b : Tree) (q : Begun w h i a b) where
-      pub stack-wide : stackWidth job (i ∷ stackOf a) ≡ widthOf job i
-      unfolding stackWidth maxOf
-      stack-wide = omega (arith, max-least (widthOf job) (widthOf job i) (stackOf a) (q .items .narrow))
-
-      stack-high : stackHeight job (i ∷ stackOf a) ≤ h
-      unfolding stackHeight sumOf
-      stack-high = omega (arith, q .within .high, q .items .tall)
-
-      stack-alone : three (job .mode) ≡ false → stackHeight job (i ∷ stackOf a) ≡ heightOf job i
-      unfolding stackHeight sumOf
-      stack-alone t = rw (q .alone t) (omega arith)
-
-      stack-even : exact (job .mode) ≡ true → Alike (widthOf job) (i ∷ stackOf a)
-      stack-even e = same-alike (widthOf job) (widthOf job i) (i ∷ stackOf a) (refl, q .items .same e)
-
+    -- stage 2: the stacks beside one another, in two stages single items that fall in height, in 2E all of one height
     pub beside : (w h : ℕ) (x : Tree) → Pattern job (plate w h 2) x → Beside w h (stripOf x)
     unfolding stripWidth sumOf
     beside w h leaf p =
@@ -161,35 +195,7 @@ module _ (job : Job) where
         same : three (job .mode) ≡ false → cond (three (job .mode)) h (heightOf job i) ≡ heightOf job i
         same t = rw t refl
 
-    -- the strip that a stage 1 cut begins: its height is its first item's, since no stack is higher
-    module _ (w h i : ℕ) (a : Tree) (u : Beside (w - widthOf job i) (heightOf job i) (stripOf a)) where
-      pub first-high : stackHeight job (i ∷ []) ≡ heightOf job i
-      unfolding stackHeight sumOf
-      first-high = omega arith
-
-      first-wide : stackWidth job (i ∷ []) ≡ widthOf job i
-      unfolding stackWidth maxOf
-      first-wide = omega arith
-
-      pub strip-high : stripHeight job ((i ∷ []) ∷ stripOf a) ≡ heightOf job i
-      unfolding stripHeight maxOf
-      strip-high = omega (arith, first-high, max-least (stackHeight job) (heightOf job i) (stripOf a) (u .low))
-
-      strip-staged : Staged job ((i ∷ []) ∷ stripOf a)
-      strip-staged =
-          record {
-            single = λ t. (refl, u .single t);
-            level = λ t e.
-                same-alike (heightOf job) (heightOf job i) (itemsOfStrip ((i ∷ []) ∷ stripOf a))
-                (single-heights job (heightOf job i) ((i ∷ []) ∷ stripOf a) (refl, u .single t) .0 (first-high, u .level t e));
-            full = λ t. inl (refl, first-high ∙ sym strip-high);
-            even = λ t e. (same-alike (widthOf job) (widthOf job i) (i ∷ []) (refl, tt), u .even e);
-          }
-
-      strip-across : widthOf job i ≤ w → stripWidth job ((i ∷ []) ∷ stripOf a) ≤ w
-      unfolding stripWidth sumOf
-      strip-across k = omega (arith, first-wide, u .across)
-
+    -- stage 1: the strips, on a plate of the board's width
     pub over : (w h : ℕ) (x : Tree) → Pattern job (plate w h 1) x → Over w h (boardOf x)
     unfolding boardHeight sumOf
     over w h leaf p = record { strips = λ e. tt; up = omega arith }
@@ -204,12 +210,12 @@ module _ (job : Job) where
               filled = tt;
               stacks = (tt, u .stacks);
               types = ((f .type, tt), u .types);
-              staged = strip-staged w h i a u;
-              across = omega (arith, strip-across w h i a u (f .wide));
+              staged = strip-staged w i a u;
+              across = omega (arith, strip-across w i a u (f .wide));
             },
             r .strips e,
           );
-          up = omega (arith, strip-high w h i a u, f .high, r .up);
+          up = omega (arith, strip-high w i a u, f .high, r .up);
         }
 
     -- the layout of a pattern of the board keeps the rules
@@ -226,5 +232,8 @@ module _ (job : Job) where
     pub stack-width : (w h i : ℕ) (a b : Tree) → Pattern job (plate w h 2) (node i a b) → stackWidth job (i ∷ stackOf a) ≡ widthOf job i
     stack-width w h i a b p = stack-wide w h i a b (begun w h i a b p)
 
-    pub strip-height : (w h i : ℕ) (a b : Tree) → Pattern job (plate w h 1) (node i a b) → stripHeight job ((i ∷ []) ∷ stripOf a) ≡ heightOf job i
-    strip-height w h i a b p = strip-high w h i a (beside (w - widthOf job i) (heightOf job i) a (cut-1 job w h i a b .0 p .1))
+    pub strip-height :
+        (w h i : ℕ) (a b : Tree)
+        → Pattern job (plate w h 1) (node i a b)
+        → stripHeight job ((i ∷ []) ∷ stripOf a) ≡ heightOf job i
+    strip-height w h i a b p = strip-high w i a (beside (w - widthOf job i) (heightOf job i) a (cut-1 job w h i a b .0 p .1))

@@ -1,77 +1,68 @@
 -- The layouts row, both ways: the lines of a set that demand 3 names pass it, and lines that pass it are those of such a set.
 -- Assumes nothing.
-use Prim.Native.Nat.{ℕ, _+_, _≤_, _%_, _/_, suc}
+use Prim.Native.Nat.{ℕ, _≤_}
 use native.Mathlib.Omega.{arith}
-use mathlib.Core.Path.{_≡_, refl, sym, ap, _∙_}
+use mathlib.Core.Path.{_≡_, ap, _∙_}
 use mathlib.Core.Logic.{_↔_}
-use mathlib.Core.Bool.{Bool, true, false, not}
-use mathlib.Core.List.{List, [], _∷_, map, flatMap}
-use lib.Dec.{ltb, eqb}
+use mathlib.Core.Bool.{true}
+use mathlib.Core.List.{List, [], _∷_, map}
 use lib.ListN.{length}
-use borrow.Author.Tests.{ltb-false, le-ltb, eq-eqb, eqb-true, not-false}
-use Rattle.job.specs.Verdict.{pass, _then_, refuseIf, within, lowest}
-use Rattle.job.specs.Job.{Job, maxSide, maxPieces}
-use Rattle.layouts.specs.Layout.{Stack, Strip, Board, widthOf, heightOf, stripWidth, boardHeight, stageRule, layoutRules}
-use Rattle.layouts.specs.Placement.{Placement, placementWords, linesOf, itemsOfSet, meetsFrom, meetsDemands}
-use Rattle.layouts.specs.Lines.{rowsOf, counted, rowRight, layoutWords, turns, grouped}
-use Rattle.layouts.specs.LayoutsRow.{laidSet, lowestStrip, breaksStage, pastBoard, positioned, lacks, layoutsRow}
-use Rattle.layouts.specs.Rules.{Every, Filled, OfJob, Staged, StripOk, BoardOk, SetOk}
-use Rattle.layouts.proofs.Basics.{seven-true, within-true, true-within, six-pass, pass-refuse-if, refuse-if-pass, lowest-every, every-lowest, every-map, every-both, every-of-map, map-every}
+use Rattle.job.specs.Verdict.{pass}
+use Rattle.job.specs.Job.{Job, maxPieces}
+use Rattle.layouts.specs.Layout.{Board, stageRule, layoutRules}
+use Rattle.layouts.specs.Placement.{Placement, linesOf, itemsOfSet, meetsFrom, meetsDemands}
+use Rattle.layouts.specs.Lines.{turns, grouped}
+use Rattle.layouts.specs.LayoutsRow.{positioned, layoutsRow}
+use Rattle.layouts.specs.Rules.{Every, OfJob, StripOk, BoardOk, SetOk}
+use Rattle.layouts.proofs.Basics.{every-map, every-of-map}
+use Rattle.layouts.proofs.Exact.{passes-self, passes-then, passes-limit}
 use Rattle.layouts.proofs.RulesExact.{stage-exact, strips-ok, set-exact}
-use Rattle.layouts.proofs.Grouping.{FullStrip, FullBoard, FullSet, ok-full, lines-grouped}
-use Rattle.layouts.proofs.RowTurns.{UpTo, turns-pass, turns-up-to, lines-turns}
-use Rattle.layouts.proofs.RowLines.{items-every, lines-items, lines-length, words-rows, words-whole}
-use Rattle.layouts.proofs.Geometry.{Between, lines-between}
-use Rattle.layouts.proofs.RowRules.{stage-pass, past-pass, demands-exact}
+use Rattle.layouts.proofs.Grouping.{FullStrip, FullSet, ok-full, lines-grouped}
+use Rattle.layouts.proofs.RowTurns.{lines-turns}
+use Rattle.layouts.proofs.RowLines.{items-every, lines-items, lines-length}
+use Rattle.layouts.proofs.RowRules.{WithinBoard, stage-pass, past-pass, demands-row}
 use Rattle.layouts.proofs.RowBack.{positioned-self, grouped-full, rows-lines}
 
 module _ (job : Job) where
-  -- each check of the row over some lines
+  -- the row over some lines passes exactly if each of its checks does: 10, 15, 16, 17, 18, 11
   pub record Passed (k : ℕ) (rs : List Placement) : Type 0 where
     pub few : length rs ≤ maxPieces
     pub turned : turns k rs ≡ pass
-    pub staged : lowestStrip 16 (breaksStage job) (laidSet job k (grouped rs)) ≡ pass
-    pub fitting : lowestStrip 17 (pastBoard job) (laidSet job k (grouped rs)) ≡ pass
+    pub staged : Every (Every (λ s. stageRule job s ≡ true)) (grouped rs)
+    pub fitting : Every (WithinBoard job) (grouped rs)
     pub placed : positioned k rs (linesOf job (grouped rs)) ≡ pass
-    pub enough : lowest 11 (lacks rs) 1 (job .items) ≡ pass
+    pub enough : meetsFrom 1 (job .items) (map (λ r. r .item) rs) ≡ true
 
-  row-exact : (k : ℕ) (rs : List Placement) → (layoutsRow k job rs ≡ pass) ↔ Passed k rs
+  pub row-exact : (k : ℕ) (rs : List Placement) → (layoutsRow k job rs ≡ pass) ↔ Passed k rs
   unfolding layoutsRow
-  row-exact k rs = (to, back)
+  row-exact k rs = (
+    λ e.
+        let q = each .0 e in
+        let r = q .1 .1 in
+        record { few = q .0; turned = q .1 .0; staged = r .0; fitting = r .1 .0; placed = r .1 .1 .0; enough = r .1 .1 .1 },
+    λ h. each .1 (h .few, (h .turned, (h .staged, (h .fitting, (h .placed, h .enough))))),
+  )
     where
-      each : (layoutsRow k job rs ≡ pass)
-          ↔ ((refuseIf (ltb maxPieces (length rs)) 10 0 ≡ pass) × (turns k rs ≡ pass) × (lowestStrip 16 (breaksStage job) (laidSet job k (grouped rs)) ≡ pass)
-          × (lowestStrip 17 (pastBoard job) (laidSet job k (grouped rs)) ≡ pass) × (positioned k rs (linesOf job (grouped rs)) ≡ pass)
-          × (lowest 11 (lacks rs) 1 (job .items) ≡ pass))
+      each :
+          (layoutsRow k job rs ≡ pass)
+          ↔ ((length rs ≤ maxPieces)
+          × ((turns k rs ≡ pass)
+          × (Every (Every (λ s. stageRule job s ≡ true)) (grouped rs)
+          × (Every (WithinBoard job) (grouped rs)
+          × ((positioned k rs (linesOf job (grouped rs)) ≡ pass) × (meetsFrom 1 (job .items) (map (λ r. r .item) rs) ≡ true))))))
       each =
-          six-pass (refuseIf (ltb maxPieces (length rs)) 10 0) (turns k rs) (lowestStrip 16 (breaksStage job) (laidSet job k (grouped rs)))
-          (lowestStrip 17 (pastBoard job) (laidSet job k (grouped rs))) (positioned k rs (linesOf job (grouped rs))) (lowest 11 (lacks rs) 1 (job .items))
-
-      to : layoutsRow k job rs ≡ pass → Passed k rs
-      to e =
-          let q = each .0 e in
-          record {
-            few = ltb-false maxPieces (length rs) (pass-refuse-if (ltb maxPieces (length rs)) 10 0 (q .0));
-            turned = q .1;
-            staged = q .2;
-            fitting = q .3;
-            placed = q .4;
-            enough = q .5;
-          }
-
-      back : Passed k rs → layoutsRow k job rs ≡ pass
-      back h =
-          each .1 (
-            refuse-if-pass (ltb maxPieces (length rs)) 10 0 (le-ltb maxPieces (length rs) (h .few)),
-            h .turned,
-            h .staged,
-            h .fitting,
-            h .placed,
-            h .enough,
-          )
+          passes-then (passes-limit maxPieces (length rs) 10 0)
+          (passes-then (passes-self (turns k rs))
+          (passes-then (stage-pass job k (grouped rs))
+          (passes-then (past-pass job k (grouped rs))
+          (passes-then (passes-self (positioned k rs (linesOf job (grouped rs)))) (demands-row rs 1 (job .items))))))
 
   -- the lines of a set of layouts that keeps the rules and meets the demands, within 4,000 pieces, pass
-  pub set-row : (k : ℕ) (bs : List Board) → layoutRules job bs ≡ true → meetsDemands job bs ≡ true → length (itemsOfSet bs) ≤ maxPieces
+  pub set-row :
+      (k : ℕ) (bs : List Board)
+      → layoutRules job bs ≡ true
+      → meetsDemands job bs ≡ true
+      → length (itemsOfSet bs) ≤ maxPieces
       → layoutsRow k job (linesOf job bs) ≡ pass
   unfolding meetsDemands
   set-row k bs rules demands few =
@@ -84,14 +75,10 @@ module _ (job : Job) where
         turned = lines-turns job k bs full;
         staged =
             rw e
-            (stage-pass job k bs .1
-            (every-map (λ b (h : BoardOk job b). every-map (λ s (q : StripOk job s). stage-exact job s .1 (q .staged)) b (h .strips)) bs ok));
-        fitting =
-            rw e
-            (past-pass job k bs .1
-            (every-map (λ b (h : BoardOk job b). (every-map (λ s (q : StripOk job s). q .across) b (h .strips), h .up)) bs ok));
+            (every-map (λ b (h : BoardOk job b). every-map (λ s (q : StripOk job s). stage-exact job s .1 (q .staged)) b (h .strips)) bs ok);
+        fitting = rw e (every-map (λ b (h : BoardOk job b). (every-map (λ s (q : StripOk job s). q .across) b (h .strips), h .up)) bs ok);
         placed = rw e (positioned-self k (linesOf job bs));
-        enough = demands-exact (linesOf job bs) 1 (job .items) .1 (rw (lines-items job bs) demands);
+        enough = rw (lines-items job bs) demands;
       })
 
   -- boards of which nothing is empty, with the rules of 16 and 17 and items of the job, keep the rules
@@ -100,7 +87,7 @@ module _ (job : Job) where
       → FullSet bs
       → Every (Every (Every (Every (OfJob job)))) bs
       → Every (Every (λ s. stageRule job s ≡ true)) bs
-      → Every (λ b. Every (λ s. stripWidth job s ≤ job .width) b × (boardHeight job b ≤ job .height)) bs
+      → Every (WithinBoard job) bs
       → SetOk job bs
   boards-ok [] f t s a = tt
   boards-ok (b ∷ bs) f t s a = (
@@ -114,7 +101,11 @@ module _ (job : Job) where
     boards-ok bs (f .1) (t .1) (s .1) (a .1),
   )
 
-  -- what lines of the job's items that pass are
+  -- lines that are those of the set that they make have its items
+  row-items : (rs : List Placement) → rs ≡ linesOf job (grouped rs) → map (λ r. r .item) rs ≡ itemsOfSet (grouped rs)
+  row-items rs e = ap (map (λ (r : Placement). r .item)) e ∙ lines-items job (grouped rs)
+
+  -- what lines of the job's items that pass are: the lines of a set that keeps the rules and meets the demands, at most 4,000
   pub record SetOfRows (rs : List Placement) : Type 0 where
     pub lines : rs ≡ linesOf job (grouped rs)
     pub rules : layoutRules job (grouped rs) ≡ true
@@ -126,15 +117,14 @@ module _ (job : Job) where
   row-set k rs types e =
       let h = row-exact k rs .0 e in
       let same : rs ≡ linesOf job (grouped rs) = rows-lines job k rs (h .turned) (h .placed) in
-      let items : map (λ (r : Placement). r .item) rs ≡ itemsOfSet (grouped rs) = ap (map (λ (r : Placement). r .item)) same ∙ lines-items job (grouped rs) in
+      let items : map (λ r. r .item) rs ≡ itemsOfSet (grouped rs) = row-items rs same in
       record {
         lines = same;
         rules =
             set-exact job (grouped rs) .1
             (boards-ok (grouped rs) (grouped-full rs)
             (items-every (OfJob job) (grouped rs) .0 (rw items at (every-of-map (OfJob job) (λ (r : Placement). r .item) rs types)))
-            (stage-pass job k (grouped rs) .0 (h .staged))
-            (past-pass job k (grouped rs) .0 (h .fitting)));
-        demands = rw (← items) (demands-exact rs 1 (job .items) .0 (h .enough));
+            (h .staged) (h .fitting));
+        demands = rw (← items) (h .enough);
         few = h .few;
       }

@@ -3,40 +3,48 @@
 use Prim.Native.Nat.{ℕ, suc, _+_, _≤_}
 use native.Mathlib.Omega.{arith}
 use mathlib.Core.Path.{_≡_, refl, sym, ap, ap₂, _∙_}
+use mathlib.Core.Logic.{_↔_}
 use mathlib.Core.Bool.{Bool, true, false, _&&_}
 use mathlib.Core.List.{List, [], _∷_, _++_, map, map-append, append-assoc}
 use mathlib.Core.Option.{Option, none, some}
 use lib.Dec.{eqb}
-use borrow.Author.Tests.{eqb-true, eq-eqb}
 use Rattle.job.specs.Verdict.{pass, refuse}
 use Rattle.job.specs.Job.{Job}
 use Rattle.layouts.specs.Layout.{Stack, Strip, Board, heightOf, stackWidth, stripHeight}
 use Rattle.layouts.specs.Placement.{Turn, turn, Placement, stackLines, stripLines, boardLines, setLines, linesOf}
 use Rattle.layouts.specs.Lines.{Level, stack, strip, board, levelOf, begun, inStrip, inBoard, inSet, beside, before, grouped, turns}
 use Rattle.layouts.specs.LayoutsRow.{positioned}
-use Rattle.layouts.specs.Rules.{Every, Filled}
-use Rattle.layouts.proofs.Basics.{and-true, true-and, refuse-pass}
-use Rattle.layouts.proofs.Grouping.{FullStrip, FullBoard, FullSet, goes-on, new-stack, new-strip, grouped-on, grouped-new}
+use Rattle.layouts.specs.Rules.{Filled}
+use Rattle.layouts.proofs.Basics.{refuse-pass}
+use Rattle.layouts.proofs.Exact.{decides-eq, decides-and}
+use Rattle.layouts.proofs.Grouping.{FullSet, goes-on, new-stack, new-strip, grouped-on, grouped-new}
 use Rattle.layouts.proofs.RowTurns.{Next, same-stack, next-stack, next-strip, next-board, InTurn, FromOne, turns-pass}
 
 -- a line without its position
 abbrev pub bare : Placement → Placement
 bare r = record { turn = r .turn; item = r .item; x = 0; y = 0 }
 
--- 18: lines with right positions, of the same turns and items, are the lines compared with
+-- two lines of one position
+at-exact : (r p : Placement) → (eqb (r .x) (p .x) && eqb (r .y) (p .y) ≡ true) ↔ ((r .x ≡ p .x) × (r .y ≡ p .y))
+at-exact r p = decides-and (decides-eq (r .x) (p .x)) (decides-eq (r .y) (p .y))
+
+-- 18: a list of lines passes against itself
 pub positioned-self : (k : ℕ) (rs : List Placement) → positioned k rs rs ≡ pass
 unfolding positioned
 positioned-self k [] = refl
-positioned-self k (r ∷ rs) = rw (true-and (eqb (r .x) (r .x)) (eqb (r .y) (r .y)) (eq-eqb (r .x) (r .x) refl) (eq-eqb (r .y) (r .y) refl), positioned) (positioned-self (suc k) rs)
+positioned-self k (r ∷ rs) = rw (at-exact r r .1 (refl, refl), positioned) (positioned-self (suc k) rs)
 
+-- lines that are the same without their positions, and have the same positions, are the same
 line-parts : (t t′ : Turn) (i i′ x x′ y y′ : ℕ) → t ≡ t′ → i ≡ i′ → x ≡ x′ → y ≡ y′
     → _≡_ {A = Placement} (record { turn = t; item = i; x = x; y = y }) (record { turn = t′; item = i′; x = x′; y = y′ })
 line-parts t t′ i i′ x x′ y y′ e1 e2 e3 e4 = rw (e1, e2, e3, e4) refl
 
 same-line : (r p : Placement) → bare r ≡ bare p → r .x ≡ p .x → r .y ≡ p .y → r ≡ p
 same-line r p e a b =
-    line-parts (r .turn) (p .turn) (r .item) (p .item) (r .x) (p .x) (r .y) (p .y) (ap (λ (q : Placement). q .turn) e) (ap (λ (q : Placement). q .item) e) a b
+    line-parts (r .turn) (p .turn) (r .item) (p .item) (r .x) (p .x) (r .y) (p .y)
+    (ap (λ (q : Placement). q .turn) e) (ap (λ (q : Placement). q .item) e) a b
 
+-- lines that pass against lines of the same turns and items are those lines
 pub positioned-same : (k : ℕ) (rs ps : List Placement) → map bare rs ≡ map bare ps → positioned k rs ps ≡ pass → rs ≡ ps
 unfolding positioned
 positioned-same k [] [] e q = refl
@@ -48,8 +56,8 @@ positioned-same k (r ∷ rs) (p ∷ ps) e q = go (eqb (r .x) (p .x) && eqb (r .y
         → (positioned (suc k) rs ps ≡ pass → rs ≡ ps) → r ∷ rs ≡ p ∷ ps
     go false h q rec = absurd (refuse-pass 18 k q)
     go true h q rec =
-        let z = and-true (eqb (r .x) (p .x)) (eqb (r .y) (p .y)) h in
-        ap₂ (λ (a : Placement) (l : List Placement). a ∷ l) (same-line r p (cc) (eqb-true (r .x) (p .x) (z .0)) (eqb-true (r .y) (p .y) (z .1))) (rec q)
+        let z = at-exact r p .0 h in
+        ap₂ (λ (a : Placement) (l : List Placement). a ∷ l) (same-line r p (cc) (z .0) (z .1)) (rec q)
 
 -- the set that some lines make has nothing empty
 in-full : (i : ℕ) (bs : List Board) → FullSet bs → FullSet (inSet i bs)
@@ -72,7 +80,10 @@ unfolding grouped
 grouped-full [] = tt
 grouped-full (r ∷ rs) = go (begun rs) (grouped-full rs)
   where
-    go : (o : Option Level) → FullSet (grouped rs) → FullSet (elim o [ none ↦ inSet (r .item) (grouped rs) | some v ↦ before v (r .item ∷ []) (grouped rs) ])
+    go :
+        (o : Option Level)
+        → FullSet (grouped rs)
+        → FullSet (elim o [ none ↦ inSet (r .item) (grouped rs) | some v ↦ before v (r .item ∷ []) (grouped rs) ])
     go none h = in-full (r .item) (grouped rs) h
     go (some v) h = before-full v (r .item ∷ []) (grouped rs) tt h
 
@@ -86,6 +97,7 @@ counted-next next-stack c = (c .0, c .1, omega arith, omega arith)
 counted-next next-strip c = (c .0, omega arith, omega arith, omega arith)
 counted-next next-board c = (omega arith, omega arith, omega arith, omega arith)
 
+-- a turn that begins a board
 new-board : (b : ℕ) → levelOf (turn b 1 1 1) ≡ some board
 unfolding levelOf
 new-board b = refl
@@ -107,7 +119,9 @@ grouped-some : (r : Placement) (rs : List Placement) → Filled (grouped (r ∷ 
 unfolding grouped
 grouped-some r rs = go (begun rs)
   where
-    go : (o : Option Level) → Filled {A = Board} (elim o [ none ↦ inSet (r .item) (grouped rs) | some v ↦ before v (r .item ∷ []) (grouped rs) ])
+    go :
+        (o : Option Level)
+        → Filled {A = Board} (elim o [ none ↦ inSet (r .item) (grouped rs) | some v ↦ before v (r .item ∷ []) (grouped rs) ])
     go none = in-some (r .item) (grouped rs)
     go (some v) = before-some v (r .item ∷ []) (grouped rs)
 
@@ -125,7 +139,8 @@ module _ (job : Job) where
   strip-bare b s k x y x′ y′ [] = refl
   strip-bare b s k x y x′ y′ (l ∷ ls) =
       map-append bare (stackLines job b s k 1 x y l) (stripLines job b s (suc k) (x + stackWidth job l) y ls)
-      ∙ ap₂ (λ (m n : List Placement). m ++ n) (stack-bare b s k 1 x y x′ y′ l) (strip-bare b s (suc k) (x + stackWidth job l) y (x′ + stackWidth job l) y′ ls)
+      ∙ ap₂ (λ (m n : List Placement). m ++ n) (stack-bare b s k 1 x y x′ y′ l)
+      (strip-bare b s (suc k) (x + stackWidth job l) y (x′ + stackWidth job l) y′ ls)
       ∙ sym (map-append bare (stackLines job b s k 1 x′ y′ l) (stripLines job b s (suc k) (x′ + stackWidth job l) y′ ls))
 
   board-bare : (b s y y′ : ℕ) (bd : Board) → map bare (boardLines job b s y bd) ≡ map bare (boardLines job b s y′ bd)
@@ -133,7 +148,8 @@ module _ (job : Job) where
   board-bare b s y y′ [] = refl
   board-bare b s y y′ (st ∷ sts) =
       map-append bare (stripLines job b s 1 0 y st) (boardLines job b (suc s) (y + stripHeight job st) sts)
-      ∙ ap₂ (λ (m n : List Placement). m ++ n) (strip-bare b s 1 0 y 0 y′ st) (board-bare b (suc s) (y + stripHeight job st) (y′ + stripHeight job st) sts)
+      ∙ ap₂ (λ (m n : List Placement). m ++ n) (strip-bare b s 1 0 y 0 y′ st)
+      (board-bare b (suc s) (y + stripHeight job st) (y′ + stripHeight job st) sts)
       ∙ sym (map-append bare (stripLines job b s 1 0 y′ st) (boardLines job b (suc s) (y′ + stripHeight job st) sts))
 
   -- the lines of a set whose first line has the turn b, s, k, p: from there to the end of the stack, of the strip, of the board, and of the set
@@ -156,7 +172,9 @@ module _ (job : Job) where
       (toBoard (t .board) (suc (t .strip)) ss (toSet (suc (t .board)) bs))
 
   -- a strip is its first stack and the further ones, a board its first strip and the further ones, a set its first board and the further ones
-  open-strip : (b s k : ℕ) (st : Stack) (ks : Strip) (rs : List Placement) → toStrip b s k (st ∷ ks) rs ≡ map bare (stackLines job b s k 1 0 0 st) ++ toStrip b s (suc k) ks rs
+  open-strip :
+      (b s k : ℕ) (st : Stack) (ks : Strip) (rs : List Placement)
+      → toStrip b s k (st ∷ ks) rs ≡ map bare (stackLines job b s k 1 0 0 st) ++ toStrip b s (suc k) ks rs
   unfolding stripLines
   open-strip b s k st ks rs =
       ap (λ (l : List Placement). l ++ rs)
@@ -164,7 +182,9 @@ module _ (job : Job) where
       ∙ ap (λ (l : List Placement). map bare (stackLines job b s k 1 0 0 st) ++ l) (strip-bare b s (suc k) (0 + stackWidth job st) 0 0 0 ks))
       ∙ append-assoc (map bare (stackLines job b s k 1 0 0 st)) (map bare (stripLines job b s (suc k) 0 0 ks)) rs
 
-  open-board : (b s : ℕ) (st : Strip) (ss : Board) (rs : List Placement) → toBoard b s (st ∷ ss) rs ≡ toStrip b s 1 st (toBoard b (suc s) ss rs)
+  open-board :
+      (b s : ℕ) (st : Strip) (ss : Board) (rs : List Placement)
+      → toBoard b s (st ∷ ss) rs ≡ toStrip b s 1 st (toBoard b (suc s) ss rs)
   unfolding boardLines
   open-board b s st ss rs =
       ap (λ (l : List Placement). l ++ rs)
@@ -181,16 +201,25 @@ module _ (job : Job) where
   line t i = record { turn = t; item = i; x = 0; y = 0 }
 
   -- .. that go on with its stack, or begin a stack, a strip or a board
-  from-place : (t : Turn) (i : ℕ) (bs : List Board) → Filled bs → FullSet bs → from t (inSet i bs) ≡ line t i ∷ from (turn (t .board) (t .strip) (t .stack) (suc (t .place))) bs
+  from-place :
+      (t : Turn) (i : ℕ) (bs : List Board)
+      → Filled bs
+      → FullSet bs
+      → from t (inSet i bs) ≡ line t i ∷ from (turn (t .board) (t .strip) (t .stack) (suc (t .place))) bs
   unfolding inSet inBoard inStrip stackLines
   from-place t i [] n f = absurd n
   from-place t i ([] ∷ bs) n f = absurd (f .0 .0)
   from-place t i (([] ∷ ss) ∷ bs) n f = absurd (f .0 .1 .0 .0)
   from-place t i (((st ∷ ks) ∷ ss) ∷ bs) n f =
-      ap (λ (l : List Placement). line t i ∷ (l ++ toStrip (t .board) (t .strip) (suc (t .stack)) ks (toBoard (t .board) (suc (t .strip)) ss (toSet (suc (t .board)) bs))))
+      let after = toStrip (t .board) (t .strip) (suc (t .stack)) ks (toBoard (t .board) (suc (t .strip)) ss (toSet (suc (t .board)) bs)) in
+      ap (λ (l : List Placement). line t i ∷ (l ++ after))
       (stack-bare (t .board) (t .strip) (t .stack) (suc (t .place)) 0 (0 + heightOf job i) 0 0 st)
 
-  from-stack : (t : Turn) (i : ℕ) (bs : List Board) → Filled bs → FullSet bs → from t (before stack (i ∷ []) bs) ≡ line t i ∷ from (turn (t .board) (t .strip) (suc (t .stack)) 1) bs
+  from-stack :
+      (t : Turn) (i : ℕ) (bs : List Board)
+      → Filled bs
+      → FullSet bs
+      → from t (before stack (i ∷ []) bs) ≡ line t i ∷ from (turn (t .board) (t .strip) (suc (t .stack)) 1) bs
   unfolding before beside stackLines
   from-stack t i [] n f = absurd n
   from-stack t i ([] ∷ bs) n f = absurd (f .0 .0)
@@ -199,7 +228,11 @@ module _ (job : Job) where
       ap (λ (l : List Placement). line t i ∷ l)
       (open-strip (t .board) (t .strip) (suc (t .stack)) st ks (toBoard (t .board) (suc (t .strip)) ss (toSet (suc (t .board)) bs)))
 
-  from-strip : (t : Turn) (i : ℕ) (bs : List Board) → Filled bs → FullSet bs → from t (before strip (i ∷ []) bs) ≡ line t i ∷ from (turn (t .board) (suc (t .strip)) 1 1) bs
+  from-strip :
+      (t : Turn) (i : ℕ) (bs : List Board)
+      → Filled bs
+      → FullSet bs
+      → from t (before strip (i ∷ []) bs) ≡ line t i ∷ from (turn (t .board) (suc (t .strip)) 1 1) bs
   unfolding before stackLines stripLines
   from-strip t i [] n f = absurd n
   from-strip t i ([] ∷ bs) n f = absurd (f .0 .0)
@@ -218,7 +251,11 @@ module _ (job : Job) where
       ∙ open-board b 1 (st ∷ ks) ss (toSet (suc b) bs)
       ∙ open-strip b 1 1 st ks (toBoard b 2 ss (toSet (suc b) bs))
 
-  from-board : (t : Turn) (i : ℕ) (bs : List Board) → Filled bs → FullSet bs → from t (before board (i ∷ []) bs) ≡ line t i ∷ from (turn (suc (t .board)) 1 1 1) bs
+  from-board :
+      (t : Turn) (i : ℕ) (bs : List Board)
+      → Filled bs
+      → FullSet bs
+      → from t (before board (i ∷ []) bs) ≡ line t i ∷ from (turn (suc (t .board)) 1 1 1) bs
   unfolding before stackLines stripLines boardLines
   from-board t i [] n f = absurd n
   from-board t i (bd ∷ bs) n f = ap (λ (l : List Placement). line t i ∷ l) (open-from (suc (t .board)) (bd ∷ bs) n f)
@@ -251,7 +288,11 @@ module _ (job : Job) where
       ∙ from-board t (r .item) (grouped rs) n (grouped-full rs)
 
   -- lines in turn are but for their positions the lines, from their first turn on, of the set that they make
-  from-lines : (r : Placement) (rs : List Placement) → Counted (r .turn) → InTurn (r .turn) rs → map bare (r ∷ rs) ≡ from (r .turn) (grouped (r ∷ rs))
+  from-lines :
+      (r : Placement) (rs : List Placement)
+      → Counted (r .turn)
+      → InTurn (r .turn) rs
+      → map bare (r ∷ rs) ≡ from (r .turn) (grouped (r ∷ rs))
   from-lines r [] c h = from-last r
   from-lines r (r′ ∷ rs) c h =
       ap (λ (l : List Placement). bare r ∷ l) (from-lines r′ rs (counted-next (h .0) c) (h .1))
@@ -266,5 +307,9 @@ module _ (job : Job) where
       ∙ sym (open-from 1 (grouped (r ∷ rs)) (grouped-some r rs) (grouped-full (r ∷ rs)))
 
   -- lines that run in turn, with right positions, are the lines of the set that they make
-  pub rows-lines : (k : ℕ) (rs : List Placement) → turns k rs ≡ pass → positioned k rs (linesOf job (grouped rs)) ≡ pass → rs ≡ linesOf job (grouped rs)
+  pub rows-lines :
+      (k : ℕ) (rs : List Placement)
+      → turns k rs ≡ pass
+      → positioned k rs (linesOf job (grouped rs)) ≡ pass
+      → rs ≡ linesOf job (grouped rs)
   rows-lines k rs e q = positioned-same k rs (linesOf job (grouped rs)) (bare-lines rs (turns-pass k rs e)) q

@@ -2,10 +2,10 @@
 -- Assumes nothing.
 use Prim.Native.Nat.{ℕ, suc, _+_, _≤_}
 use native.Mathlib.Omega.{arith}
-use mathlib.Core.Path.{_≡_, refl, sym, ap, _∙_}
-use mathlib.Core.Logic.{_↔_}
-use mathlib.Core.Bool.{Bool, true, false, not, _&&_, _||_}
-use mathlib.Core.List.{List, [], _∷_, _++_, map}
+use mathlib.Core.Path.{_≡_, refl, ap}
+use mathlib.Core.Logic.{_↔_, Iff·symm, Iff·trans}
+use mathlib.Core.Bool.{Bool, true, false, not, _&&_}
+use mathlib.Core.List.{List, [], _∷_, map}
 use lib.Dec.{leb, ltb}
 use lib.ListN.{length}
 use borrow.Author.Tests.{ltb-false, le-ltb, leb-true, le-leb, not-false}
@@ -17,10 +17,11 @@ use Rattle.layouts.specs.Layout.{Strip, Board, stripWidth, stripHeight, 
 use Rattle.layouts.specs.Placement.{Placement, itemsOfStrip, itemsOfBoard, meetsFrom}
 use Rattle.layouts.specs.LayoutsRow.{Laid, laidBoard, laidSet, lowestStrip, breaksStage, pastBoard, lacks}
 use Rattle.layouts.specs.Rules.{Every}
+use Rattle.layouts.proofs.Exact.{Passes}
 use Rattle.layouts.proofs.Basics.{and-true, true-and, or-false, false-or, refuse-pass, every-map, every-append, append-every}
 
 -- a refusal of the lowest strip that is bad: none where none is
-pub pass-lowest-strip : (number : ℕ) (bad : Laid → Bool) (ss : List Laid) → lowestStrip number bad ss ≡ pass → Every (λ s. bad s ≡ false) ss
+pass-lowest-strip : (number : ℕ) (bad : Laid → Bool) (ss : List Laid) → lowestStrip number bad ss ≡ pass → Every (λ s. bad s ≡ false) ss
 unfolding lowestStrip
 pass-lowest-strip number bad [] e = tt
 pass-lowest-strip number bad (s ∷ ss) e = go (bad s) refl e (pass-lowest-strip number bad ss)
@@ -30,10 +31,20 @@ pass-lowest-strip number bad (s ∷ ss) e = go (bad s) refl e (pass-lowest-strip
     go true h q rec = absurd (refuse-pass number (s .line) q)
     go false h q rec = (h, rec q)
 
-pub lowest-strip-pass : (number : ℕ) (bad : Laid → Bool) (ss : List Laid) → Every (λ s. bad s ≡ false) ss → lowestStrip number bad ss ≡ pass
+lowest-strip-pass : (number : ℕ) (bad : Laid → Bool) (ss : List Laid) → Every (λ s. bad s ≡ false) ss → lowestStrip number bad ss ≡ pass
 unfolding lowestStrip
 lowest-strip-pass number bad [] h = refl
 lowest-strip-pass number bad (s ∷ ss) h = rw (h .0, lowestStrip) (lowest-strip-pass number bad ss (h .1))
+
+pub passes-strip :
+    {bad : Laid → Bool} {P : Laid → Type 0} (number : ℕ)
+    → ((l : Laid) → (bad l ≡ false) ↔ P l)
+    → (ls : List Laid)
+    → Passes (lowestStrip number bad ls) (Every P ls)
+passes-strip {bad} {P} number d ls = (
+  λ e. every-map (λ l (h : bad l ≡ false). d l .0 h) ls (pass-lowest-strip number bad ls e),
+  λ h. lowest-strip-pass number bad ls (every-map (λ l (q : P l). d l .1 q) ls h),
+)
 
 module _ (job : Job) where
   -- 16: a statement of each strip
@@ -50,26 +61,23 @@ module _ (job : Job) where
     laid-set line [] = (λ h. tt, λ h. tt)
     laid-set line (b ∷ bs) =
         let q = laid-board line 0 b in
-        let r = laid-set (line + length (itemsOfBoard b)) bs in (
-          λ h.
-              every-append (λ l. P (l .strip)) (laidBoard job line 0 b) (laidSet job (line + length (itemsOfBoard b)) bs) (q .0 (h .0)) (r .0 (h .1)),
-          λ h.
-              let z = append-every (λ l. P (l .strip)) (laidBoard job line 0 b) (laidSet job (line + length (itemsOfBoard b)) bs) h in
-              (q .1 (z .0), r .1 (z .1)),
+        let r = laid-set (line + length (itemsOfBoard b)) bs in
+        let here = laidBoard job line 0 b in
+        let after = laidSet job (line + length (itemsOfBoard b)) bs in (
+          λ h. every-append (λ l. P (l .strip)) here after (q .0 (h .0)) (r .0 (h .1)),
+          λ h. let z = append-every (λ l. P (l .strip)) here after h in (q .1 (z .0), r .1 (z .1)),
         )
 
-  pub stage-pass : (line : ℕ) (bs : List Board) → (lowestStrip 16 (breaksStage job) (laidSet job line bs) ≡ pass) ↔ Every (Every (λ s. stageRule job s ≡ true)) bs
+  breaks-exact : (l : Laid) → (breaksStage job l ≡ false) ↔ (stageRule job (l .strip) ≡ true)
   unfolding breaksStage
+  breaks-exact l = (not-false (stageRule job (l .strip)), ap not)
+
+  pub stage-pass :
+      (line : ℕ) (bs : List Board)
+      → (lowestStrip 16 (breaksStage job) (laidSet job line bs) ≡ pass)
+      ↔ Every (Every (λ s. stageRule job s ≡ true)) bs
   stage-pass line bs =
-      let r = laid-set (λ s. stageRule job s ≡ true) line bs in (
-        λ e.
-            r .1
-            (every-map (λ l (h : not (stageRule job (l .strip)) ≡ false). not-false (stageRule job (l .strip)) h) (laidSet job line bs)
-            (pass-lowest-strip 16 (breaksStage job) (laidSet job line bs) e)),
-        λ h.
-            lowest-strip-pass 16 (breaksStage job) (laidSet job line bs)
-            (every-map (λ l (q : stageRule job (l .strip) ≡ true). ap not q) (laidSet job line bs) (r .0 h)),
-      )
+      Iff·trans (passes-strip 16 breaks-exact (laidSet job line bs)) (Iff·symm (laid-set (λ s. stageRule job s ≡ true) line bs))
 
   -- 17: a strip that stays within the board
   abbrev Fitting : Laid → Type 0
@@ -87,47 +95,47 @@ module _ (job : Job) where
   )
 
   -- the strips of a board from y upwards
-  board-fits : (line y : ℕ) (b : Board) → Every (λ s. stripWidth job s ≤ job .width) b → y + boardHeight job b ≤ job .height → Every Fitting (laidBoard job line y b)
+  board-fits :
+      (line y : ℕ) (b : Board)
+      → Every (λ s. stripWidth job s ≤ job .width) b
+      → y + boardHeight job b ≤ job .height
+      → Every Fitting (laidBoard job line y b)
   unfolding laidBoard boardHeight sumOf
   board-fits line y [] a u = tt
   board-fits line y (s ∷ ss) a u =
       ((a .0, omega arith), board-fits (line + length (itemsOfStrip s)) (y + stripHeight job s) ss (a .1) (omega arith))
 
-  fits-board : (line y : ℕ) (b : Board) → y ≤ job .height → Every Fitting (laidBoard job line y b) → Every (λ s. stripWidth job s ≤ job .width) b × (y + boardHeight job b ≤ job .height)
+  fits-board :
+      (line y : ℕ) (b : Board)
+      → y ≤ job .height
+      → Every Fitting (laidBoard job line y b)
+      → Every (λ s. stripWidth job s ≤ job .width) b × (y + boardHeight job b ≤ job .height)
   unfolding laidBoard boardHeight sumOf
   fits-board line y [] h a = (tt, omega arith)
   fits-board line y (s ∷ ss) h a =
       let r = fits-board (line + length (itemsOfStrip s)) (y + stripHeight job s) ss (a .0 .1) (a .1) in
       ((a .0 .0, r .0), omega (arith, r .1))
 
-  abbrev Fits : Board → Type 0
-  Fits b = Every (λ s. stripWidth job s ≤ job .width) b × (boardHeight job b ≤ job .height)
+  -- a board whose strips do
+  abbrev pub WithinBoard : Board → Type 0
+  WithinBoard b = Every (λ s. stripWidth job s ≤ job .width) b × (boardHeight job b ≤ job .height)
 
-  set-fits : (line : ℕ) (bs : List Board) → Every Fits bs ↔ Every Fitting (laidSet job line bs)
+  set-fits : (line : ℕ) (bs : List Board) → Every WithinBoard bs ↔ Every Fitting (laidSet job line bs)
   unfolding laidSet
   set-fits line [] = (λ h. tt, λ h. tt)
   set-fits line (b ∷ bs) =
-      let r = set-fits (line + length (itemsOfBoard b)) bs in (
+      let r = set-fits (line + length (itemsOfBoard b)) bs in
+      let here = laidBoard job line 0 b in
+      let after = laidSet job (line + length (itemsOfBoard b)) bs in (
+        λ h. every-append Fitting here after (board-fits line 0 b (h .0 .0) (omega (arith, h .0 .1))) (r .0 (h .1)),
         λ h.
-            every-append Fitting (laidBoard job line 0 b) (laidSet job (line + length (itemsOfBoard b)) bs)
-            (board-fits line 0 b (h .0 .0) (omega (arith, h .0 .1))) (r .0 (h .1)),
-        λ h.
-            let z = append-every Fitting (laidBoard job line 0 b) (laidSet job (line + length (itemsOfBoard b)) bs) h in
+            let z = append-every Fitting here after h in
             let q = fits-board line 0 b (omega arith) (z .0) in
             ((q .0, omega (arith, q .1)), r .1 (z .1)),
       )
 
-  pub past-pass : (line : ℕ) (bs : List Board) → (lowestStrip 17 (pastBoard job) (laidSet job line bs) ≡ pass)
-      ↔ Every (λ b. Every (λ s. stripWidth job s ≤ job .width) b × (boardHeight job b ≤ job .height)) bs
-  past-pass line bs = (
-    λ e.
-        set-fits line bs .1
-        (every-map (λ l (h : pastBoard job l ≡ false). fitting-exact l .0 h) (laidSet job line bs)
-        (pass-lowest-strip 17 (pastBoard job) (laidSet job line bs) e)),
-    λ h.
-        lowest-strip-pass 17 (pastBoard job) (laidSet job line bs)
-        (every-map (λ l (q : Fitting l). fitting-exact l .1 q) (laidSet job line bs) (set-fits line bs .0 h)),
-  )
+  pub past-pass : (line : ℕ) (bs : List Board) → (lowestStrip 17 (pastBoard job) (laidSet job line bs) ≡ pass) ↔ Every WithinBoard bs
+  past-pass line bs = Iff·trans (passes-strip 17 fitting-exact (laidSet job line bs)) (Iff·symm (set-fits line bs))
 
 -- 11: the demands, over the items of the lines
 module _ (rs : List Placement) where
@@ -147,8 +155,12 @@ module _ (rs : List Placement) where
   pass-demands i [] e = refl
   pass-demands i (it ∷ its) e = go (lacks rs i it) refl e (pass-demands (suc i) its)
     where
-      go : (t : Bool) → lacks rs i it ≡ t → elim t [ true ↦ refuse 11 i | false ↦ lowest 11 (lacks rs) (suc i) its ] ≡ pass
-          → (lowest 11 (lacks rs) (suc i) its ≡ pass → meetsFrom (suc i) its items ≡ true) → leb (it .demand) (occurs i items) && meetsFrom (suc i) its items ≡ true
+      go :
+          (t : Bool)
+          → lacks rs i it ≡ t
+          → elim t [ true ↦ refuse 11 i | false ↦ lowest 11 (lacks rs) (suc i) its ] ≡ pass
+          → (lowest 11 (lacks rs) (suc i) its ≡ pass → meetsFrom (suc i) its items ≡ true)
+          → leb (it .demand) (occurs i items) && meetsFrom (suc i) its items ≡ true
       go true h q rec = absurd (refuse-pass 11 i q)
       go false h q rec = true-and (leb (it .demand) (occurs i items)) (meetsFrom (suc i) its items) (enough i it h) (rec q)
 
@@ -159,5 +171,5 @@ module _ (rs : List Placement) where
       let q = and-true (leb (it .demand) (occurs i items)) (meetsFrom (suc i) its items) e in
       rw (not-lacking i it (q .0), lowest) (demands-pass (suc i) its (q .1))
 
-  pub demands-exact : (i : ℕ) (its : List Item) → (lowest 11 (lacks rs) i its ≡ pass) ↔ (meetsFrom i its (map (λ r. r .item) rs) ≡ true)
-  demands-exact i its = (pass-demands i its, demands-pass i its)
+  pub demands-row : (i : ℕ) (its : List Item) → (lowest 11 (lacks rs) i its ≡ pass) ↔ (meetsFrom i its (map (λ r. r .item) rs) ≡ true)
+  demands-row i its = (pass-demands i its, demands-pass i its)

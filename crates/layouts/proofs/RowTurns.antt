@@ -3,40 +3,42 @@
 use Prim.Native.Nat.{ℕ, suc, _+_, _≤_}
 use native.Mathlib.Omega.{arith}
 use mathlib.Core.Path.{_≡_, refl}
-use mathlib.Core.Logic.{_⊎_, inl, inr}
-use mathlib.Core.Bool.{Bool, true, false, _&&_}
+use mathlib.Core.Logic.{_⊎_, inl, inr, _↔_}
+use mathlib.Core.Bool.{Bool, true, false}
 use mathlib.Core.List.{List, [], _∷_, _++_, append-assoc}
-use lib.Dec.{eqb}
 use lib.ListN.{length}
-use borrow.Author.Tests.{eqb-true, eq-eqb}
 use Rattle.job.specs.Verdict.{pass, refuse}
 use Rattle.job.specs.Job.{Job}
 use Rattle.layouts.specs.Layout.{Stack, Strip, Board, heightOf, stackWidth, stripHeight}
 use Rattle.layouts.specs.Placement.{Turn, turn, Placement, stackLines, stripLines, boardLines, setLines, linesOf}
 use Rattle.layouts.specs.Lines.{sameTurn, follows, inTurn, turns}
 use Rattle.layouts.specs.Rules.{Every, Filled}
-use Rattle.layouts.proofs.Basics.{and-true, four-or, or-four, refuse-pass}
+use Rattle.layouts.proofs.Basics.{refuse-pass}
+use Rattle.layouts.proofs.Exact.{decides-eq, decides-and, decides-four}
 use Rattle.layouts.proofs.Grouping.{FullStrip, FullBoard, FullSet}
 
 -- two turns are the same
 same-parts : (b s k p b′ s′ k′ p′ : ℕ) → b ≡ b′ → s ≡ s′ → k ≡ k′ → p ≡ p′ → turn b s k p ≡ turn b′ s′ k′ p′
 same-parts b s k p b′ s′ k′ p′ e1 e2 e3 e4 = rw (e1, e2, e3, e4) refl
 
-pub same-true : (t u : Turn) → sameTurn t u ≡ true → t ≡ u
+same-tests :
+    (t u : Turn)
+    → (sameTurn t u ≡ true)
+    ↔ ((((t .board ≡ u .board) × (t .strip ≡ u .strip)) × (t .stack ≡ u .stack)) × (t .place ≡ u .place))
 unfolding sameTurn
-same-true t u e =
-    let q3 = and-true (eqb (t .board) (u .board) && eqb (t .strip) (u .strip) && eqb (t .stack) (u .stack)) (eqb (t .place) (u .place)) e in
-    let q2 = and-true (eqb (t .board) (u .board) && eqb (t .strip) (u .strip)) (eqb (t .stack) (u .stack)) (q3 .0) in
-    let q1 = and-true (eqb (t .board) (u .board)) (eqb (t .strip) (u .strip)) (q2 .0) in
-    same-parts (t .board) (t .strip) (t .stack) (t .place) (u .board) (u .strip) (u .stack) (u .place)
-    (eqb-true (t .board) (u .board) (q1 .0))
-    (eqb-true (t .strip) (u .strip) (q1 .1))
-    (eqb-true (t .stack) (u .stack) (q2 .1))
-    (eqb-true (t .place) (u .place) (q3 .1))
+same-tests t u =
+    decides-and
+    (decides-and (decides-and (decides-eq (t .board) (u .board)) (decides-eq (t .strip) (u .strip))) (decides-eq (t .stack) (u .stack)))
+    (decides-eq (t .place) (u .place))
 
-pub true-same : (t : Turn) → sameTurn t t ≡ true
-unfolding sameTurn
-true-same t = rw (eq-eqb (t .board) (t .board) refl, eq-eqb (t .strip) (t .strip) refl, eq-eqb (t .stack) (t .stack) refl, eq-eqb (t .place) (t .place) refl) refl
+pub same-exact : (t u : Turn) → (sameTurn t u ≡ true) ↔ (t ≡ u)
+same-exact t u = (
+  λ e.
+      let q = same-tests t u .0 e in
+      same-parts (t .board) (t .strip) (t .stack) (t .place) (u .board) (u .strip) (u .stack) (u .place)
+      (q .0 .0 .0) (q .0 .0 .1) (q .0 .1) (q .1),
+  λ e. rw e (same-tests u u .1 (((refl, refl), refl), refl)),
+)
 
 -- the next in turn after t, of four forms
 pub data Next (t : Turn) : Turn → Type 0 where
@@ -45,31 +47,37 @@ pub data Next (t : Turn) : Turn → Type 0 where
   next-strip : Next t (turn (t .board) (suc (t .strip)) 1 1)
   next-board : Next t (turn (suc (t .board)) 1 1 1)
 
-pub follows-next : (t u : Turn) → follows t u ≡ true → Next t u
-unfolding follows
-follows-next t u e =
-    go (four-or (sameTurn u (turn (t .board) (t .strip) (t .stack) (suc (t .place)))) (sameTurn u (turn (t .board) (t .strip) (suc (t .stack)) 1))
-    (sameTurn u (turn (t .board) (suc (t .strip)) 1 1)) (sameTurn u (turn (suc (t .board)) 1 1 1)) e)
-  where
-    go : (sameTurn u (turn (t .board) (t .strip) (t .stack) (suc (t .place))) ≡ true) ⊎ ((sameTurn u (turn (t .board) (t .strip) (suc (t .stack)) 1) ≡ true)
-        ⊎ ((sameTurn u (turn (t .board) (suc (t .strip)) 1 1) ≡ true) ⊎ (sameTurn u (turn (suc (t .board)) 1 1 1) ≡ true))) → Next t u
-    go (inl h) = rw (same-true u (turn (t .board) (t .strip) (t .stack) (suc (t .place))) h) same-stack
-    go (inr (inl h)) = rw (same-true u (turn (t .board) (t .strip) (suc (t .stack)) 1) h) next-stack
-    go (inr (inr (inl h))) = rw (same-true u (turn (t .board) (suc (t .strip)) 1 1) h) next-strip
-    go (inr (inr (inr h))) = rw (same-true u (turn (suc (t .board)) 1 1 1) h) next-board
+abbrev OneOf : Turn → Turn → Type 0
+OneOf t u =
+    (u ≡ turn (t .board) (t .strip) (t .stack) (suc (t .place)))
+    ⊎ (u ≡ turn (t .board) (t .strip) (suc (t .stack)) 1)
+    ⊎ (u ≡ turn (t .board) (suc (t .strip)) 1 1)
+    ⊎ (u ≡ turn (suc (t .board)) 1 1 1)
 
-pub next-follows : (t u : Turn) → Next t u → follows t u ≡ true
+one-of-next : (t u : Turn) → OneOf t u → Next t u
+one-of-next t u (inl e) = rw e same-stack
+one-of-next t u (inr (inl e)) = rw e next-stack
+one-of-next t u (inr (inr (inl e))) = rw e next-strip
+one-of-next t u (inr (inr (inr e))) = rw e next-board
+
+next-one-of : {t u : Turn} → Next t u → OneOf t u
+next-one-of same-stack = inl refl
+next-one-of next-stack = inr (inl refl)
+next-one-of next-strip = inr (inr (inl refl))
+next-one-of next-board = inr (inr (inr refl))
+
+follows-tests : (t u : Turn) → (follows t u ≡ true) ↔ OneOf t u
 unfolding follows
-next-follows t u n =
-    or-four (sameTurn u (turn (t .board) (t .strip) (t .stack) (suc (t .place)))) (sameTurn u (turn (t .board) (t .strip) (suc (t .stack)) 1))
-    (sameTurn u (turn (t .board) (suc (t .strip)) 1 1)) (sameTurn u (turn (suc (t .board)) 1 1 1)) (go n)
-  where
-    go : {v : Turn} → Next t v → (sameTurn v (turn (t .board) (t .strip) (t .stack) (suc (t .place))) ≡ true) ⊎ ((sameTurn v (turn (t .board) (t .strip) (suc (t .stack)) 1) ≡ true)
-        ⊎ ((sameTurn v (turn (t .board) (suc (t .strip)) 1 1) ≡ true) ⊎ (sameTurn v (turn (suc (t .board)) 1 1 1) ≡ true)))
-    go same-stack = inl (true-same (turn (t .board) (t .strip) (t .stack) (suc (t .place))))
-    go next-stack = inr (inl (true-same (turn (t .board) (t .strip) (suc (t .stack)) 1)))
-    go next-strip = inr (inr (inl (true-same (turn (t .board) (suc (t .strip)) 1 1))))
-    go next-board = inr (inr (inr (true-same (turn (suc (t .board)) 1 1 1))))
+follows-tests t u =
+    decides-four
+    (same-exact u (turn (t .board) (t .strip) (t .stack) (suc (t .place))))
+    (same-exact u (turn (t .board) (t .strip) (suc (t .stack)) 1))
+    (same-exact u (turn (t .board) (suc (t .strip)) 1 1))
+    (same-exact u (turn (suc (t .board)) 1 1 1))
+
+pub follows-exact : (t u : Turn) → (follows t u ≡ true) ↔ Next t u
+follows-exact t u =
+    (λ e. one-of-next t u (follows-tests t u .0 e), λ n. follows-tests t u .1 (next-one-of n))
 
 -- each line is the next in turn after the one before, the first after t
 abbrev pub InTurn : Turn → List Placement → Type 0
@@ -83,13 +91,13 @@ in-turn-pass k t (r ∷ rs) e = go (follows t (r .turn)) refl e (in-turn-pass (s
   where
     go : (a : Bool) → follows t (r .turn) ≡ a → elim a [ false ↦ refuse 15 k | true ↦ inTurn (suc k) (r .turn) rs ] ≡ pass
         → (inTurn (suc k) (r .turn) rs ≡ pass → InTurn (r .turn) rs) → Next t (r .turn) × InTurn (r .turn) rs
-    go true h q rec = (follows-next t (r .turn) h, rec q)
+    go true h q rec = (follows-exact t (r .turn) .0 h, rec q)
     go false h q rec = absurd (refuse-pass 15 k q)
 
 pub pass-in-turn : (k : ℕ) (t : Turn) (rs : List Placement) → InTurn t rs → inTurn k t rs ≡ pass
 unfolding inTurn
 pass-in-turn k t [] h = refl
-pass-in-turn k t (r ∷ rs) h = rw (next-follows t (r .turn) (h .0), inTurn) (pass-in-turn (suc k) (r .turn) rs (h .1))
+pass-in-turn k t (r ∷ rs) h = rw (follows-exact t (r .turn) .1 (h .0), inTurn) (pass-in-turn (suc k) (r .turn) rs (h .1))
 
 -- the first is 1, 1, 1, 1
 abbrev pub FromOne : List Placement → Type 0
@@ -103,13 +111,13 @@ turns-pass k (r ∷ rs) e = go (sameTurn (r .turn) (turn 1 1 1 1)) refl e
   where
     go : (a : Bool) → sameTurn (r .turn) (turn 1 1 1 1) ≡ a → elim a [ false ↦ refuse 15 k | true ↦ inTurn (suc k) (r .turn) rs ] ≡ pass
         → (r .turn ≡ turn 1 1 1 1) × InTurn (r .turn) rs
-    go true h q = (same-true (r .turn) (turn 1 1 1 1) h, in-turn-pass (suc k) (r .turn) rs q)
+    go true h q = (same-exact (r .turn) (turn 1 1 1 1) .0 h, in-turn-pass (suc k) (r .turn) rs q)
     go false h q = absurd (refuse-pass 15 k q)
 
 pub pass-turns : (k : ℕ) (rs : List Placement) → FromOne rs → turns k rs ≡ pass
 unfolding turns
 pass-turns k [] h = refl
-pass-turns k (r ∷ rs) h = rw (h .0, true-same (turn 1 1 1 1), turns) (pass-in-turn (suc k) (r .turn) rs (h .1))
+pass-turns k (r ∷ rs) h = rw (h .0, same-exact (turn 1 1 1 1) (turn 1 1 1 1) .1 refl, turns) (pass-in-turn (suc k) (r .turn) rs (h .1))
 
 -- the numbers of a turn are from 1 to n
 pub record UpTo (n : ℕ) (t : Turn) : Type 0 where
@@ -145,20 +153,31 @@ turns-up-to (r ∷ rs) h =
 
 module _ (job : Job) where
   -- the further lines of a stack, where what comes after them is in turn after each of its places
-  stack-on : (b s k p x y : ℕ) (st : Stack) (rs : List Placement) → ((q : ℕ) → InTurn (turn b s k q) rs) → InTurn (turn b s k p) (stackLines job b s k (suc p) x y st ++ rs)
+  stack-on :
+      (b s k p x y : ℕ) (st : Stack) (rs : List Placement)
+      → ((q : ℕ) → InTurn (turn b s k q) rs)
+      → InTurn (turn b s k p) (stackLines job b s k (suc p) x y st ++ rs)
   unfolding stackLines
   stack-on b s k p x y [] rs h = h p
   stack-on b s k p x y (i ∷ is) rs h = (same-stack, stack-on b s k (suc p) x (y + heightOf job i) is rs h)
 
   -- a stack that is begun after t
-  stack-begun : (t : Turn) (b s k x y : ℕ) (st : Stack) (rs : List Placement) → Next t (turn b s k 1) → Filled st → ((q : ℕ) → InTurn (turn b s k q) rs)
+  stack-begun :
+      (t : Turn) (b s k x y : ℕ) (st : Stack) (rs : List Placement)
+      → Next t (turn b s k 1)
+      → Filled st
+      → ((q : ℕ) → InTurn (turn b s k q) rs)
       → InTurn t (stackLines job b s k 1 x y st ++ rs)
   unfolding stackLines
   stack-begun t b s k x y [] rs n f h = absurd f
   stack-begun t b s k x y (i ∷ is) rs n f h = (n, stack-on b s k 1 x (y + heightOf job i) is rs h)
 
   -- the further stacks of a strip, and a strip that is begun after t
-  strip-on : (b s k p x y : ℕ) (st : Strip) (rs : List Placement) → Every Filled st → ((j q : ℕ) → InTurn (turn b s j q) rs) → InTurn (turn b s k p) (stripLines job b s (suc k) x y st ++ rs)
+  strip-on :
+      (b s k p x y : ℕ) (st : Strip) (rs : List Placement)
+      → Every Filled st
+      → ((j q : ℕ) → InTurn (turn b s j q) rs)
+      → InTurn (turn b s k p) (stripLines job b s (suc k) x y st ++ rs)
   unfolding stripLines
   strip-on b s k p x y [] rs f h = h k p
   strip-on b s k p x y (l ∷ ls) rs f h =
@@ -167,7 +186,11 @@ module _ (job : Job) where
       (stack-begun (turn b s k p) b s (suc k) x y l (more ++ rs) next-stack (f .0)
       (λ q. strip-on b s (suc k) q (x + stackWidth job l) y ls rs (f .1) h))
 
-  strip-begun : (t : Turn) (b s y : ℕ) (st : Strip) (rs : List Placement) → Next t (turn b s 1 1) → FullStrip st → ((j q : ℕ) → InTurn (turn b s j q) rs)
+  strip-begun :
+      (t : Turn) (b s y : ℕ) (st : Strip) (rs : List Placement)
+      → Next t (turn b s 1 1)
+      → FullStrip st
+      → ((j q : ℕ) → InTurn (turn b s j q) rs)
       → InTurn t (stripLines job b s 1 0 y st ++ rs)
   unfolding stripLines
   strip-begun t b s y [] rs n f h = absurd (f .0)
@@ -177,7 +200,11 @@ module _ (job : Job) where
       (stack-begun t b s 1 0 y l (more ++ rs) n (f .1 .0) (λ q. strip-on b s 1 q (0 + stackWidth job l) y ls rs (f .1 .1) h))
 
   -- the further strips of a board, and a board that is begun after t
-  board-on : (b s k p y : ℕ) (bd : Board) (rs : List Placement) → Every FullStrip bd → ((j l q : ℕ) → InTurn (turn b j l q) rs) → InTurn (turn b s k p) (boardLines job b (suc s) y bd ++ rs)
+  board-on :
+      (b s k p y : ℕ) (bd : Board) (rs : List Placement)
+      → Every FullStrip bd
+      → ((j l q : ℕ) → InTurn (turn b j l q) rs)
+      → InTurn (turn b s k p) (boardLines job b (suc s) y bd ++ rs)
   unfolding boardLines
   board-on b s k p y [] rs f h = h s k p
   board-on b s k p y (st ∷ sts) rs f h =
@@ -186,7 +213,11 @@ module _ (job : Job) where
       (strip-begun (turn b s k p) b (suc s) y st (more ++ rs) next-strip (f .0)
       (λ j q. board-on b (suc s) j q (y + stripHeight job st) sts rs (f .1) h))
 
-  board-begun : (t : Turn) (b : ℕ) (bd : Board) (rs : List Placement) → Next t (turn b 1 1 1) → FullBoard bd → ((j l q : ℕ) → InTurn (turn b j l q) rs)
+  board-begun :
+      (t : Turn) (b : ℕ) (bd : Board) (rs : List Placement)
+      → Next t (turn b 1 1 1)
+      → FullBoard bd
+      → ((j l q : ℕ) → InTurn (turn b j l q) rs)
       → InTurn t (boardLines job b 1 0 bd ++ rs)
   unfolding boardLines
   board-begun t b [] rs n f h = absurd (f .0)

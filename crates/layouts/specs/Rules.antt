@@ -68,8 +68,8 @@ abbrev pub SetOk : Job → List Board → Type 0
 SetOk job bs = Every (BoardOk job) bs
 
 -- "it meets the demands if each type lies in it at least as often as demanded"
-abbrev pub Demanded : Job → List Board → Type 0
-Demanded job bs = (i : ℕ) → 1 ≤ i → i ≤ length (job .items) → itemAt job i .demand ≤ occurs i (itemsOfSet bs)
+abbrev pub MeetsDemands : Job → List Board → Type 0
+MeetsDemands job bs = (i : ℕ) → 1 ≤ i → i ≤ length (job .items) → itemAt job i .demand ≤ occurs i (itemsOfSet bs)
 
 -- "that is inside its board if x+wi and y+hi are at most the board's width and height"
 abbrev pub Inside : Job → Placement → Type 0
@@ -79,16 +79,17 @@ Inside job p = (p .x + widthOf job (p .item) ≤ job .width) × (p .y + heightOf
 abbrev pub Apart : Job → Placement → Placement → Type 0
 Apart job p q =
     (p .x + widthOf job (p .item) ≤ q .x)
-    ⊎ ((q .x + widthOf job (q .item) ≤ p .x)
-    ⊎ ((p .y + heightOf job (p .item) ≤ q .y) ⊎ (q .y + heightOf job (q .item) ≤ p .y)))
+    ⊎ (q .x + widthOf job (q .item) ≤ p .x)
+    ⊎ (p .y + heightOf job (p .item) ≤ q .y)
+    ⊎ (q .y + heightOf job (q .item) ≤ p .y)
 
 -- what stands for a place that a list has not
 abbrev pub noPlacement : Placement
 noPlacement = record { turn = turn 0 0 0 0; item = 0; x = 0; y = 0 }
 
 -- any two placements of one board do not overlap; j and k are their places in the list, from 0
-abbrev pub NoneOverlap : Job → List Placement → Type 0
-NoneOverlap job ps =
+abbrev pub NoOverlap : Job → List Placement → Type 0
+NoOverlap job ps =
     (j k : ℕ)
     → j < k
     → k < length ps

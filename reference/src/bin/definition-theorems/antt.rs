@@ -2,8 +2,8 @@
 
 use std::fmt::Write;
 
-/// The shortest run of equal words at the end of a list that is written as a repetition.
-const RUN: usize = 8;
+/// The shortest run of equal words that is written as a repetition.
+const LONG_RUN: usize = 10;
 
 /// A list of values that are written already.
 pub fn list<T: AsRef<str>>(values: impl IntoIterator<Item = T>) -> String {
@@ -11,7 +11,10 @@ pub fn list<T: AsRef<str>>(values: impl IntoIterator<Item = T>) -> String {
     for value in values {
         write!(written, "{} ∷ ", value.as_ref()).unwrap();
     }
-    written + "[])"
+    match written.len() {
+        1 => String::from("[]"),
+        _ => written + "[])",
+    }
 }
 
 /// A list of numbers.
@@ -19,47 +22,55 @@ pub fn numbers<T: ToString>(values: impl IntoIterator<Item = T>) -> String {
     list(values.into_iter().map(|value| value.to_string()))
 }
 
-/// A list of words; equal ones at its end are written as a repetition.
+/// A list of words; a long run of equal ones is written as a repetition.
 pub fn words(values: &[u16]) -> String {
-    let last = values.last();
-    let run = (values.iter().rev())
-        .take_while(|value| Some(*value) == last)
-        .count();
-    match last {
-        Some(last) if run >= RUN => {
-            let (before, _) = values.split_at(values.len() - run);
-            let repeated = format!("replicate {run} {last}");
-            match before.is_empty() {
-                true => format!("({repeated})"),
-                false => format!("({} ++ {repeated})", numbers(before)),
-            }
+    let mut parts = Vec::new();
+    let mut single: Vec<u16> = Vec::new();
+    for run in values.chunk_by(|one, next| one == next) {
+        if run.len() < LONG_RUN {
+            single.extend(run);
+            continue;
         }
-        _ => numbers(values),
+        if !single.is_empty() {
+            parts.push(numbers(single.drain(..)));
+        }
+        parts.push(format!("replicate {} {}", run.len(), run[0]));
+    }
+    if parts.is_empty() || !single.is_empty() {
+        parts.push(numbers(single));
+    }
+    match &parts[..] {
+        [part] if !part.starts_with('r') => part.clone(),
+        _ => format!("({})", parts.join(" ++ ")),
     }
 }
 
 /// Bytes, as quoted text line by line; a byte that is not quoted stands as a number.
 pub fn bytes(text: &[u8]) -> String {
-    let quoted = |byte: &u8| (32..127).contains(byte) && !b"\"\\".contains(byte);
     let mut parts = Vec::new();
     let mut rest = text;
-    while let Some(&first) = rest.first() {
-        let length = rest.iter().take_while(|byte| quoted(byte)).count();
-        let part = std::str::from_utf8(&rest[..length]).unwrap();
-        let ended = rest.get(length) == Some(&b'\n');
-        match length > 0 || ended {
-            true => parts.push(format!(
-                "bytes \"{part}{}\"",
-                ["", "\\n"][usize::from(ended)]
-            )),
-            false => parts.push(numbers([first])),
+    while !rest.is_empty() {
+        let mut length = rest.iter().take_while(|byte| is_quoted(byte)).count();
+        let mut quoted = String::from_utf8_lossy(&rest[..length]).into_owned();
+        if rest.get(length) == Some(&b'\n') {
+            quoted.push_str("\\n");
+            length += 1;
         }
-        rest = &rest[(length + usize::from(ended)).max(1)..];
+        match length {
+            0 => parts.push(numbers([rest[0]])),
+            _ => parts.push(format!("bytes \"{quoted}\"")),
+        }
+        rest = &rest[length.max(1)..];
     }
     match parts.is_empty() {
         true => String::from("[]"),
         false => format!("({})", parts.join("\n     ++ ")),
     }
+}
+
+/// Whether a byte stands for itself in quoted text.
+fn is_quoted(byte: &u8) -> bool {
+    (b' '..=b'~').contains(byte) && !b"\"\\".contains(byte)
 }
 
 /// The first lines of a file of theorems.

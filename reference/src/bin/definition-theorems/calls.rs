@@ -56,15 +56,6 @@ struct Input {
     lent: Vec<Vec<u16>>,
 }
 
-/// Where an input is damaged.
-#[derive(Clone, Copy, PartialEq, Eq)]
-enum Damage {
-    Nowhere,
-    Job,
-    Own,
-    Buffers,
-}
-
 /// A theorem over a call on a random input.
 pub fn theorem(random: &mut Random, call: Call) -> Theorem {
     loop {
@@ -84,43 +75,39 @@ pub fn theorem(random: &mut Random, call: Call) -> Theorem {
     }
 }
 
-/// An input that is damaged in one place or, more often, nowhere.
+/// An input whose job, own words and buffers may be damaged; a good half is valid.
 fn random_input(random: &mut Random, call: Call) -> Input {
-    use Damage::{Buffers, Job, Nowhere, Own};
-    let damage = match (
-        call,
-        random.pick(&[Nowhere, Nowhere, Nowhere, Nowhere, Job, Own, Own, Buffers]),
-    ) {
-        (Call::Listing, Own) => Job,
-        (_, damage) => damage,
-    };
     let model = Model::random(random);
+    let own_damaged = random.once_in(3);
     let full = call.full_sizes();
     let mut input = Input {
-        job: model.words.clone(),
-        own: own_words(random, call, &model, damage == Own),
+        job: job_words(random, &model, call),
+        own: own_words(random, call, &model, own_damaged),
         lent: full.iter().map(|&size| vec![0; size]).collect(),
     };
-    while damage == Job && (input.job == model.words || !is_small(&input.job)) {
-        input.job.clone_from(&model.words);
-        damage_job(random, &mut input.job);
-    }
-    // A job that is refused for its words needs no large buffers.
+    // An input that is refused before its buffers are looked at needs no large ones.
     let refusal = answer(call, &input, &mut input.lent.clone()).err();
     let small = refusal.is_some_and(|refusal| refusal.number < 5) && !random.once_in(8);
-    let short = if damage == Buffers {
-        random.below(4)
-    } else {
-        4
-    };
+    let short = random.once_in(8).then(|| random.below(4));
     for (index, &size) in full.iter().enumerate() {
-        input.lent[index] = random_buffer(random, size, small || short == index);
+        input.lent[index] = random_buffer(random, size, small || short == Some(index));
     }
-    if call.takes_counts() && (small || short == 3) {
+    if call.takes_counts() && (small || short == Some(3)) {
         let length = random.pick(&[0, 3, COUNTS.full_size - 1]);
         input.own.truncate(length);
     }
     input
+}
+
+/// The words of the model's job, or damaged ones, of which the listing is small if there is one.
+fn job_words(random: &mut Random, model: &Model, call: Call) -> Vec<u16> {
+    let mut job = model.words.clone();
+    let damaged = random.once_in(if call == Call::Listing { 3 } else { 8 });
+    while damaged && (job == model.words || !is_small(&job)) {
+        job.clone_from(&model.words);
+        damage_job(random, &mut job);
+    }
+    job
 }
 
 /// A buffer before the call: of full size, a little longer, or shorter; its words are arbitrary.
@@ -176,7 +163,7 @@ fn layout_words(random: &mut Random, model: &Model, damaged: bool) -> Vec<u16> {
             damage_order(random, &mut lines);
             layouts = lines.concat();
         }
-        8 => layouts = vec![1; 7 * random.pick(&[4_000, 4_001])],
+        8 => layouts = vec![1; 7 * random.pick(&[0, 4_000, 4_001])],
         9..=15 => damage_words(random, &mut layouts),
         _ => {}
     }

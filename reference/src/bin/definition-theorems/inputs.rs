@@ -20,11 +20,16 @@ pub struct Model {
 }
 
 impl Model {
-    /// A random one.
+    /// A random one of any mode; of three-stage jobs most have plates of stage 3.
     pub fn random(random: &mut Random) -> Model {
+        let mode = random.pick(&Mode::ALL);
         loop {
-            let job = random_job(random);
-            if let Ok(listing) = Listing::walk(&job, SMALL) {
+            let job = random_job(random, mode);
+            let Ok(listing) = Listing::walk(&job, SMALL) else {
+                continue;
+            };
+            let third_stage = listing.plates.iter().any(|plate| plate.stage == 3);
+            if mode.is_two_stage() || third_stage || random.once_in(8) {
                 let words = words_of(&job);
                 return Model {
                     job,
@@ -36,26 +41,34 @@ impl Model {
     }
 }
 
-/// A job of any mode whose sides are drawn from few values, so that equal widths and heights, and
-/// equal types, occur.
-fn random_job(random: &mut Random) -> Job {
+/// A job whose sides are drawn from few values, so that equal widths and heights, and equal
+/// types, occur.
+fn random_job(random: &mut Random, mode: Mode) -> Job {
     let longest = random.pick(&[4, 9, 16, 30]);
     let [width, height] = [0; 2].map(|_| random.between(longest / 2, longest));
-    let widths = [0; 3].map(|_| random.between(1, width));
-    let heights = [0; 3].map(|_| random.between(1, height));
-    let types = random.between(1, 4);
-    let items = (0..types).map(|_| Item {
+    let widths = [0; 3].map(|_| random_side(random, width));
+    let tall = random.between(height / 2 + 1, height);
+    let heights = match random.once_in(2) {
+        true => [tall, tall / 2, tall / 3].map(|side| side.max(1)),
+        false => [0; 3].map(|_| random_side(random, height)),
+    };
+    let items = (0..random.between(1, 4)).map(|_| Item {
         width: random.pick(&widths),
         height: random.pick(&heights),
         demand: random.between(1, 3),
     });
-    let items = items.collect();
     Job {
-        mode: random.pick(&Mode::ALL),
+        mode,
         width,
         height,
-        items,
+        items: items.collect(),
     }
+}
+
+/// An item's side, of which one, some or many go along the board's.
+fn random_side(random: &mut Random, board: u16) -> u16 {
+    let some = random.pick(&[1, 2, 3, 3, 5]);
+    random.between(board.div_ceil(some + 2), board.div_ceil(some))
 }
 
 /// Stages, exact, W, H, n, then width, height, demand of each type.
@@ -110,15 +123,10 @@ pub fn random_plan(random: &mut Random, model: &Model) -> Vec<u16> {
     let mut waiting = Vec::new();
     let mut missing = Missing::of(&model.job);
     while !missing.is_none() || random.once_in(4) {
-        let plate = match waiting.is_empty() || random.once_in(4) {
-            true => 0,
-            false => waiting.swap_remove(random.below(waiting.len())),
-        };
+        let plate = random_plate(random, listing, &mut waiting);
         let on: Vec<usize> = listing.cuts_on(plate).collect();
-        let wanted = on.iter().copied();
-        let wanted: Vec<usize> = wanted
-            .filter(|&index| missing.lacks(listing.cuts[index].item))
-            .collect();
+        let lacked = |index: &usize| missing.lacks(listing.cuts[*index].item);
+        let wanted: Vec<usize> = on.iter().copied().filter(lacked).collect();
         let index = match wanted.is_empty() || random.once_in(4) {
             true => random.pick(&on),
             false => random.pick(&wanted),
@@ -129,6 +137,21 @@ pub fn random_plan(random: &mut Random, model: &Model) -> Vec<u16> {
         missing.take(cut.item);
     }
     counts
+}
+
+/// A board, any residual that waits, or one of the highest stage.
+fn random_plate(random: &mut Random, listing: &Listing, waiting: &mut Vec<u16>) -> u16 {
+    if waiting.is_empty() || random.once_in(5) {
+        return 0;
+    }
+    waiting.sort_by_key(|&plate| listing.plates[usize::from(plate)].stage);
+    let last = waiting.len() - 1;
+    let at = if random.once_in(3) {
+        random.below(last + 1)
+    } else {
+        last
+    };
+    waiting.remove(at)
 }
 
 /// The words of an accepted price list: each residual, and D, at the least that its cuts allow,
@@ -166,7 +189,7 @@ pub fn random_set(random: &mut Random, job: &Job) -> Vec<Board> {
         let item = missing.pick(random);
         missing.take(item);
         let mut board = vec![vec![vec![item]]];
-        for _ in 0..random.below(12) {
+        for _ in 0..random.below(24) {
             let item = missing.pick(random);
             let mut grown = board.clone();
             grow(random, &mut grown, item);
@@ -184,13 +207,13 @@ pub fn random_set(random: &mut Random, job: &Job) -> Vec<Board> {
 fn grow(random: &mut Random, board: &mut Board, item: u16) {
     let which = random.below(board.len());
     let strip = &mut board[which];
-    match random.below(3) {
-        0 => {
+    match random.below(4) {
+        0 | 1 => {
             let which = random.below(strip.len());
             let stack = &mut strip[which];
             stack.insert(random.below(stack.len() + 1), item);
         }
-        1 => strip.insert(random.below(strip.len() + 1), vec![item]),
+        2 => strip.insert(random.below(strip.len() + 1), vec![item]),
         _ => board.insert(random.below(board.len() + 1), vec![vec![item]]),
     }
 }

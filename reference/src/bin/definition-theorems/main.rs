@@ -30,57 +30,29 @@ pub struct Theorem {
     pub refusal: Option<u32>,
 }
 
-/// What theorems speak of: a name for files and theorems, how many there are beside others, and
-/// how one is made.
-struct Subject {
-    file: &'static str,
-    name: &'static str,
-    share: usize,
-    make: fn(&mut Random) -> Theorem,
-}
-
-const fn subject(
-    file: &'static str,
-    name: &'static str,
-    share: usize,
-    make: fn(&mut Random) -> Theorem,
-) -> Subject {
-    Subject {
-        file,
-        name,
-        share,
-        make,
-    }
-}
+/// What theorems speak of, which names their files; how many they are beside the others; and how
+/// one is made.
+type Subject = (&'static str, usize, fn(&mut Random) -> Theorem);
 
 const SUBJECTS: [Subject; 12] = [
-    subject("Listing", "listing", 3, |random| {
-        calls::theorem(random, Call::Listing)
-    }),
-    subject("PlanTest", "plan-test", 3, |random| {
+    ("Listing", 3, |random| calls::theorem(random, Call::Listing)),
+    ("PlanTest", 3, |random| {
         calls::theorem(random, Call::PlanTest)
     }),
-    subject("PriceTest", "price-test", 3, |random| {
+    ("PriceTest", 3, |random| {
         calls::theorem(random, Call::PriceTest)
     }),
-    subject("Unfolding", "unfolded", 2, |random| {
+    ("Unfolding", 2, |random| {
         calls::theorem(random, Call::Unfolding)
     }),
-    subject("Folding", "folded", 3, |random| {
-        calls::theorem(random, Call::Folding)
-    }),
-    subject("SawText", "saw-text", 14, texts::saw_theorem),
-    subject("FoldText", "fold-text", 12, texts::fold_theorem),
-    subject("Walk", "walk", 2, structures::walk_theorem),
-    subject("Sets", "set", 3, structures::set_theorem),
-    subject("Rules", "layout-rules", 2, structures::rules_theorem),
-    subject(
-        "Rectangles",
-        "rectangles-of",
-        2,
-        structures::rectangle_theorem,
-    ),
-    subject("Fewest", "fewest-of", 1, structures::fewest_theorem),
+    ("Folding", 3, |random| calls::theorem(random, Call::Folding)),
+    ("SawText", 14, texts::saw_theorem),
+    ("FoldText", 12, texts::fold_theorem),
+    ("Walk", 2, structures::walk_theorem),
+    ("Sets", 3, structures::set_theorem),
+    ("Rules", 2, structures::rules_theorem),
+    ("Rectangles", 2, structures::rectangle_theorem),
+    ("Fewest", 1, structures::fewest_theorem),
 ];
 
 /// Whether the listing is small, if there is one: the words are a job's, and it is admitted.
@@ -107,7 +79,7 @@ fn main() -> io::Result<()> {
     };
     let [count, seed]: [u64; 2] = [count, seed].map(|word| word.parse().expect("a number"));
     let written = theorems(count as usize, seed);
-    for (subject, written) in SUBJECTS.iter().zip(&written) {
+    for ((subject, ..), written) in SUBJECTS.iter().zip(&written) {
         write_files(Path::new(folder), subject, &written.theorems)?;
     }
     print_summary(&written);
@@ -117,51 +89,49 @@ fn main() -> io::Result<()> {
 /// As many theorems, each subject having its share of every part of them.
 fn theorems(count: usize, seed: u64) -> Vec<Written> {
     let mut random = Random::new(seed);
-    let shares = (0..SUBJECTS.len()).flat_map(|index| vec![index; SUBJECTS[index].share]);
+    let shares = (0..SUBJECTS.len()).flat_map(|index| vec![index; SUBJECTS[index].1]);
     let shares: Vec<usize> = shares.collect();
-    let mut written: Vec<Written> = SUBJECTS.iter().map(|_| Written::default()).collect();
-    for index in shares.iter().cycle().take(count) {
-        let subject = &SUBJECTS[*index];
-        let theorem = (subject.make)(&mut random);
-        let written = &mut written[*index];
-        let name = format!("{}-{}", subject.name, written.theorems.len() + 1);
+    let mut all: Vec<Written> = SUBJECTS.iter().map(|_| Written::default()).collect();
+    for &index in shares.iter().cycle().take(count) {
+        let (subject, _, make) = SUBJECTS[index];
+        let theorem = make(&mut random);
+        let written = &mut all[index];
+        let name = format!("{subject}-{}", written.theorems.len() + 1).to_lowercase();
         written.theorems.push(theorem.equation.theorem(&name));
         if let Some(number) = theorem.refusal {
             *written.refused.entry(number).or_default() += 1;
         }
     }
-    written
+    all
 }
 
 /// Files of at most so many theorems, each with the names that they use.
-fn write_files(folder: &Path, subject: &Subject, theorems: &[String]) -> io::Result<()> {
+fn write_files(folder: &Path, subject: &str, theorems: &[String]) -> io::Result<()> {
     for (number, part) in (1..).zip(theorems.chunks(MOST_OF_A_FILE)) {
-        let path = folder.join(format!("{}{number}.antt", subject.file));
+        let path = folder.join(format!("{subject}{number}.antt"));
         fs::write(path, format!("{}\n{}", antt::HEAD, part.join("\n")))?;
     }
     Ok(())
 }
 
-/// How many theorems there are of each subject, and how many of the calls and texts are refused,
+/// How many theorems there are of each subject, how many of their inputs are refused, and those
 /// by number.
 fn print_summary(written: &[Written]) {
     let mut refused: BTreeMap<u32, usize> = BTreeMap::new();
-    for (subject, written) in SUBJECTS.iter().zip(written) {
-        let some: usize = written.refused.values().sum();
+    for ((subject, ..), written) in SUBJECTS.iter().zip(written) {
         let all = written.theorems.len();
-        println!(
-            "{:<12}{all:>6} theorems, {some:>5} of a refusal",
-            subject.file
-        );
+        let some: usize = written.refused.values().sum();
+        println!("{subject:<12}{all:>5} theorems,{some:>5} of a refusal");
         for (number, count) in &written.refused {
             *refused.entry(*number).or_default() += count;
         }
     }
-    let numbers = refused
-        .iter()
-        .map(|(number, count)| format!("{number}: {count}"));
-    println!(
-        "refusals by number  {}",
-        numbers.collect::<Vec<_>>().join(", ")
-    );
+    let all: usize = written.iter().map(|written| written.theorems.len()).sum();
+    let some: usize = refused.values().sum();
+    println!("{:<12}{all:>5} theorems,{some:>5} of a refusal", "together");
+    let numbers = refused.iter();
+    let numbers: Vec<_> = numbers
+        .map(|(number, count)| format!("{number}: {count}"))
+        .collect();
+    println!("refusals by number: {}", numbers.join(", "));
 }

@@ -91,7 +91,7 @@ pub fn rules_theorem(random: &mut Random) -> Theorem {
     let board = random.below(set.len());
     let strip = random.below(set[board].len());
     let types = model.job.items.len() as u16;
-    match random.below(6) {
+    match random.below(10) {
         0 => set.push(Board::new()),
         1 => set[board].push(Vec::new()),
         2 => set[board][strip].push(Vec::new()),
@@ -156,9 +156,13 @@ pub fn fewest_theorem(random: &mut Random) -> Theorem {
     }
 }
 
-/// A set that keeps the rules and meets the demands, or one in which items are put anywhere.
+/// A set that keeps the rules and meets the demands, or one without its first board, or one in
+/// which items are put anywhere.
 fn set_or_broken(random: &mut Random, job: &Job) -> Vec<Board> {
     let mut set = random_set(random, job);
+    if random.once_in(4) && set.len() > 1 {
+        set.remove(0);
+    }
     if random.once_in(2) {
         for _ in 0..=random.below(3) {
             grow_anywhere(random, job, &mut set);

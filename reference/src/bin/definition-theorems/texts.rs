@@ -34,8 +34,8 @@ fn theorem(
     loop {
         let model = Model::random(random);
         let lines = lines(random, &model);
-        let damaged = random.below(9) < 4;
-        let text = text_of(random, lines, model.job.items.len(), damaged);
+        let damages = random.pick(&[0, 0, 0, 0, 0, 1, 1, 1, 2]);
+        let text = text_of(random, lines, model.job.items.len(), damages);
         let output = program(&text);
         if !is_small_text(&text) || !is_short(&text) || !is_short(&output) {
             continue;
@@ -51,26 +51,28 @@ fn theorem(
     }
 }
 
-/// The lines as bytes. Damage is done to numbers, to the order of all lines or of those after the
-/// job's, or to bytes.
-fn text_of(random: &mut Random, mut lines: Vec<Line>, types: usize, damaged: bool) -> Vec<u8> {
-    let how = if damaged { random.below(10) } else { 10 };
-    match how {
-        0..=3 => move_number(random, &mut lines),
-        4 => damage_line(random, &mut lines),
-        5 => damage_order(random, &mut lines),
-        6 => {
-            let mut body = lines.split_off(1 + types);
-            damage_order(random, &mut body);
-            lines.append(&mut body);
+/// The lines as bytes, damaged so many times: in numbers, in the order of all lines or of those
+/// after the job's, or in bytes.
+fn text_of(random: &mut Random, mut lines: Vec<Line>, types: usize, damages: usize) -> Vec<u8> {
+    let mut in_bytes = 0;
+    for _ in 0..damages {
+        match random.below(10) {
+            0..=3 => move_number(random, &mut lines),
+            4 => damage_line(random, &mut lines),
+            5 => damage_order(random, &mut lines),
+            6 => {
+                let mut body = lines.split_off(lines.len().min(1 + types));
+                damage_order(random, &mut body);
+                lines.append(&mut body);
+            }
+            _ => in_bytes += 1,
         }
-        _ => {}
     }
     let mut text = Vec::new();
     for line in lines {
         write_line(&mut text, &line);
     }
-    if (7..10).contains(&how) {
+    for _ in 0..in_bytes {
         damage_bytes(random, &mut text);
     }
     text
