@@ -103,24 +103,27 @@ pub fn damage_bytes(random: &mut Random, text: &mut Vec<u8>) {
     if text.is_empty() {
         return text.push(random.pick(&BYTES));
     }
-    let at = match random.once_in(3) {
-        true => some_line_end(random, text),
-        false => random.below(text.len()),
-    };
-    match random.below(5) {
-        0 => text[at] = random.pick(&BYTES),
-        1 => drop(text.remove(at)),
-        2 => text.insert(at, random.pick(&BYTES)),
-        3 => text.truncate(at),
+    let at = random_place(random, text);
+    match random.below(6) {
+        0 | 1 => text[at] = random.pick(&BYTES),
+        2 => drop(text.remove(at)),
+        3 => text.insert(at, random.pick(&BYTES)),
+        4 => text.truncate(at),
         _ => text.truncate(at + 1),
     }
 }
 
-/// Where some line ends, or the text begins if no line does.
-fn some_line_end(random: &mut Random, text: &[u8]) -> usize {
-    let ends: Vec<usize> = (0..text.len()).filter(|&at| text[at] == b'\n').collect();
-    match ends.is_empty() {
-        true => 0,
-        false => random.pick(&ends),
+/// Any place of a text; most are where a number begins or a line ends.
+fn random_place(random: &mut Random, text: &[u8]) -> usize {
+    let begins = |at: usize| text[at] == b' ' && text.get(at + 1).is_some_and(u8::is_ascii_digit);
+    let ends = |at: usize| text[at] == b'\n';
+    let places: Vec<usize> = match random.below(3) {
+        0 => (0..text.len()).filter(|&at| begins(at)).collect(),
+        1 => (0..text.len()).filter(|&at| ends(at)).collect(),
+        _ => Vec::new(),
+    };
+    match places.is_empty() {
+        true => random.below(text.len()),
+        false => random.pick(&places),
     }
 }
