@@ -1,31 +1,23 @@
 -- The checks of a job in their order, on plain values: what each test that held or failed leaves of the verdict; and what words that passed are.
 -- Assumes nothing.
-use mathlib.Core.Path.{_≡_, refl, sym, _∙_}
+use mathlib.Core.Path.{_≡_, refl}
 use mathlib.Core.Bool.{Bool, true, false, not, _&&_}
 use mathlib.Core.List.{List}
 use Prim.Native.Nat.{ℕ, _+_, _*_, _≤_, _<_}
 use native.Mathlib.Omega.{arith}
 use borrow.Author.Tests.{eq-eqb, ne-eqb, eqb-true, lt-ltb, le-ltb, leb-true, not-false}
-use lib.Dec.{leb, eqb}
+use lib.Dec.{leb, ltb, eqb}
 use lib.ListN.{length, getD}
 use Rattle.job.specs.declared.mode.Mode.{Mode}
 use Rattle.job.specs.Verdict.{Verdict, pass, refuse, _then_, refuseIf, lowest, within}
 use Rattle.job.specs.Job.{Job, maxTypes, maxPieces, side, jobOf, boardRight, itemRight, jobWords, larger, demanded, admission}
 use Rattle.job.specs.JobWords.{JobWords}
-
--- a refusal is no pass
-pub refused-not : {number place : ℕ} → refuse number place ≡ pass → ⊥
-refused-not e = let z : _≡_ {A = ℕ} 0 1 = cc in omega arith
+use Rattle.job.proofs.CodeEnds.{refused-not, then-pass, then-stop, Not5, not5-if, not5-then, not5-lowest}
 
 -- a check that passes found nothing
 if-pass : (b : Bool) (number place : ℕ) → refuseIf b number place ≡ pass → b ≡ false
 if-pass true number place e = absurd (refused-not e)
 if-pass false number place e = refl
-
--- two checks in turn pass only if both do
-pub then-pass : (v w : Verdict) → (v then w) ≡ pass → (v ≡ pass) × (w ≡ pass)
-then-pass pass w e = (refl, e)
-then-pass (refuse number place) w e = absurd (refused-not e)
 
 -- the last of several tests that all hold
 last-test : (a b : Bool) → (a && b) ≡ true → b ≡ true
@@ -76,7 +68,7 @@ module _ (job : Job) where
   -- an item larger than the board is 3
   pub too-large : {v : Verdict} (number place : ℕ) → v ≡ size-check job → v ≡ refuse number place → v ≡ admission job
   unfolding admission
-  too-large number place e r = let f : size-check job ≡ refuse number place = sym e ∙ r in r ∙ rw f
+  too-large number place e r = then-stop _ number place e r
 
   module _ (f : pass ≡ size-check job) (sum : ℕ) (s : sum ≡ demanded job) where
     -- demands above 4,000 are 4
@@ -108,3 +100,18 @@ module _ (ws : List ℕ) (e : jobWords ws ≡ pass) where
   -- what the code knows of them, with the mode and the number of types read from the words
   pub passed-words : {mode : Mode} → mode ≡ jobOf ws .mode → JobWords ws mode (getD ws 4 0)
   passed-words m = record { words = passed-length; few = passed-few; of-mode = m }
+
+-- the checks of a job give 1 to 4
+pub words-not5 : (ws : List ℕ) → Not5 (jobWords ws)
+unfolding jobWords
+words-not5 ws =
+    not5-then (length-check ws) (board-check ws then types-check ws) (not5-if (not (eqb (length ws) (5 + 3 * getD ws 4 0))) 1 0 (λ e. omega arith))
+    (not5-then (board-check ws) (types-check ws) (not5-if (not (boardRight ws)) 2 0 (λ e. omega arith)) (not5-lowest 2 _ 1 (jobOf ws .items) (λ e. omega arith)))
+
+pub admission-not5 : (job : Job) → Not5 (admission job)
+unfolding admission
+admission-not5 job =
+    not5-then (size-check job) (refuseIf (ltb maxPieces (demanded job)) 4 0) (not5-lowest 3 _ 1 (job .items) (λ e. omega arith)) (not5-if (ltb maxPieces (demanded job)) 4 0 (λ e. omega arith))
+
+pub job-not5 : (ws : List ℕ) → Not5 (jobWords ws then admission (jobOf ws))
+job-not5 ws = not5-then (jobWords ws) (admission (jobOf ws)) (words-not5 ws) (admission-not5 (jobOf ws))

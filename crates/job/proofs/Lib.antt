@@ -11,3 +11,4 @@ pub mod Admission
 pub mod CodeTests
 pub mod CodeAdmission
 pub mod Records
+pub mod CodeEnds

@@ -3,7 +3,7 @@ ghost use mathlib.Core.Path.{_≡_};
 ghost use mathlib.Core.Bool.{not};
 ghost use Prim.Native.Nat.{_+_, _*_, _≤_};
 ghost use lib.ListN.{length};
-ghost use Rattle.job.specs.Verdict.{pass, lowest, within};
+ghost use Rattle.job.specs.Verdict.{pass, _then_, lowest, within};
 ghost use Rattle.job.specs.Job.{maxTypes, jobOf, boardRight, itemRight, jobWords, larger, demanded, admission};
 ghost use Rattle.job.specs.Admission.{verdictOf};
 use crate::counters::ItemType;
@@ -134,4 +134,15 @@ pub fn admit(job: &[u16]) -> Admission
         return Admission::Refused(4, 0);
     }
     Admission::Passed
+}
+
+// The words of a job and then the job itself: refusals 1 to 4 in their order.
+pub fn check_job(job: &[u16]) -> Admission
+    ensures { λ r. ⌜ verdictOf r ≡ (jobWords (now (job .entry)) then admission (jobOf (now (job .entry)))) ⌝ }
+{
+    let words = job_words(job);
+    let Admission::Passed = words else {
+        return words;
+    };
+    admit(job)
 }

@@ -17,3 +17,4 @@ pub mod Fuel
 pub mod Limits
 pub mod ModelLaws
 pub mod Origin
+pub mod CodePlate

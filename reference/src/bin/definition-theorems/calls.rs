@@ -1,7 +1,7 @@
 //! Theorems over the five calls: the answer, and every lent buffer when the call ends.
 
 use crate::antt::{numbers, words, Equation};
-use crate::damage::{damage_job, damage_order, damage_words};
+use crate::damage::{damage_job, damage_order, damage_words, Words};
 use crate::inputs::{random_layouts, random_plan, random_prices, Model};
 use crate::random::Random;
 use crate::{is_small, Theorem};
@@ -132,7 +132,7 @@ fn own_words(random: &mut Random, call: Call, model: &Model, damaged: bool) -> V
         Call::PriceTest => {
             let mut prices = random_prices(random, model);
             if damaged {
-                damage_words(random, &mut prices);
+                damage_words(random, &mut prices, Words::Prices);
             }
             prices
         }
@@ -144,7 +144,7 @@ fn own_words(random: &mut Random, call: Call, model: &Model, damaged: bool) -> V
 fn count_words(random: &mut Random, model: &Model, damaged: bool) -> Vec<u16> {
     let mut counts = random_plan(random, model);
     if damaged {
-        damage_words(random, &mut counts);
+        damage_words(random, &mut counts, Words::Counts);
     }
     counts.resize(COUNTS.full_size + random.pick(&[0, 0, 0, 2]), 0);
     if damaged && random.once_in(8) {
@@ -164,7 +164,7 @@ fn layout_words(random: &mut Random, model: &Model, damaged: bool) -> Vec<u16> {
             layouts = lines.concat();
         }
         8 => layouts = vec![1; 7 * random.pick(&[0, 4_000, 4_001])],
-        9..=15 => damage_words(random, &mut layouts),
+        9..=15 => damage_words(random, &mut layouts, Words::Layouts),
         _ => {}
     }
     layouts

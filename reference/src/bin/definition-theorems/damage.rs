@@ -2,31 +2,71 @@
 
 use crate::random::Random;
 
-/// Values at the limits of document 01 and next to them.
-const EDGES: [u16; 15] = [
-    0, 1, 2, 3, 4, 40, 41, 2_047, 2_048, 4_000, 4_001, 9_999, 10_000, 10_001, 65_535,
-];
-
 /// The greatest number of nine columns.
 const GREATEST: u32 = 999_999_999;
 
-/// Bytes that a damaged text may hold: of numbers, of ends of lines, and others.
-const BYTES: [u8; 16] = [
-    b' ', b'0', b'1', b'2', b'9', b'\n', b'\t', b'\r', b'+', b'-', b'.', b'A', 0, 11, 128, 255,
+/// The lowest and the highest value of each number of a line after its kind, by kind; a job of
+/// four item types is meant.
+const LIMITS: [&[(u32, u32)]; 8] = [
+    &[],
+    &[(2, 3), (0, 1), (1, 10_000), (1, 10_000), (1, 40)],
+    &[(1, 4), (1, 10_000), (1, 10_000), (1, 4_000)],
+    &[(0, 2_047), (1, 4), (1, 4_000)],
+    &[(1, 9_999), (1, 40), (0, 2_047)],
+    &[(1, 4), (0, 9_999)],
+    &[(1, 2_047), (0, 9_999)],
+    &[
+        (1, 4_000),
+        (1, 4_000),
+        (1, 4_000),
+        (1, 4_000),
+        (1, 4),
+        (0, 10_000),
+        (0, 10_000),
+    ],
 ];
 
-/// Changes one word, drops one, puts one in, or drops all from there on.
-pub fn damage_words(random: &mut Random, words: &mut Vec<u16>) {
-    if words.is_empty() {
-        return words.push(random.pick(&EDGES));
+/// What words are passed for.
+#[derive(Clone, Copy)]
+pub enum Words {
+    Job,
+    Counts,
+    Prices,
+    Layouts,
+}
+
+impl Words {
+    /// The lowest and the highest value of a word.
+    fn limits(self, at: usize) -> (u32, u32) {
+        match self {
+            Words::Job if at < 5 => LIMITS[1][at],
+            Words::Job => LIMITS[2][1 + (at - 5) % 3],
+            Words::Counts => (0, 4_000),
+            Words::Prices => (u32::from(at == 0), 9_999),
+            Words::Layouts => LIMITS[7][at % 7],
+        }
     }
-    let at = random.below(words.len());
-    match random.below(8) {
-        0 | 1 => words[at] = random.pick(&EDGES),
-        2 | 3 => words[at] = words[at].saturating_add(1),
-        4 => words[at] = words[at].saturating_sub(1),
-        5 => drop(words.remove(at)),
-        6 => words.insert(at, random.pick(&EDGES)),
+}
+
+/// A value at a limit, one past it, or the greatest.
+fn at_limit(random: &mut Random, (low, high): (u32, u32), greatest: u32) -> u32 {
+    let below = low.saturating_sub(1);
+    random.pick(&[below, below, low, high, high, high + 1, high + 1, greatest])
+}
+
+/// Moves one word by one or to a limit, drops one, puts one in, or drops all from there on.
+pub fn damage_words(random: &mut Random, words: &mut Vec<u16>, purpose: Words) {
+    let at = random.below(words.len().max(1));
+    let limit = at_limit(random, purpose.limits(at), 65_535) as u16;
+    if at == words.len() {
+        return words.push(limit);
+    }
+    match random.below(9) {
+        0..=2 => words[at] = limit,
+        3 | 4 => words[at] = words[at].saturating_add(1),
+        5 => words[at] = words[at].saturating_sub(1),
+        6 => drop(words.remove(at)),
+        7 => words.insert(at, limit),
         _ => words.truncate(at),
     }
 }
@@ -43,20 +83,21 @@ pub fn damage_job(random: &mut Random, words: &mut Vec<u16>) {
             words[4] = random.pick(&[0, 40, 41]);
             words.resize(5 + 3 * usize::from(words[4]), 1);
         }
-        _ => damage_words(random, words),
+        _ => damage_words(random, words, Words::Job),
     }
 }
 
-/// Drops a line, doubles it, or swaps it with another.
+/// Drops a line, doubles it, swaps it with another, or puts it once more at the end.
 pub fn damage_order<T: Clone>(random: &mut Random, lines: &mut Vec<T>) {
     if lines.is_empty() {
         return;
     }
     let [one, other] = [0; 2].map(|_| random.below(lines.len()));
-    match random.below(3) {
+    match random.below(4) {
         0 => drop(lines.remove(one)),
         1 => lines.insert(other, lines[one].clone()),
-        _ => lines.swap(one, other),
+        2 => lines.swap(one, other),
+        _ => lines.push(lines[one].clone()),
     }
 }
 
@@ -66,10 +107,13 @@ pub fn move_number(random: &mut Random, lines: &mut [Vec<u32>]) {
         return;
     };
     let at = 1 + random.below(line.len() - 1);
-    line[at] = match random.below(5) {
-        0 | 1 => GREATEST.min(line[at] + 1),
-        2 => line[at].saturating_sub(1),
-        _ => u32::from(random.pick(&EDGES)),
+    let limits = LIMITS
+        .get(line[0] as usize)
+        .and_then(|of_kind| of_kind.get(at - 1));
+    line[at] = match (random.below(5), limits) {
+        (0 | 1, _) | (_, None) => GREATEST.min(line[at] + 1),
+        (2, _) => line[at].saturating_sub(1),
+        (_, Some(&limits)) => at_limit(random, limits, GREATEST),
     }
 }
 
@@ -84,7 +128,7 @@ pub fn damage_line(random: &mut Random, lines: &mut [Vec<u32>]) {
         1 => line[at] = GREATEST,
         2 => line[0] = random.between(0, 10).into(),
         3 => drop(line.remove(at)),
-        _ => line.insert(at, u32::from(random.pick(&EDGES))),
+        _ => line.insert(at, random.between(0, 4).into()),
     }
 }
 
@@ -100,14 +144,13 @@ fn some_line<'a>(
 
 /// Changes a byte, drops one, puts one in, or cuts the text before or after it.
 pub fn damage_bytes(random: &mut Random, text: &mut Vec<u8>) {
-    if text.is_empty() {
-        return text.push(random.pick(&BYTES));
-    }
     let at = random_place(random, text);
+    let byte = random.pick(b"  0001239\n\n\t\r+-.A\0\x0B\x80\xFF");
     match random.below(6) {
-        0 | 1 => text[at] = random.pick(&BYTES),
+        _ if at == text.len() => text.push(byte),
+        0 | 1 => text[at] = byte,
         2 => drop(text.remove(at)),
-        3 => text.insert(at, random.pick(&BYTES)),
+        3 => text.insert(at, byte),
         4 => text.truncate(at),
         _ => text.truncate(at + 1),
     }
@@ -117,13 +160,13 @@ pub fn damage_bytes(random: &mut Random, text: &mut Vec<u8>) {
 fn random_place(random: &mut Random, text: &[u8]) -> usize {
     let begins = |at: usize| text[at] == b' ' && text.get(at + 1).is_some_and(u8::is_ascii_digit);
     let ends = |at: usize| text[at] == b'\n';
-    let places: Vec<usize> = match random.below(3) {
-        0 => (0..text.len()).filter(|&at| begins(at)).collect(),
-        1 => (0..text.len()).filter(|&at| ends(at)).collect(),
+    let places: Vec<usize> = match random.below(5) {
+        0 | 1 => (0..text.len()).filter(|&at| begins(at)).collect(),
+        2 | 3 => (0..text.len()).filter(|&at| ends(at)).collect(),
         _ => Vec::new(),
     };
     match places.is_empty() {
-        true => random.below(text.len()),
+        true => random.below(text.len().max(1)),
         false => random.pick(&places),
     }
 }

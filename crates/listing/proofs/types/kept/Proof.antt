@@ -1,19 +1,16 @@
 -- `kept` looks at the item types in rising number: those from i on decide as all of them do.
 use mathlib.Core.Path.{_≡_, refl}
-use mathlib.Core.Bool.{Bool}
 use Prim.Native.Nat.{_+_, _-_, _≤_}
 use native.Mathlib.Omega.{arith}
 use borrow.Author.Needs.{needs}
 use denote.Ref.{now}
 use lib.ListN.{drop}
-use Rattle.job.specs.declared.mode.Mode.{Mode}
-use Rattle.job.specs.declared.item.Item.{Item}
 use Rattle.job.specs.Lists.{any}
 use Rattle.job.specs.Job.{jobOf}
 use Rattle.job.proofs.CodeItems.{items-length}
 use Rattle.job.proofs.CodeSearch.{any-end, any-found, any-next}
-use Rattle.listing.specs.declared.plate.Plate.{Plate}
 use Rattle.listing.specs.Plate.{mayCut, kept}
+use Rattle.listing.proofs.CodePlate.{mayCut-of}
 use Rattle.listing.proofs.types.kept.Statement.{statement}
 use Rattle.listing.proofs.types.kept.Tie as tie
 
@@ -23,10 +20,6 @@ Inv-loop job mode p last i₀ i =
 
 abbrev μ-loop : tie.MeasureT-loop
 μ-loop job mode p last i₀ i = last + 1 - i
-
--- what `may_cut` says of the item read is the test of that item type
-tested : {b t : Bool} {mode mode′ : Mode} {x x′ : Item} (p : Plate) → b ≡ mayCut mode x p → mode ≡ mode′ → x ≡ x′ → b ≡ t → mayCut mode′ x′ p ≡ t
-tested p e m i t = cc
 
 loop-holds : tie.Need-loop-holds Inv-loop μ-loop
 unfolding kept
@@ -39,14 +32,14 @@ returns : tie.Need-returns Inv-loop μ-loop
 returns c =
     let d = c .before .before .before .before in
     let s = d .before .before in
-    any-found (jobOf (now (s .args .job))) _ (d .loop .i) (d .loop .inv .1 .1) (d .loop .inv .0) (rw (items-length _ _ (s .pre .words)) (c .before .before .before .loop-test .taken)) (tested (s .args .p) (c .before .may-cut .ensures) (s .pre .of-mode) (c .before .before .item-at .ensures) (c .if1 .taken))
+    any-found (jobOf (now (s .args .job))) _ (d .loop .i) (d .loop .inv .1 .1) (d .loop .inv .0) (rw (items-length _ _ (s .pre .words)) (c .before .before .before .loop-test .taken)) (mayCut-of (s .args .p) (c .before .may-cut .ensures) (s .pre .of-mode) (c .before .before .item-at .ensures) (c .if1 .taken))
 
 loop-again : tie.Need-loop-again Inv-loop μ-loop
 loop-again c =
     let d = c .before .before .before .before in
     let s = d .before .before in (
       search needs,
-      (search needs, any-next (jobOf (now (s .args .job))) _ (d .loop .i) (d .loop .inv .1 .1) (d .loop .inv .0) (rw (items-length _ _ (s .pre .words)) (c .before .before .before .loop-test .taken)) (tested (s .args .p) (c .before .may-cut .ensures) (s .pre .of-mode) (c .before .before .item-at .ensures) (c .if1 .left))),
+      (search needs, any-next (jobOf (now (s .args .job))) _ (d .loop .i) (d .loop .inv .1 .1) (d .loop .inv .0) (rw (items-length _ _ (s .pre .words)) (c .before .before .before .loop-test .taken)) (mayCut-of (s .args .p) (c .before .may-cut .ensures) (s .pre .of-mode) (c .before .before .item-at .ensures) (c .if1 .left))),
     )
 
 returns-2 : tie.Need-returns-2 Inv-loop μ-loop
