@@ -13,16 +13,10 @@ use Rattle.job.specs.declared.item.Item.{Item}
 use Rattle.job.specs.Verdict.{pass, _then_, refuseIf, lowest, within}
 use Rattle.job.specs.Job.{Job, noItem, itemAt, jobOf, side, boardRight, itemRight, jobWords, larger, demanded, admission, maxSide, maxTypes, maxPieces}
 use Rattle.job.specs.Admitted.{Between, ItemLimits, WordsRight, Fitting, AdmittedWords, Admitted, Sided}
-use Rattle.job.proofs.Tests.{and-left, and-right, or-left, or-right, or-neither, within-low, within-high, within-limits}
+use Rattle.job.proofs.Tests.{and-left, and-right, or-left, or-right, or-neither}
+use Rattle.job.proofs.Decides.{decides-within}
 use Rattle.job.proofs.Verdicts.{then-first, then-second, then-both, refuseIf-pass, refuseIf-false, lowest-good, lowest-pass}
 use Rattle.job.proofs.ItemWords.{job-types}
-
--- a test of limits decides them
-pub limits-of : (low high x : ℕ) → within low high x ≡ true → Between low high x
-limits-of low high x h = (within-low low high x h, within-high low high x h)
-
-pub limits-test : (low high x : ℕ) → Between low high x → within low high x ≡ true
-limits-test low high x b = within-limits low high x (b .0) (b .1)
 
 -- the limits of an item type, tested
 pub item-limits : (it : Item) → itemRight it ≡ true → ItemLimits it
@@ -33,22 +27,22 @@ item-limits it h =
     let c = within 1 maxPieces (it .demand) in
     let ab = and-left (a && b) c h in
     record {
-      width-limits = limits-of 1 maxSide (it .width) (and-left a b ab);
-      height-limits = limits-of 1 maxSide (it .height) (and-right a b ab);
-      demand-limits = limits-of 1 maxPieces (it .demand) (and-right (a && b) c h);
+      width-limits = decides-within 1 maxSide (it .width) .0 (and-left a b ab);
+      height-limits = decides-within 1 maxSide (it .height) .0 (and-right a b ab);
+      demand-limits = decides-within 1 maxPieces (it .demand) .0 (and-right (a && b) c h);
     }
 
 pub item-limits-test : (it : Item) → ItemLimits it → itemRight it ≡ true
 unfolding itemRight
 item-limits-test it l =
     rw (
-      limits-test 1 maxSide (it .width) (l .width-limits),
-      limits-test 1 maxSide (it .height) (l .height-limits),
-      limits-test 1 maxPieces (it .demand) (l .demand-limits),
+      decides-within 1 maxSide (it .width) .1 (l .width-limits),
+      decides-within 1 maxSide (it .height) .1 (l .height-limits),
+      decides-within 1 maxPieces (it .demand) .1 (l .demand-limits),
     )
 
 -- the limits of the first five words, tested
-abbrev BoardLimits : List ℕ → Type 0
+abbrev pub BoardLimits : List ℕ → Type 0
 BoardLimits ws =
     Between 2 3 (getD ws 0 0)
     × Between 0 1 (getD ws 1 0)
@@ -56,7 +50,7 @@ BoardLimits ws =
     × Between 1 maxSide (getD ws 3 0)
     × Between 1 maxTypes (getD ws 4 0)
 
-board-limits : (ws : List ℕ) → boardRight ws ≡ true → BoardLimits ws
+pub board-limits : (ws : List ℕ) → boardRight ws ≡ true → BoardLimits ws
 unfolding boardRight
 board-limits ws e =
     let a = within 2 3 (getD ws 0 0) in
@@ -67,22 +61,22 @@ board-limits ws e =
     let abcd = and-left (a && b && c && d) n e in
     let abc = and-left (a && b && c) d abcd in
     let ab = and-left (a && b) c abc in (
-      limits-of 2 3 (getD ws 0 0) (and-left a b ab),
-      limits-of 0 1 (getD ws 1 0) (and-right a b ab),
-      limits-of 1 maxSide (getD ws 2 0) (and-right (a && b) c abc),
-      limits-of 1 maxSide (getD ws 3 0) (and-right (a && b && c) d abcd),
-      limits-of 1 maxTypes (getD ws 4 0) (and-right (a && b && c && d) n e),
+      decides-within 2 3 (getD ws 0 0) .0 (and-left a b ab),
+      decides-within 0 1 (getD ws 1 0) .0 (and-right a b ab),
+      decides-within 1 maxSide (getD ws 2 0) .0 (and-right (a && b) c abc),
+      decides-within 1 maxSide (getD ws 3 0) .0 (and-right (a && b && c) d abcd),
+      decides-within 1 maxTypes (getD ws 4 0) .0 (and-right (a && b && c && d) n e),
     )
 
-board-limits-test : (ws : List ℕ) → BoardLimits ws → boardRight ws ≡ true
+pub board-limits-test : (ws : List ℕ) → BoardLimits ws → boardRight ws ≡ true
 unfolding boardRight
 board-limits-test ws l =
     rw (
-      limits-test 2 3 (getD ws 0 0) (l .0),
-      limits-test 0 1 (getD ws 1 0) (l .1),
-      limits-test 1 maxSide (getD ws 2 0) (l .2),
-      limits-test 1 maxSide (getD ws 3 0) (l .3),
-      limits-test 1 maxTypes (getD ws 4 0) (l .4),
+      decides-within 2 3 (getD ws 0 0) .1 (l .0),
+      decides-within 0 1 (getD ws 1 0) .1 (l .1),
+      decides-within 1 maxSide (getD ws 2 0) .1 (l .2),
+      decides-within 1 maxSide (getD ws 3 0) .1 (l .3),
+      decides-within 1 maxTypes (getD ws 4 0) .1 (l .4),
     )
 
 -- a check over the item types passes where no type fails its test, the types numbered from 1

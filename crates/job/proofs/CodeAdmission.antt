@@ -1,37 +1,23 @@
 -- The checks of a job in their order, on plain values: what each test that held or failed leaves of the verdict; and what words that passed are.
 -- Assumes nothing.
-use mathlib.Core.Path.{_≡_, refl}
-use mathlib.Core.Bool.{Bool, true, false, not, _&&_}
+use mathlib.Core.Path.{_≡_}
+use mathlib.Core.Bool.{true, false, not}
 use mathlib.Core.List.{List}
 use Prim.Native.Nat.{ℕ, _+_, _*_, _≤_, _<_}
 use native.Mathlib.Omega.{arith}
-use borrow.Author.Tests.{eq-eqb, ne-eqb, eqb-true, lt-ltb, le-ltb, leb-true, not-false}
-use lib.Dec.{leb, ltb, eqb}
+use borrow.Author.Tests.{eq-eqb, ne-eqb, lt-ltb, le-ltb}
+use lib.Dec.{ltb, eqb}
 use lib.ListN.{length, getD}
 use Rattle.job.specs.declared.mode.Mode.{Mode}
-use Rattle.job.specs.Verdict.{Verdict, pass, refuse, _then_, refuseIf, lowest, within}
-use Rattle.job.specs.Job.{Job, maxTypes, maxPieces, side, jobOf, boardRight, itemRight, jobWords, larger, demanded, admission}
+use Rattle.job.specs.Verdict.{Verdict, pass, refuse, _then_, refuseIf, lowest}
+use Rattle.job.specs.Job.{Job, maxTypes, maxPieces, jobOf, boardRight, itemRight, jobWords, larger, demanded, admission}
 use Rattle.job.specs.JobWords.{JobWords}
-use Rattle.job.proofs.CodeEnds.{refused-not, then-pass, then-stop, Not5, not5-if, not5-then, not5-lowest}
-
--- a check that passes found nothing
-if-pass : (b : Bool) (number place : ℕ) → refuseIf b number place ≡ pass → b ≡ false
-if-pass true number place e = absurd (refused-not e)
-if-pass false number place e = refl
-
--- the last of several tests that all hold
-last-test : (a b : Bool) → (a && b) ≡ true → b ≡ true
-last-test true b e = e
-last-test false true e = refl
-last-test false false e = e
+use Rattle.job.proofs.CodeEnds.{then-stop, Not5, not5-if, not5-then, not5-lowest}
+use Rattle.job.proofs.Admission.{board-limits, words-right}
 
 -- a board whose words are right has at most 40 types
 pub board-few : (ws : List ℕ) → boardRight ws ≡ true → getD ws 4 0 ≤ maxTypes
-unfolding boardRight
-board-few ws b =
-    leb-true _ _
-    (last-test (leb 1 (getD ws 4 0)) _
-    (last-test (within 2 3 (getD ws 0 0) && within 0 1 (getD ws 1 0) && side (getD ws 2 0) && side (getD ws 3 0)) (within 1 maxTypes (getD ws 4 0)) b))
+board-few ws b = board-limits ws b .4 .1
 
 -- the three checks of a job's words
 abbrev length-check : List ℕ → Verdict
@@ -84,18 +70,10 @@ module _ (job : Job) where
 -- words that passed: their length, and at most 40 types
 module _ (ws : List ℕ) (e : jobWords ws ≡ pass) where
   pub passed-length : length ws ≡ 5 + 3 * getD ws 4 0
-  unfolding jobWords
-  passed-length =
-      eqb-true _ _ (not-false _ (if-pass (not (eqb (length ws) (5 + 3 * getD ws 4 0))) 1 0 (then-pass (length-check ws) (board-check ws then types-check ws) e .0)))
-
-  passed-board : boardRight ws ≡ true
-  unfolding jobWords
-  passed-board =
-      let d : (board-check ws then types-check ws) ≡ pass = then-pass (length-check ws) (board-check ws then types-check ws) e .1 in
-      not-false _ (if-pass (not (boardRight ws)) 2 0 (then-pass (board-check ws) (types-check ws) d .0))
+  passed-length = words-right ws e .whole
 
   pub passed-few : getD ws 4 0 ≤ maxTypes
-  passed-few = board-few ws passed-board
+  passed-few = words-right ws e .types-limits .1
 
   -- what the code knows of them, with the mode and the number of types read from the words
   pub passed-words : {mode : Mode} → mode ≡ jobOf ws .mode → JobWords ws mode (getD ws 4 0)

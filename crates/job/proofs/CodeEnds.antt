@@ -4,33 +4,27 @@ use mathlib.Core.Path.{_≡_, refl, sym, ap, _∙_}
 use mathlib.Core.Bool.{Bool, true, false}
 use mathlib.Core.List.{List, [], _∷_}
 use Prim.Native.Nat.{ℕ, suc}
-use native.Mathlib.Omega.{arith}
 use borrow.Author.Tests.{ne-eqb}
 use lib.Dec.{eqb}
 use lib.ListN.{length, replicate}
 use Rattle.job.specs.Verdict.{Verdict, pass, refuse, _then_, refuseIf, lowest}
 use Rattle.job.specs.Buffers.{ends}
+use Rattle.job.proofs.Verdicts.{pass-not-refuse, then-first, then-second, then-passed, then-refused}
 
 -- a refusal is no pass
 pub refused-not : {number place : ℕ} → refuse number place ≡ pass → ⊥
-refused-not e = let z : _≡_ {A = ℕ} 0 1 = cc in omega arith
+refused-not e = pass-not-refuse e refl
 
 -- two checks in turn pass only if both do
 pub then-pass : (v w : Verdict) → (v then w) ≡ pass → (v ≡ pass) × (w ≡ pass)
-then-pass pass w e = (refl, e)
-then-pass (refuse number place) w e = absurd (refused-not e)
+then-pass v w e = (then-first v w e, then-second v w e)
 
 -- the first check refuses, or it passes and the others decide
 pub then-stop : {u v : Verdict} (w : Verdict) (number place : ℕ) → v ≡ u → v ≡ refuse number place → v ≡ (u then w)
-then-stop {u} w number place e r = let f : u ≡ refuse number place = sym e ∙ r in r ∙ rw f
+then-stop {u} w number place e r = r ∙ sym (then-refused u w number place (sym e ∙ r))
 
 pub then-on : {u v w : Verdict} → u ≡ pass → v ≡ w → v ≡ (u then w)
-then-on p e = rw p e
-
--- it does not matter which checks are put together first
-pub then-assoc : (u v w : Verdict) → ((u then v) then w) ≡ (u then (v then w))
-then-assoc pass v w = refl
-then-assoc (refuse number place) v w = refl
+then-on {u} {v} {w} p e = e ∙ sym (then-passed u w p)
 
 -- some checks do not refuse with 5
 pub record Not5 (v : Verdict) : Type 0 where

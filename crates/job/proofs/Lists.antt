@@ -11,6 +11,23 @@ use Rattle.job.specs.Lists.{any, all}
 use Rattle.job.proofs.Tests.{not-both, not-true-false}
 
 module _ {A : Type 0} (test : A → Bool) where
+  -- the first element or one of the others; the first and all the others
+  pub any-cons : (a : A) (as′ : List A) → any test (a ∷ as′) ≡ (test a || any test as′)
+  unfolding any
+  any-cons a as′ = go (test a)
+    where
+      go : (t : Bool) → elim t [ true ↦ true | false ↦ any test as′ ] ≡ (t || any test as′)
+      go true = refl
+      go false = refl
+
+  pub all-cons : (a : A) (as′ : List A) → all test (a ∷ as′) ≡ (test a && all test as′)
+  unfolding all
+  all-cons a as′ = go (test a)
+    where
+      go : (t : Bool) → elim t [ true ↦ all test as′ | false ↦ false ] ≡ (t && all test as′)
+      go true = refl
+      go false = refl
+
   -- the first element passes
   pub any-here : (a : A) (as′ : List A) → test a ≡ true → any test (a ∷ as′) ≡ true
   unfolding any

@@ -4,8 +4,8 @@ use Prim.Native.Nat.{ℕ, zero, suc, _+_, _*_, _≤_, _<_, max}
 use native.Mathlib.Omega.{arith}
 use mathlib.Core.Path.{_≡_, refl, sym, _∙_, ap}
 use mathlib.Core.Logic.{_⊎_, inl, inr}
-use mathlib.Core.Bool.{Bool, true, false}
-use mathlib.Core.List.{List, [], _∷_, _++_, map}
+use mathlib.Core.Bool.{Bool, true, false, cond, _||_}
+use mathlib.Core.List.{List, [], _∷_, _++_, map, flatMap}
 use lib.Dec.{eqb}
 use lib.ListN.{length, getD, take, drop, take-append-drop}
 use lib.Seq.{take-suc}
@@ -64,6 +64,12 @@ module _ {A : Type 0} where
   sumOf-add f g [] = refl
   sumOf-add f g (a ∷ as′) = omega (arith, sumOf-add f g as′)
 
+  -- as many ones as elements
+  pub length-sum : (as′ : List A) → sumOf (λ _. 1) as′ ≡ length as′
+  unfolding sumOf
+  length-sum [] = refl
+  length-sum (a ∷ as′) = omega (arith, length-sum as′)
+
   -- one list after another
   pub maxOf-append : (f : A → ℕ) (as′ bs : List A) → maxOf f (as′ ++ bs) ≡ max (maxOf f as′) (maxOf f bs)
   unfolding maxOf
@@ -105,14 +111,49 @@ unfolding sumOf
 sumOf-map f g [] = refl
 sumOf-map f g (a ∷ as′) = omega (arith, sumOf-map f g as′)
 
+-- the sum over the parts that elements are made of
+pub sumOf-parts : {A B : Type 0} (f : B → ℕ) (g : A → List B) (as′ : List A) → sumOf f (flatMap g as′) ≡ sumOf (λ a. sumOf f (g a)) as′
+unfolding sumOf flatMap
+sumOf-parts f g [] = refl
+sumOf-parts f g (a ∷ as′) = omega (arith, sumOf-append f (g a) (flatMap g as′), sumOf-parts f g as′)
+
+-- 1 where a test passes, else 0
+abbrev pub bit : Bool → ℕ
+bit t = cond t 1 0
+
+-- 1 where two numbers are equal, 0 where they differ
+pub bit-same : {a b : ℕ} → a ≡ b → bit (eqb a b) ≡ 1
+bit-same {a} {b} e = rw (eq-eqb a b e)
+
+pub bit-diff : {a b : ℕ} → (a ≡ b → ⊥) → bit (eqb a b) ≡ 0
+bit-diff {a} {b} d = rw (ne-eqb a b d)
+
+-- of two tests that cannot both pass, how often one does
+pub bit-or : (a b : Bool) → (a ≡ true → b ≡ true → ⊥) → bit (a || b) ≡ bit a + bit b
+bit-or true true d = absurd (d refl refl)
+bit-or true false d = refl
+bit-or false b d = omega arith
+
+-- how often a number stands in a list, as a sum
+pub occurs-cons : (i k : ℕ) (ks : List ℕ) → occurs i (k ∷ ks) ≡ bit (eqb k i) + occurs i ks
+unfolding occurs sumOf
+occurs-cons i k ks = go (eqb k i)
+  where
+    go : (t : Bool) → elim t [ true ↦ 1 | false ↦ 0 ] + occurs i ks ≡ bit t + occurs i ks
+    go true = refl
+    go false = refl
+
+pub occurs-sum : (i : ℕ) (ks : List ℕ) → occurs i ks ≡ sumOf (λ k. bit (eqb k i)) ks
+unfolding sumOf occurs
+occurs-sum i [] = refl
+occurs-sum i (k ∷ ks) = omega (arith, occurs-cons i k ks, occurs-sum i ks)
+
 -- a number stands once more where it is met
 pub occurs-here : (i : ℕ) (is : List ℕ) → occurs i (i ∷ is) ≡ suc (occurs i is)
-unfolding occurs sumOf
-occurs-here i is = rw (eq-eqb i i refl) (omega arith)
+occurs-here i is = omega (arith, occurs-cons i i is, bit-same {a = i} {b = i} refl)
 
 pub occurs-other : (i k : ℕ) (is : List ℕ) → (k ≡ i → ⊥) → occurs i (k ∷ is) ≡ occurs i is
-unfolding occurs sumOf
-occurs-other i k is h = rw (ne-eqb k i h) (omega arith)
+occurs-other i k is h = omega (arith, occurs-cons i k is, bit-diff h)
 
 -- one list after another
 pub occurs-append : (i : ℕ) (is js : List ℕ) → occurs i (is ++ js) ≡ occurs i is + occurs i js

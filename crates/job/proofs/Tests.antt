@@ -4,7 +4,7 @@ use Prim.Native.Nat.{ℕ, _≤_, _<_}
 use native.Mathlib.Omega.{arith}
 use mathlib.Core.Path.{_≡_, refl, sym}
 use mathlib.Core.Logic.{_⊎_, inl, inr}
-use mathlib.Core.Bool.{Bool, true, false, _&&_, _||_}
+use mathlib.Core.Bool.{Bool, true, false, not, _&&_, _||_}
 use lib.Dec.{leb, eqb}
 use borrow.Author.Tests.{leb-true, leb-false, le-leb, eqb-true, eqb-false}
 use Rattle.job.specs.Verdict.{within}
@@ -66,6 +66,33 @@ or-neither a b p q = rw (p, q)
 pub or-true : (a b : Bool) → (a || b) ≡ true → (a ≡ true) ⊎ (b ≡ true)
 or-true true b h = inl refl
 or-true false b h = inr h
+
+pub true-or : (a b : Bool) → (a ≡ true) ⊎ (b ≡ true) → (a || b) ≡ true
+true-or true b h = refl
+true-or false b (inl e) = absurd (not-both e refl)
+true-or false b (inr e) = e
+
+-- the same of four parts
+pub four-or : (a b c d : Bool) → (a || b || c || d) ≡ true → (a ≡ true) ⊎ (b ≡ true) ⊎ (c ≡ true) ⊎ (d ≡ true)
+four-or true b c d h = inl refl
+four-or false true c d h = inr (inl refl)
+four-or false false true d h = inr (inr (inl refl))
+four-or false false false d h = inr (inr (inr h))
+
+pub or-four : (a b c d : Bool) → (a ≡ true) ⊎ (b ≡ true) ⊎ (c ≡ true) ⊎ (d ≡ true) → (a || b || c || d) ≡ true
+or-four a b c d (inl e) = true-or (a || b || c) d (inl (true-or (a || b) c (inl (true-or a b (inl e)))))
+or-four a b c d (inr (inl e)) = true-or (a || b || c) d (inl (true-or (a || b) c (inl (true-or a b (inr e)))))
+or-four a b c d (inr (inr (inl e))) = true-or (a || b || c) d (inl (true-or (a || b) c (inr e)))
+or-four a b c d (inr (inr (inr e))) = true-or (a || b || c) d (inr e)
+
+-- a test that is asked for only where another is true
+pub unless-true : (a b : Bool) → (not a || b) ≡ true → a ≡ true → b ≡ true
+unless-true true b h e = h
+unless-true false b h e = absurd (not-both e refl)
+
+pub true-unless : (a b : Bool) → (a ≡ true → b ≡ true) → (not a || b) ≡ true
+true-unless true b h = h refl
+true-unless false b h = refl
 
 -- a value within its limits
 pub within-low : (low high x : ℕ) → within low high x ≡ true → low ≤ x

@@ -11,7 +11,8 @@ use Rattle.job.specs.Mode.{modeOf}
 use Rattle.job.specs.Verdict.{Verdict, pass, refuse, _then_}
 use Rattle.job.specs.Buffers.{Answer, given, refused, answer, sized, platesSize, cutsSize}
 use Rattle.job.specs.Job.{Job, jobOf, jobWords, admission}
-use Rattle.job.proofs.CodeEnds.{then-assoc, Not5, not5-refuse, ends-zeros}
+use Rattle.job.proofs.Verdicts.{then-assoc}
+use Rattle.job.proofs.CodeEnds.{Not5, not5-refuse, ends-zeros}
 use Rattle.job.proofs.CodeAdmission.{job-not5}
 use Rattle.listing.specs.Listing.{Listing, going, stopped, walk, modelRow, listingOf, residualTypes}
 use Rattle.listing.specs.ListCall.{listVerdict, listAnswer, platesEnd, cutsEnd}

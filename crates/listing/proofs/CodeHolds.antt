@@ -1,33 +1,23 @@
 -- A buffer that holds words: read, and with one word, one plate type or one cut more.
 -- Assumes nothing.
-use mathlib.Core.Path.{_≡_, refl, sym, ap, _∙_}
-use Prim.Native.Nat.{ℕ, zero, suc, _+_, _*_, _-_, _<_}
-use mathlib.Core.List.{List, [], _∷_, _++_, flatMap}
+use mathlib.Core.Path.{_≡_, sym, ap, _∙_}
+use Prim.Native.Nat.{ℕ, suc, _+_, _*_, _-_, _<_}
+use mathlib.Core.List.{List, [], _∷_, _++_, append-assoc}
 use native.Mathlib.Omega.{arith}
 use lib.ListN.{length, getD, set, replicate, length-append, length-set, length-replicate}
 use lib.Seq.{set-at, append-snoc}
 use Rattle.job.specs.Buffers.{filled}
+use Rattle.job.proofs.Buffers.{filled-read}
 use Rattle.listing.specs.declared.plate.Plate.{Plate}
 use Rattle.listing.specs.Plate.{waste}
 use Rattle.listing.specs.Listing.{Cut}
 use Rattle.listing.specs.Records.{plateWords, cutWords}
 use Rattle.listing.specs.Holds.{Holds, plateRead}
-
--- past the words a buffer holds zeros, which are also what stands past a list's end
-getD-zeros : (n i : ℕ) → _≡_ {A = ℕ} (getD (replicate n 0) i 0) 0
-getD-zeros zero i = refl
-getD-zeros (suc n) zero = refl
-getD-zeros (suc n) (suc i) = getD-zeros n i
-
-getD-over : (ws : List ℕ) (n i : ℕ) → getD (ws ++ replicate n 0) i 0 ≡ getD ws i 0
-getD-over [] n i = getD-zeros n i
-getD-over (w ∷ ws) n zero = refl
-getD-over (w ∷ ws) n (suc i) = getD-over ws n i
+use Rattle.listing.proofs.RecordWords.{plate-words-length, cut-words-length, plate-words-last, cut-words-last, plate-words-read}
 
 -- word i of a buffer
 pub held-word : {buffer : List ℕ} (ws : List ℕ) → Holds buffer ws → (i : ℕ) → getD buffer i 0 ≡ getD ws i 0
-unfolding filled
-held-word {buffer} ws h i = ap (λ (b : List ℕ). getD b i 0) (h .words) ∙ getD-over ws (length buffer - length ws) i
+held-word {buffer} ws h i = ap (λ (b : List ℕ). getD b i 0) (h .words) ∙ filled-read (length buffer) ws i
 
 -- a buffer of zeros holds no words
 pub cleared : {buffer : List ℕ} (n : ℕ) → buffer ≡ replicate n 0 → Holds buffer []
@@ -48,31 +38,17 @@ held-put : {buffer ws : List ℕ} (k v : ℕ) → length ws ≡ k → k < length
 held-put {buffer} {ws} k v e h r =
     record { words = rw length-set (ap (λ (b : List ℕ). set b k v) (r .words) ∙ filled-put (length buffer) ws k v e h) }
 
--- three words for each plate type, four for each cut
-pub length-plateWords : (ps : List Plate) → length (plateWords ps) ≡ 3 * length ps
-unfolding plateWords flatMap
-length-plateWords [] = refl
-length-plateWords (p ∷ ps) = let h : length (plateWords ps) ≡ 3 * length ps = length-plateWords ps in omega arith
-
-pub length-cutWords : (cs : List Cut) → length (cutWords cs) ≡ 4 * length cs
-unfolding cutWords flatMap
-length-cutWords [] = refl
-length-cutWords (c ∷ cs) = let h : length (cutWords cs) ≡ 4 * length cs = length-cutWords cs in omega arith
-
+-- the words of one plate type more, of one cut more, word by word
 plateWords-snoc : (ps : List Plate) (p : Plate) → plateWords (ps ++ p ∷ []) ≡ plateWords ps ++ p .width ∷ [] ++ p .height ∷ [] ++ p .stage ∷ []
-unfolding plateWords flatMap
-plateWords-snoc [] p = refl
-plateWords-snoc (q ∷ ps) p = ap (λ (ws : List ℕ). q .width ∷ q .height ∷ q .stage ∷ ws) (plateWords-snoc ps p)
+plateWords-snoc ps p = plate-words-last ps p ∙ simp append-assoc
 
 cutWords-snoc : (cs : List Cut) (c : Cut) → cutWords (cs ++ c ∷ []) ≡ cutWords cs ++ c .plate ∷ [] ++ c .item ∷ [] ++ c .top ∷ [] ++ c .right ∷ []
-unfolding cutWords flatMap
-cutWords-snoc [] c = refl
-cutWords-snoc (d ∷ cs) c = ap (λ (ws : List ℕ). d .plate ∷ d .item ∷ d .top ∷ d .right ∷ ws) (cutWords-snoc cs c)
+cutWords-snoc cs c = cut-words-last cs c ∙ simp append-assoc
 
 -- one plate type more, as its three stores leave it
 pub held-plate-put : {buffer : List ℕ} (ps : List Plate) (m : ℕ) (p : Plate) → length ps ≡ m → 3 * m + 2 < length buffer → Holds buffer (plateWords ps) → Holds (set (set (set buffer (3 * m) (p .width)) (3 * m + 1) (p .height)) (3 * m + 2) (p .stage)) (plateWords (ps ++ p ∷ []))
 held-plate-put ps m p e h r =
-    let l : length (plateWords ps) ≡ 3 * length ps = length-plateWords ps in
+    let l : length (plateWords ps) ≡ 3 * length ps = plate-words-length ps in
     rw plateWords-snoc
     (held-put (3 * m + 2) (p .stage) (simp length-append (omega arith)) (simp length-set (omega arith))
     (held-put (3 * m + 1) (p .height) (simp length-append (omega arith)) (simp length-set (omega arith))
@@ -81,7 +57,7 @@ held-plate-put ps m p e h r =
 -- one cut more, as its four stores leave it
 pub held-cut-put : {buffer : List ℕ} (cs : List Cut) (k : ℕ) (c : Cut) → length cs ≡ k → 4 * k + 3 < length buffer → Holds buffer (cutWords cs) → Holds (set (set (set (set buffer (4 * k) (c .plate)) (4 * k + 1) (c .item)) (4 * k + 2) (c .top)) (4 * k + 3) (c .right)) (cutWords (cs ++ c ∷ []))
 held-cut-put cs k c e h r =
-    let l : length (cutWords cs) ≡ 4 * length cs = length-cutWords cs in
+    let l : length (cutWords cs) ≡ 4 * length cs = cut-words-length cs in
     rw cutWords-snoc
     (held-put (4 * k + 3) (c .right) (simp length-append (omega arith)) (simp length-set (omega arith))
     (held-put (4 * k + 2) (c .top) (simp length-append (omega arith)) (simp length-set (omega arith))
@@ -89,17 +65,6 @@ held-cut-put cs k c e h r =
     (held-put (4 * k) (c .plate) (omega arith) (omega arith) r))))
 
 -- plate type j of a buffer
-three-more : (j k : ℕ) → 3 * suc j + k ≡ suc (suc (suc (3 * j + k)))
-three-more j k = omega arith
-
-plateRead-words : (ps : List Plate) (j : ℕ) → plateRead (plateWords ps) j ≡ getD ps j waste
-unfolding plateWords flatMap
-plateRead-words [] j = refl
-plateRead-words (p ∷ ps) zero = refl
-plateRead-words (p ∷ ps) (suc j) =
-    let z : 3 * suc j ≡ suc (suc (suc (3 * j))) = omega arith in
-    rw (three-more j 1, three-more j 2, z) (plateRead-words ps j)
-
 pub held-plate : {buffer : List ℕ} (ps : List Plate) → Holds buffer (plateWords ps) → (j : ℕ) → plateRead buffer j ≡ getD ps j waste
 held-plate ps h j =
-    rw (held-word (plateWords ps) h (3 * j), held-word (plateWords ps) h (3 * j + 1), held-word (plateWords ps) h (3 * j + 2)) (plateRead-words ps j)
+    rw (held-word (plateWords ps) h (3 * j), held-word (plateWords ps) h (3 * j + 1), held-word (plateWords ps) h (3 * j + 2)) (plate-words-read ps j)

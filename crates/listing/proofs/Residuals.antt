@@ -11,6 +11,7 @@ use Rattle.job.specs.declared.mode.Mode.{Mode}
 use Rattle.job.specs.declared.item.Item.{Item}
 use Rattle.job.specs.Mode.{three}
 use Rattle.listing.specs.declared.plate.Plate.{Plate}
+use Rattle.listing.specs.declared.plate.Residuals.{Residuals}
 use Rattle.listing.specs.Plate.{plate, waste, residuals, leaves}
 
 module _ (m : Mode) (item : Item) (w h : ℕ) where
@@ -75,6 +76,22 @@ abbrev pub Staged : Plate → Type 0
 Staged p = (1 ≤ p .stage) × (p .stage ≤ 3)
 
 module _ (m : Mode) (item : Item) (p : Plate) where
+  -- what holds of the residuals in each case holds of what the cut leaves
+  pub leaves-by :
+      (P : Residuals → Type 0)
+      → (p .stage ≡ 1 → P (residuals (plate (p .width) (p .height - item .height) 1) (plate (p .width - item .width) (item .height) 2)))
+      → (p .stage ≡ 2 → three m ≡ true → P (residuals (plate (item .width) (p .height - item .height) 3) (plate (p .width - item .width) (p .height) 2)))
+      → (p .stage ≡ 2 → three m ≡ false → P (residuals waste (plate (p .width - item .width) (item .height) 2)))
+      → ((p .stage ≡ 1 → ⊥) → (p .stage ≡ 2 → ⊥) → P (residuals (plate (item .width) (p .height - item .height) 3) waste))
+      → P (leaves m item p)
+  leaves-by P one two-three two other = go (leaving m item p)
+    where
+      go : Leaving m item p → P (leaves m item p)
+      go (at-one s e) = rw e (one s)
+      go (at-two s t e) = rw e (two s t)
+      go (at-two-three s t e) = rw e (two-three s t)
+      go (at-three s t e) = rw e (other s t)
+
   -- the residuals of an item with sides of at least 1 that fits into the plate are smaller than the plate
   pub residuals-smaller :
       1 ≤ item .width
@@ -82,30 +99,36 @@ module _ (m : Mode) (item : Item) (p : Plate) where
       → item .width ≤ p .width
       → item .height ≤ p .height
       → (sides (leaves m item p .top) < sides p) × (sides (leaves m item p .right) < sides p)
-  residuals-smaller a b c d = go (leaving m item p)
-    where
-      go : Leaving m item p → (sides (leaves m item p .top) < sides p) × (sides (leaves m item p .right) < sides p)
-      go (at-one s e) = rw e (omega arith)
-      go (at-two s t e) = rw e (omega arith)
-      go (at-two-three s t e) = rw e (omega arith)
-      go (at-three s t e) = rw e (omega arith)
+  residuals-smaller a b c d =
+      leaves-by (λ r. (sides (r .top) < sides p) × (sides (r .right) < sides p))
+      (λ _. omega arith) (λ _ _. omega arith) (λ _ _. omega arith) (λ _ _. omega arith)
 
   -- a residual that is not waste has a stage from 1 to 3
   pub residuals-staged : ((leaves m item p .top ≡ waste) ⊎ Staged (leaves m item p .top)) × ((leaves m item p .right ≡ waste) ⊎ Staged (leaves m item p .right))
-  residuals-staged = go (leaving m item p)
-    where
-      go : Leaving m item p → ((leaves m item p .top ≡ waste) ⊎ Staged (leaves m item p .top)) × ((leaves m item p .right ≡ waste) ⊎ Staged (leaves m item p .right))
-      go (at-one s e) = rw e (inr (omega arith), inr (omega arith))
-      go (at-two s t e) = rw e (inl refl, inr (omega arith))
-      go (at-two-three s t e) = rw e (inr (omega arith), inr (omega arith))
-      go (at-three s t e) = rw e (inr (omega arith), inl refl)
+  residuals-staged =
+      leaves-by (λ r. ((r .top ≡ waste) ⊎ Staged (r .top)) × ((r .right ≡ waste) ⊎ Staged (r .right)))
+      (λ _. (inr (omega arith), inr (omega arith)))
+      (λ _ _. (inr (omega arith), inr (omega arith)))
+      (λ _ _. (inl refl, inr (omega arith)))
+      (λ _ _. (inr (omega arith), inl refl))
 
   -- top and right are of different stages, so they are never one type
   pub stages-differ : leaves m item p .top .stage ≡ leaves m item p .right .stage → ⊥
-  stages-differ = go (leaving m item p)
-    where
-      go : Leaving m item p → leaves m item p .top .stage ≡ leaves m item p .right .stage → ⊥
-      go (at-one s e) = rw e (omega arith)
-      go (at-two s t e) = rw e (omega arith)
-      go (at-two-three s t e) = rw e (omega arith)
-      go (at-three s t e) = rw e (omega arith)
+  stages-differ =
+      leaves-by (λ r. r .top .stage ≡ r .right .stage → ⊥) (λ _ e. omega arith) (λ _ _ e. omega arith) (λ _ _ e. omega arith) (λ _ _ e. omega arith)
+
+  -- the stages of the residuals, by the stage of the plate: a residual that has none is waste
+  pub stages-1 : p .stage ≡ 1 → (leaves m item p .top .stage ≡ 1) × (leaves m item p .right .stage ≡ 2)
+  stages-1 e =
+      leaves-by (λ r. (r .top .stage ≡ 1) × (r .right .stage ≡ 2))
+      (λ _. (refl, refl)) (λ d _. absurd (omega arith)) (λ d _. absurd (omega arith)) (λ d _. absurd (d e))
+
+  pub stages-2 : p .stage ≡ 2 → ((leaves m item p .top ≡ waste) ⊎ (leaves m item p .top .stage ≡ 3)) × (leaves m item p .right .stage ≡ 2)
+  stages-2 e =
+      leaves-by (λ r. ((r .top ≡ waste) ⊎ (r .top .stage ≡ 3)) × (r .right .stage ≡ 2))
+      (λ d. absurd (omega arith)) (λ _ _. (inr refl, refl)) (λ _ _. (inl refl, refl)) (λ _ d. absurd (d e))
+
+  pub stages-3 : p .stage ≡ 3 → (leaves m item p .top .stage ≡ 3) × (leaves m item p .right ≡ waste)
+  stages-3 e =
+      leaves-by (λ r. (r .top .stage ≡ 3) × (r .right ≡ waste))
+      (λ d. absurd (omega arith)) (λ d _. absurd (omega arith)) (λ d _. absurd (omega arith)) (λ _ _. (refl, refl))

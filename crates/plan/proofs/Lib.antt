@@ -1,4 +1,3 @@
 -- The laws of this crate: what the plan test and the price test say, in plain statements.
-pub mod CountBasics
 pub mod PlanExact
 pub mod PriceExact

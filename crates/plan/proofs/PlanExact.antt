@@ -6,18 +6,19 @@ use mathlib.Core.Path.{_≡_, refl, sym, ap}
 use mathlib.Core.Logic.{_↔_, _⊎_, inl, inr}
 use mathlib.Core.Bool.{Bool, false, not}
 use mathlib.Core.List.{List, [], _∷_}
-use lib.Dec.{ltb, eqb}
+use lib.Dec.{eqb}
 use lib.ListN.{length, getD, take, drop, length-drop, List·getD-eq-default}
 use lib.Seq.{getD-drop}
 use borrow.Author.Tests.{ltb-false, le-ltb, eqb-true, eq-eqb, not-false}
 use Rattle.job.specs.Lists.{sumOf}
-use Rattle.job.specs.Verdict.{Verdict, pass, _then_, refuseIf, lowest}
+use Rattle.job.specs.Verdict.{pass}
 use Rattle.job.specs.Job.{Job, itemAt, noItem, maxPieces}
+use Rattle.job.proofs.Tests.{at-most-or-above}
+use Rattle.job.proofs.Decides.{passes-then, passes-limit, passes-places}
 use Rattle.listing.specs.Plate.{waste}
 use Rattle.listing.specs.Listing.{Cut, Listing}
 use Rattle.plan.specs.Plan.{countOf, ofItem, onPlate, leavesPlate, boards, total, short, overdrawn, countsRow, planRow}
 use Rattle.plan.specs.Feasible.{Feasible, NonePast}
-use Rattle.plan.proofs.CountBasics.{then-pass, refuseIf-pass, lowest-pass, le-or-lt}
 
 one-more : (i : ℕ) → 1 + i ≡ suc i
 one-more i = omega arith
@@ -45,33 +46,15 @@ module _ (job : Job) (l : Listing) (ns : List ℕ) where
   -- the plan row passes exactly where the plan is accepted
   pub plan-exact : (planRow job l ns ≡ pass) ↔ Feasible job l ns
   unfolding planRow
-  plan-exact = (to, from)
-    where
-      types : Verdict
-      types = lowest 11 (short l ns) 1 (job .items)
-
-      residuals : Verdict
-      residuals = lowest 12 (overdrawn l ns) 1 (drop 1 (l .plates))
-
-      to : planRow job l ns ≡ pass → Feasible job l ns
-      to h =
-          let a = then-pass (refuseIf (ltb maxPieces (total ns)) 10 0) (types then residuals) .0 h in
-          let b = then-pass types residuals .0 (a .1) in
-          record {
-            few = ltb-false maxPieces (total ns) (refuseIf-pass (ltb maxPieces (total ns)) 10 0 .0 (a .0));
-            met = met-to (lowest-pass 11 (short l ns) noItem 1 (job .items) .0 (b .0));
-            covered = covered-to (lowest-pass 12 (overdrawn l ns) waste 1 (drop 1 (l .plates)) .0 (b .1));
-          }
-
-      from : Feasible job l ns → planRow job l ns ≡ pass
-      from a =
-          then-pass (refuseIf (ltb maxPieces (total ns)) 10 0) (types then residuals) .1 (
-            refuseIf-pass (ltb maxPieces (total ns)) 10 0 .1 (le-ltb maxPieces (total ns) (a .few)),
-            then-pass types residuals .1 (
-              lowest-pass 11 (short l ns) noItem 1 (job .items) .1 (met-from (a .met)),
-              lowest-pass 12 (overdrawn l ns) waste 1 (drop 1 (l .plates)) .1 (covered-from (a .covered)),
-            ),
-          )
+  plan-exact =
+      let types = passes-places 11 (short l ns) noItem 1 (job .items) in
+      let residuals = passes-places 12 (overdrawn l ns) waste 1 (drop 1 (l .plates)) in
+      let rows = passes-then (passes-limit maxPieces (total ns) 10 0) (passes-then types residuals) in (
+        λ h.
+            let a = rows .0 h in
+            record { few = a .0; met = met-to (a .1 .0); covered = covered-to (a .1 .1) },
+        λ a. rows .1 (a .few, (met-from (a .met), covered-from (a .covered))),
+      )
 
 -- the counts row passes exactly where every word past the last cut is 0
 pub counts-exact : (l : Listing) (ns : List ℕ) → (countsRow l ns ≡ pass) ↔ NonePast l ns
@@ -82,18 +65,18 @@ counts-exact l ns = (to, from)
     n = length (l .cuts)
 
     to : countsRow l ns ≡ pass → NonePast l ns
-    to h c p = go (le-or-lt (length ns) c)
+    to h c p = go (at-most-or-above (length ns) c)
       where
         go : (length ns ≤ c) ⊎ (c < length ns) → getD ns c 0 ≡ 0
         go (inl q) = List·getD-eq-default ns 0 q
         go (inr q) =
             let e : n + (c - n) ≡ c = omega arith in
-            let z = lowest-pass 8 (λ _ m. not (eqb m 0)) 0 (suc n) (drop n ns) .0 h (c - n) (omega (arith, length-drop n ns)) in
+            let z = passes-places 8 (λ _ m. not (eqb m 0)) 0 (suc n) (drop n ns) .0 h (c - n) (omega (arith, length-drop n ns)) in
             rw e at (rw getD-drop at (eqb-true (getD (drop n ns) (c - n) 0) 0 (not-false (eqb (getD (drop n ns) (c - n) 0) 0) z)))
 
     from : NonePast l ns → countsRow l ns ≡ pass
     from h =
-        lowest-pass 8 (λ _ m. not (eqb m 0)) 0 (suc n) (drop n ns) .1
+        passes-places 8 (λ _ m. not (eqb m 0)) 0 (suc n) (drop n ns) .1
         (λ i p. ap not (eq-eqb (getD (drop n ns) i 0) 0 (rw getD-drop (h (n + i) (omega arith)))))
 
 -- counts of cuts are the same without the words past the last cut

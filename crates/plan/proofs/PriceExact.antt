@@ -1,6 +1,6 @@
 -- Document 01, "Prices": what the price test and "fewest" say in plain statements, both ways.
 -- Assumes nothing.
-use Prim.Native.Nat.{ℕ, zero, suc, _+_, _*_, _-_, _≤_, _<_}
+use Prim.Native.Nat.{ℕ, zero, suc, _*_, _-_, _≤_, _<_}
 use native.Mathlib.Omega.{arith}
 use mathlib.Core.Path.{_≡_, refl}
 use mathlib.Core.Logic.{_↔_}
@@ -9,10 +9,10 @@ use lib.ListN.{length}
 use borrow.Author.Tests.{ltb-true, ltb-false, lt-ltb, le-ltb}
 use Rattle.job.specs.Verdict.{pass}
 use Rattle.job.specs.Job.{Job}
-use Rattle.listing.specs.Listing.{Cut, Listing, cutAt, noCut}
-use Rattle.plan.specs.Prices.{Prices, itemPrice, residualPrice, priceLimit, worth, overLimit, pricesRow, priceSum, fewest}
+use Rattle.job.proofs.Decides.{passes-places}
+use Rattle.listing.specs.Listing.{Listing, cutAt, noCut}
+use Rattle.plan.specs.Prices.{Prices, residualPrice, priceLimit, worth, overLimit, pricesRow, priceSum, fewest}
 use Rattle.plan.specs.Feasible.{costs, DualFeasible}
-use Rattle.plan.proofs.CountBasics.{lowest-pass}
 
 -- the limit of a cut on type 0, and of a cut on a residual type
 pub limit-board : (ps : Prices) (j : ℕ) → j ≡ 0 → priceLimit ps j ≡ ps .denominator
@@ -34,7 +34,7 @@ module _ (l : Listing) (ps : Prices) where
       to : pricesRow l ps ≡ pass → DualFeasible l ps
       to h =
           let within : (c : ℕ) → c < length (l .cuts) → costs ps (cutAt l (suc c)) ≤ priceLimit ps (cutAt l (suc c) .plate)
-          = λ c p. ltb-false _ _ (lowest-pass 14 (λ _ c. overLimit ps c) noCut 1 (l .cuts) .0 h c p) in
+          = λ c p. ltb-false _ _ (passes-places 14 (λ _ c. overLimit ps c) noCut 1 (l .cuts) .0 h c p) in
           record {
             on-board = λ c p e. omega (arith, within c p, limit-board ps (cutAt l (suc c) .plate) e);
             on-residual = λ c p q. omega (arith, within c p, limit-residual ps (cutAt l (suc c) .plate) q);
@@ -42,7 +42,7 @@ module _ (l : Listing) (ps : Prices) where
 
       from : DualFeasible l ps → pricesRow l ps ≡ pass
       from a =
-          lowest-pass 14 (λ _ c. overLimit ps c) noCut 1 (l .cuts) .1
+          passes-places 14 (λ _ c. overLimit ps c) noCut 1 (l .cuts) .1
           (λ c p. le-ltb _ _ (at c p (cutAt l (suc c) .plate) refl))
         where
           at : (c : ℕ) → c < length (l .cuts) → (j : ℕ) → cutAt l (suc c) .plate ≡ j → costs ps (cutAt l (suc c)) ≤ priceLimit ps (cutAt l (suc c) .plate)

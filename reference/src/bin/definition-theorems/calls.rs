@@ -143,7 +143,8 @@ fn own_words(random: &mut Random, call: Call, model: &Model, damaged: bool) -> V
 /// The words of a plan, of full size or a little longer.
 fn count_words(random: &mut Random, model: &Model, damaged: bool) -> Vec<u16> {
     let mut counts = random_plan(random, model);
-    if damaged {
+    let damages = if damaged { 1 + random.below(2) } else { 0 };
+    for _ in 0..damages {
         damage_words(random, &mut counts, Words::Counts);
     }
     counts.resize(COUNTS.full_size + random.pick(&[0, 0, 0, 2]), 0);

@@ -56,7 +56,10 @@ fn at_limit(random: &mut Random, (low, high): (u32, u32), greatest: u32) -> u32 
 
 /// Moves one word by one or to a limit, drops one, puts one in, or drops all from there on.
 pub fn damage_words(random: &mut Random, words: &mut Vec<u16>, purpose: Words) {
-    let at = random.below(words.len().max(1));
+    let at = match purpose {
+        Words::Prices if random.once_in(3) => 0,
+        _ => random.below(words.len().max(1)),
+    };
     let limit = at_limit(random, purpose.limits(at), 65_535) as u16;
     if at == words.len() {
         return words.push(limit);
@@ -87,7 +90,7 @@ pub fn damage_job(random: &mut Random, words: &mut Vec<u16>) {
     }
 }
 
-/// Drops a line, doubles it, swaps it with another, or puts it once more at the end.
+/// Drops a line, doubles it, swaps it with another, or repeats all lines from there on.
 pub fn damage_order<T: Clone>(random: &mut Random, lines: &mut Vec<T>) {
     if lines.is_empty() {
         return;
@@ -97,7 +100,7 @@ pub fn damage_order<T: Clone>(random: &mut Random, lines: &mut Vec<T>) {
         0 => drop(lines.remove(one)),
         1 => lines.insert(other, lines[one].clone()),
         2 => lines.swap(one, other),
-        _ => lines.push(lines[one].clone()),
+        _ => lines.extend_from_within(one..),
     }
 }
 
@@ -132,14 +135,24 @@ pub fn damage_line(random: &mut Random, lines: &mut [Vec<u32>]) {
     }
 }
 
-/// One of the lines, if it has so many numbers.
+/// One of the lines that have so many numbers, if there are any; each kind is as likely.
 fn some_line<'a>(
     random: &mut Random,
     lines: &'a mut [Vec<u32>],
     least: usize,
 ) -> Option<&'a mut Vec<u32>> {
-    let at = random.below(lines.len().max(1));
-    lines.get_mut(at).filter(|line| line.len() >= least)
+    let mut lines: Vec<_> = lines
+        .iter_mut()
+        .filter(|line| line.len() >= least)
+        .collect();
+    let mut kinds: Vec<u32> = lines.iter().map(|line| line[0]).collect();
+    kinds.dedup();
+    if kinds.is_empty() {
+        return None;
+    }
+    let kind = random.pick(&kinds);
+    lines.retain(|line| line[0] == kind);
+    Some(lines.swap_remove(random.below(lines.len())))
 }
 
 /// Changes a byte, drops one, puts one in, or cuts the text before or after it.

@@ -1,0 +1,5 @@
+-- Demand 3: the bound by prices, the unfolding, the folding, and the whole.
+pub mod Bound
+pub mod DemandUnfold
+pub mod DemandFold
+pub mod Demand3

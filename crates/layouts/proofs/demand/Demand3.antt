@@ -1,0 +1,121 @@
+-- Demand 3: its proof, for every job whose listing is not refused.
+-- Assumes nothing.
+use Prim.Native.Nat.{ℕ}
+use native.Mathlib.Omega.{arith}
+use mathlib.Core.Path.{_≡_, refl, sym, _∙_, ap}
+use mathlib.Core.Logic.{inl, inr}
+use mathlib.Core.Bool.{Bool, true, false}
+use mathlib.Core.List.{List}
+use lib.Dec.{ltb}
+use lib.ListN.{length}
+use Rattle.job.specs.Verdict.{Verdict, pass, _then_, refuseIf}
+use Rattle.job.specs.Buffers.{sized, platesSize, cutsSize, countsSize, placementsSize}
+use Rattle.job.specs.Job.{jobWords, admission}
+use Rattle.job.specs.Admitted.{Admitted, Sided}
+use Rattle.job.proofs.Verdicts.{then-first, then-second, then-both}
+use Rattle.job.proofs.Admission.{admitted-words, admitted-job, admitted-sided}
+use Rattle.listing.specs.Listing.{modelRow}
+use Rattle.listing.specs.Model.{Model}
+use Rattle.listing.proofs.WalkModel.{row-model}
+use Rattle.layouts.specs.Layout.{Board}
+use Rattle.layouts.specs.Placement.{placementWords, linesOf, itemsOfSet}
+use Rattle.layouts.specs.Lines.{rowsOf, layoutWords, setOf}
+use Rattle.layouts.specs.LayoutsRow.{layoutsRow}
+use Rattle.layouts.specs.UnfoldCall.{unfoldVerdict}
+use Rattle.layouts.specs.FoldCall.{foldVerdict}
+use Rattle.layouts.specs.Demand3.{Listed, OnlyFive, Accepted, Named, Folds, Demand3, J, L}
+use Rattle.layouts.proofs.row.RowLines.{words-rows, rows-words, lines-length}
+use Rattle.layouts.proofs.row.RowWords.{words-exact, words-set}
+use Rattle.layouts.proofs.demand.DemandUnfold.{unfolds-so}
+use Rattle.layouts.proofs.demand.DemandFold.{bounded, none-fewer, folds-so}
+
+-- a check that passes leaves the refusals of those after it
+five-after : (u v : Verdict) → u ≡ pass → OnlyFive v → OnlyFive (u then v)
+five-after u v e h = rw e h
+
+-- a short buffer is refused with 5
+five-sized : (number size : ℕ) (buffer : List ℕ) (v : Verdict) → OnlyFive v → OnlyFive (sized number size buffer then v)
+unfolding sized
+five-sized number size buffer v h = go (ltb (length buffer) size)
+  where
+    go : (t : Bool) → OnlyFive (refuseIf t 5 number then v)
+    go true = inr (number, refl)
+    go false = h
+
+module _ (ws : List ℕ) (listed : Listed ws) where
+  rest : (admission (J ws) then modelRow (J ws)) ≡ pass
+  rest = then-second (jobWords ws) (admission (J ws) then modelRow (J ws)) listed
+
+  words : jobWords ws ≡ pass
+  words = then-first (jobWords ws) (admission (J ws) then modelRow (J ws)) listed
+
+  fits : admission (J ws) ≡ pass
+  fits = then-first (admission (J ws)) (modelRow (J ws)) rest
+
+  row : modelRow (J ws) ≡ pass
+  row = then-second (admission (J ws)) (modelRow (J ws)) rest
+
+  admitted : Admitted (J ws)
+  admitted = admitted-job ws (admitted-words ws .0 (then-both (jobWords ws) (admission (J ws)) words fits))
+
+  sided : Sided (J ws)
+  sided = admitted-sided (J ws) admitted
+
+  model : Model (J ws) (L ws)
+  model = row-model (J ws) sided row
+
+  folds : (set : List Board) → Named (J ws) (L ws) set → Folds (J ws) (L ws) set
+  folds set named =
+      folds-so (J ws) (L ws) model sided (admitted .width-limits .1) (admitted .height-limits .1) set named
+
+  unfolds-but-for-five : (counts : List ℕ) → Accepted (J ws) (L ws) counts → (plates cuts placements : List ℕ) → OnlyFive (unfoldVerdict ws counts plates cuts placements)
+  unfolding unfoldVerdict
+  unfolds-but-for-five counts plan plates cuts placements =
+      five-after (jobWords ws) _ words
+      (five-after (admission (J ws)) _ fits
+      (five-sized 1 platesSize plates _
+      (five-sized 2 cutsSize cuts _
+      (five-sized 3 countsSize counts _
+      (five-sized 4 placementsSize placements _
+      (five-after (modelRow (J ws)) _ row (inl (plan .passed))))))))
+
+  folds-but-for-five : (set : List Board) → Named (J ws) (L ws) set → (plates cuts counts : List ℕ) → OnlyFive (foldVerdict ws (placementWords (linesOf (J ws) set)) plates cuts counts)
+  unfolding foldVerdict
+  folds-but-for-five set named plates cuts counts =
+      five-after (jobWords ws) _ words
+      (five-after (layoutWords (J ws) (placementWords (linesOf (J ws) set))) _ (folds set named .words)
+      (five-after (admission (J ws)) _ fits
+      (five-sized 1 platesSize plates _
+      (five-sized 2 cutsSize cuts _
+      (five-sized 3 countsSize counts _
+      (five-after (modelRow (J ws)) _ row (inl (rw (words-rows (linesOf (J ws) set)) (folds set named .row)))))))))
+
+  folds-only : (layouts plates cuts counts : List ℕ) → foldVerdict ws layouts plates cuts counts ≡ pass → Named (J ws) (L ws) (setOf layouts) × (layouts ≡ placementWords (linesOf (J ws) (setOf layouts)))
+  unfolding foldVerdict setOf
+  folds-only layouts plates cuts counts h =
+      let a = then-second (jobWords ws) _ h in
+      let lines = then-first (layoutWords (J ws) layouts) _ a in
+      let b = then-second (layoutWords (J ws) layouts) _ a in
+      let c = then-second (admission (J ws)) _ b in
+      let d = then-second (sized 1 platesSize plates) _ c in
+      let e = then-second (sized 2 cutsSize cuts) _ d in
+      let f = then-second (sized 3 countsSize counts) _ e in
+      let g = then-second (modelRow (J ws)) (layoutsRow 1 (J ws) (rowsOf layouts)) f in
+      let s = words-set (J ws) 1 layouts lines g in
+      let number : length (rowsOf layouts) ≡ length (itemsOfSet (setOf layouts)) = ap length (s .lines) ∙ lines-length (J ws) (setOf layouts) in (
+        record { rules = s .rules; demands = s .demands; pieces = omega (arith, s .few) },
+        sym (rows-words layouts (words-exact (J ws) layouts .0 lines .0)) ∙ ap placementWords (s .lines),
+      )
+
+  -- demand 3
+  pub demand3 : Demand3 ws
+  demand3 =
+      record {
+        unfolds = λ counts plan. unfolds-so (J ws) (L ws) model sided counts plan;
+        unfolds-but-for-five = unfolds-but-for-five;
+        folds = folds;
+        folds-but-for-five = folds-but-for-five;
+        folds-only = folds-only;
+        bounds = λ prices priced set rules demands. bounded (J ws) (L ws) model sided set rules demands prices priced;
+        none-fewer = λ prices priced n few set rules demands. none-fewer (J ws) (L ws) model sided set rules demands prices priced n few;
+      }

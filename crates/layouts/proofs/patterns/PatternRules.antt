@@ -1,0 +1,239 @@
+-- From patterns to layouts: the layout of a cut pattern of the board keeps the layout rules of the mode, and is in folding's order.
+-- Assumes nothing.
+use Prim.Native.Nat.{ℕ, _-_, _≤_}
+use native.Mathlib.Omega.{arith}
+use mathlib.Core.Path.{_≡_, refl, sym, ap, _∙_}
+use mathlib.Core.Logic.{inl, _≢_}
+use mathlib.Core.Bool.{Bool, true, false, cond, false≢true}
+use mathlib.Core.List.{[], _∷_}
+use lib.ListN.{length}
+use Rattle.job.specs.Lists.{sumOf, maxOf}
+use Rattle.job.specs.Mode.{three, exact}
+use Rattle.job.specs.Job.{Job}
+use Rattle.listing.specs.Plate.{plate, board}
+use Rattle.layouts.specs.Layout.{Stack, Strip, Board, widthOf, heightOf, stackWidth, stackHeight, stripWidth, stripHeight, boardHeight, boardRules}
+use Rattle.layouts.specs.Placement.{itemsOfStrip}
+use Rattle.layouts.specs.Rules.{Every, Filled, Alike, Single, OfJob, Staged, StripOk, BoardOk}
+use Rattle.layouts.proofs.lists.Every.{every-map, max-least}
+use Rattle.layouts.proofs.lists.Sort.{Falling}
+use Rattle.layouts.proofs.rules.RulesExact.{same-alike, single-heights, board-exact}
+use Rattle.layouts.proofs.trees.Tree.{Tree, leaf, node}
+use Rattle.layouts.proofs.trees.Pattern.{Pattern, stackOf, stripOf, boardOf}
+use Rattle.layouts.proofs.patterns.PatternSteps.{Wide, Within, cut-1, cut-2-three, cut-2-two, cut-3, waste-leaf}
+
+module _ (job : Job) where
+  -- what a pattern of a stage 3 plate of w by h makes of the items above
+  pub record Above (w h : ℕ) (l : Stack) : Type 0 where
+    pub types : Every (OfJob job) l
+    pub narrow : Every (λ i. widthOf job i ≤ w) l
+    pub same : exact (job .mode) ≡ true → Every (λ i. widthOf job i ≡ w) l
+    pub falls : Falling (widthOf job) l
+    pub tall : sumOf (heightOf job) l ≤ h
+
+  -- what a pattern of a stage 2 plate of w by h makes of the stacks beside
+  pub record Beside (w h : ℕ) (ss : Strip) : Type 0 where
+    pub stacks : Every Filled ss
+    pub types : Every (Every (OfJob job)) ss
+    pub low : Every (λ s. stackHeight job s ≤ h) ss
+    pub across : stripWidth job ss ≤ w
+    -- in two stages
+    pub single : three (job .mode) ≡ false → Every Single ss
+    pub level : three (job .mode) ≡ false → exact (job .mode) ≡ true → Every (λ s. stackHeight job s ≡ h) ss
+    pub order : three (job .mode) ≡ false → Falling (stackHeight job) ss
+    -- in three stages
+    pub even : exact (job .mode) ≡ true → Every (Alike (widthOf job)) ss
+    pub falls : Every (Falling (widthOf job)) ss
+
+  -- what a pattern of a stage 1 plate of w by h makes of the strips
+  pub record Over (w h : ℕ) (b : Board) : Type 0 where
+    pub strips : w ≡ job .width → Every (StripOk job) b
+    pub up : boardHeight job b ≤ h
+
+  -- a stack that is one item
+  pub single-high : (i : ℕ) → stackHeight job (i ∷ []) ≡ heightOf job i
+  unfolding stackHeight sumOf
+  single-high i = omega arith
+
+  single-wide : (i : ℕ) → stackWidth job (i ∷ []) ≡ widthOf job i
+  unfolding stackWidth maxOf
+  single-wide i = omega arith
+
+  none-above : (w h : ℕ) → Above w h []
+  unfolding sumOf
+  none-above w h = record { types = tt; narrow = tt; same = λ e. tt; falls = tt; tall = omega arith }
+
+  -- a stage 2 cut: its item, the items above it in its stack, and the pattern of the further stacks
+  pub record Begun (w h i : ℕ) (a b : Tree) : Type 0 where
+    pub within : Within job w h i
+    pub items : Above (widthOf job i) (h - heightOf job i) (stackOf a)
+    pub alone : three (job .mode) ≡ false → stackOf a ≡ []
+    pub just : three (job .mode) ≡ false → exact (job .mode) ≡ true → heightOf job i ≡ h
+    pub further : Pattern job (plate (w - widthOf job i) (cond (three (job .mode)) h (heightOf job i)) 2) b
+
+  -- the stack's width is its first item's, since no other is wider; its height is at most the plate's
+  module _ (w h i : ℕ) (a b : Tree) (q : Begun w h i a b) where
+    pub stack-wide : stackWidth job (i ∷ stackOf a) ≡ widthOf job i
+    unfolding stackWidth maxOf
+    stack-wide = omega (arith, max-least (widthOf job) (widthOf job i) (stackOf a) (q .items .narrow))
+
+    stack-high : stackHeight job (i ∷ stackOf a) ≤ h
+    unfolding stackHeight sumOf
+    stack-high = omega (arith, q .within .high, q .items .tall)
+
+    stack-alone : three (job .mode) ≡ false → stackHeight job (i ∷ stackOf a) ≡ heightOf job i
+    unfolding stackHeight sumOf
+    stack-alone t = rw (q .alone t) (omega arith)
+
+    stack-even : exact (job .mode) ≡ true → Alike (widthOf job) (i ∷ stackOf a)
+    stack-even e = same-alike (widthOf job) (widthOf job i) (i ∷ stackOf a) (refl, q .items .same e)
+
+  -- the strip that a stage 1 cut begins: its height is its first item's, since no stack is higher
+  module _ (w i : ℕ) (a : Tree) (u : Beside (w - widthOf job i) (heightOf job i) (stripOf a)) where
+    pub strip-high : stripHeight job ((i ∷ []) ∷ stripOf a) ≡ heightOf job i
+    unfolding stripHeight maxOf
+    strip-high = omega (arith, single-high i, max-least (stackHeight job) (heightOf job i) (stripOf a) (u .low))
+
+    strip-staged : Staged job ((i ∷ []) ∷ stripOf a)
+    strip-staged =
+        record {
+          single = λ t. (refl, u .single t);
+          level = λ t e.
+              same-alike (heightOf job) (heightOf job i) (itemsOfStrip ((i ∷ []) ∷ stripOf a))
+              (single-heights job (heightOf job i) ((i ∷ []) ∷ stripOf a) (refl, u .single t) .0 (single-high i, u .level t e));
+          full = λ t. inl (refl, single-high i ∙ sym strip-high);
+          even = λ t e. (same-alike (widthOf job) (widthOf job i) (i ∷ []) (refl, tt), u .even e);
+        }
+
+    strip-across : widthOf job i ≤ w → stripWidth job ((i ∷ []) ∷ stripOf a) ≤ w
+    unfolding stripWidth sumOf
+    strip-across k = omega (arith, single-wide i, u .across)
+
+  module _ (wide : Wide job) where
+    -- stage 3: the items above one another fall in width, in 3E all of one width
+    pub above : three (job .mode) ≡ true → (w h : ℕ) (x : Tree) → Pattern job (plate w h 3) x → Above w h (stackOf x)
+    unfolding sumOf
+    above t w h leaf p = none-above w h
+    above t w h (node i a b) p =
+        let q = cut-3 job w h i a b t .0 p in
+        let f = q .0 in
+        let r = above t (widthOf job i) (h - heightOf job i) b (q .3) in
+        record {
+          types = (f .type, r .types);
+          narrow = (f .wide, every-map (λ j (k : widthOf job j ≤ widthOf job i). omega (arith, f .wide)) (stackOf b) (r .narrow));
+          same = λ e. (q .1 e, every-map (λ j (k : widthOf job j ≡ widthOf job i). k ∙ q .1 e) (stackOf b) (r .same e));
+          falls = (r .narrow, r .falls);
+          tall = omega (arith, f .high, r .tall);
+        }
+
+    -- stage 2, its first cut
+    pub begun : (w h i : ℕ) (a b : Tree) → Pattern job (plate w h 2) (node i a b) → Begun w h i a b
+    begun w h i a b p = go (three (job .mode)) refl
+      where
+        go : (t : Bool) → three (job .mode) ≡ t → Begun w h i a b
+        go true t =
+            let q = cut-2-three job w h i a b t .0 p in
+            record {
+              within = q .0;
+              items = above t (widthOf job i) (h - heightOf job i) a (q .1);
+              alone = λ t′. absurd (false≢true (sym t′ ∙ t));
+              just = λ t′. absurd (false≢true (sym t′ ∙ t));
+              further = rw t (q .2);
+            }
+        go false t =
+            let q = cut-2-two job w h i a b t .0 p in
+            let e : a ≡ leaf = waste-leaf job wide a (q .2) in
+            record {
+              within = q .0;
+              items = rw e (none-above (widthOf job i) (h - heightOf job i));
+              alone = λ t′. rw e refl;
+              just = λ t′. q .1;
+              further = rw t (q .3);
+            }
+
+    -- stage 2: the stacks beside one another, in two stages single items that fall in height, in 2E all of one height
+    pub beside : (w h : ℕ) (x : Tree) → Pattern job (plate w h 2) x → Beside w h (stripOf x)
+    unfolding stripWidth sumOf
+    beside w h leaf p =
+        record {
+          stacks = tt;
+          types = tt;
+          low = tt;
+          across = omega arith;
+          single = λ t. tt;
+          level = λ t e. tt;
+          order = λ t. tt;
+          even = λ e. tt;
+          falls = tt;
+        }
+    beside w h (node i a b) p =
+        let q = begun w h i a b p in
+        let m : ℕ = cond (three (job .mode)) h (heightOf job i) in
+        let r = beside (w - widthOf job i) m b (q .further) in
+        let lower : m ≤ h = at-most (three (job .mode)) (q .within .high) in
+        record {
+          stacks = (tt, r .stacks);
+          types = ((q .within .type, q .items .types), r .types);
+          low = (stack-high w h i a b q, every-map (λ s (k : stackHeight job s ≤ m). omega arith) (stripOf b) (r .low));
+          across = omega (arith, stack-wide w h i a b q, q .within .wide, r .across);
+          single = λ t. (ap (λ (l : Stack). length (i ∷ l)) (q .alone t), r .single t);
+          level = λ t e. (
+            stack-alone w h i a b q t ∙ q .just t e,
+            every-map (λ s (k : stackHeight job s ≡ m). k ∙ same t ∙ q .just t e) (stripOf b) (r .level t e),
+          );
+          order = λ t. (
+            every-map (λ s (k : stackHeight job s ≤ m). omega (arith, stack-alone w h i a b q t, same t)) (stripOf b) (r .low),
+            r .order t,
+          );
+          even = λ e. (stack-even w h i a b q e, r .even e);
+          falls = ((q .items .narrow, q .items .falls), r .falls);
+        }
+      where
+        at-most : (t : Bool) → heightOf job i ≤ h → cond t h (heightOf job i) ≤ h
+        at-most true k = omega arith
+        at-most false k = k
+
+        same : three (job .mode) ≡ false → cond (three (job .mode)) h (heightOf job i) ≡ heightOf job i
+        same t = rw t refl
+
+    -- stage 1: the strips, on a plate of the board's width
+    pub over : (w h : ℕ) (x : Tree) → Pattern job (plate w h 1) x → Over w h (boardOf x)
+    unfolding boardHeight sumOf
+    over w h leaf p = record { strips = λ e. tt; up = omega arith }
+    over w h (node i a b) p =
+        let q = cut-1 job w h i a b .0 p in
+        let f = q .0 in
+        let u = beside (w - widthOf job i) (heightOf job i) a (q .1) in
+        let r = over w (h - heightOf job i) b (q .2) in
+        record {
+          strips = λ e. (
+            record {
+              filled = tt;
+              stacks = (tt, u .stacks);
+              types = ((f .type, tt), u .types);
+              staged = strip-staged w i a u;
+              across = omega (arith, strip-across w i a u (f .wide));
+            },
+            r .strips e,
+          );
+          up = omega (arith, strip-high w i a u, f .high, r .up);
+        }
+
+    -- the layout of a pattern of the board keeps the rules
+    pub pattern-ok : (x : Tree) → x ≢ leaf → Pattern job (board job) x → BoardOk job (boardOf x)
+    pattern-ok leaf d p = absurd (d refl)
+    pattern-ok (node i a b) d p =
+        let r = over (job .width) (job .height) (node i a b) p in
+        record { filled = tt; strips = r .strips refl; up = r .up }
+
+    pub pattern-rules : (x : Tree) → x ≢ leaf → Pattern job (board job) x → boardRules job (boardOf x) ≡ true
+    pattern-rules x d p = board-exact job (boardOf x) .1 (pattern-ok x d p)
+
+    -- the sides of what a cut begins: at stage 2 a stack as wide as its first item, at stage 1 a strip as high as its first item
+    pub stack-width : (w h i : ℕ) (a b : Tree) → Pattern job (plate w h 2) (node i a b) → stackWidth job (i ∷ stackOf a) ≡ widthOf job i
+    stack-width w h i a b p = stack-wide w h i a b (begun w h i a b p)
+
+    pub strip-height :
+        (w h i : ℕ) (a b : Tree)
+        → Pattern job (plate w h 1) (node i a b)
+        → stripHeight job ((i ∷ []) ∷ stripOf a) ≡ heightOf job i
+    strip-height w h i a b p = strip-high w i a (beside (w - widthOf job i) (heightOf job i) a (cut-1 job w h i a b .0 p .1))

@@ -1,0 +1,97 @@
+-- The lines of a set of layouts: they hold its items in order, and as words they are read back.
+-- Assumes nothing.
+use Prim.Native.Nat.{ℕ, suc, _+_, _*_, _%_}
+use native.Mathlib.Omega.{arith}
+use native.Mathlib.Nat.{mul-mod-right}
+use mathlib.Core.Path.{_≡_, refl, ap, ap₂, sym, _∙_}
+use mathlib.Core.Logic.{_↔_}
+use mathlib.Core.List.{List, [], _∷_, _++_, map, flatMap, map-append}
+use lib.ListN.{length, length-map}
+use Rattle.job.specs.Job.{Job}
+use Rattle.job.proofs.Records.{words-length as records-length}
+use Rattle.layouts.specs.Layout.{Stack, Strip, Board, heightOf, stackWidth, stripHeight}
+use Rattle.layouts.specs.Placement.{Placement, placementWords, stackLines, stripLines, boardLines, setLines, linesOf, itemsOfStrip, itemsOfBoard, itemsOfSet}
+use Rattle.layouts.specs.Lines.{rowsOf}
+use Rattle.layouts.specs.Rules.{Every}
+use Rattle.layouts.proofs.lists.Every.{every-map, every-of-parts, parts-every}
+
+-- the item of a line
+abbrev pub lineItem : Placement → ℕ
+lineItem r = r .item
+
+-- what holds of every item of a set holds of every item of every stack of every strip of every board
+pub items-every : (P : ℕ → Type 0) (bs : List Board) → Every P (itemsOfSet bs) ↔ Every (Every (Every (Every P))) bs
+unfolding itemsOfSet itemsOfBoard itemsOfStrip
+items-every P bs = (
+  λ h.
+      every-map (λ b (q : Every P (itemsOfBoard b)).
+      every-map (λ s (r : Every P (itemsOfStrip s)). parts-every P (λ k. k) s r) b (parts-every P itemsOfStrip b q))
+      bs (parts-every P itemsOfBoard bs h),
+  λ h.
+      every-of-parts P itemsOfBoard bs
+      (every-map (λ b (q : Every (Every (Every P)) b).
+      every-of-parts P itemsOfStrip b (every-map (λ s (r : Every (Every P) s). every-of-parts P (λ k. k) s r) b q))
+      bs h),
+)
+
+module _ (job : Job) where
+  stack-items : (b s k p x y : ℕ) (st : Stack) → map lineItem (stackLines job b s k p x y st) ≡ st
+  unfolding stackLines
+  stack-items b s k p x y [] = refl
+  stack-items b s k p x y (i ∷ is) = ap (λ (r : Stack). i ∷ r) (stack-items b s k (suc p) x (y + heightOf job i) is)
+
+  strip-items : (b s k x y : ℕ) (st : Strip) → map lineItem (stripLines job b s k x y st) ≡ itemsOfStrip st
+  unfolding stripLines itemsOfStrip flatMap
+  strip-items b s k x y [] = refl
+  strip-items b s k x y (l ∷ ls) =
+      map-append lineItem (stackLines job b s k 1 x y l) (stripLines job b s (suc k) (x + stackWidth job l) y ls)
+      ∙ ap₂ (λ (a c : List ℕ). a ++ c) (stack-items b s k 1 x y l) (strip-items b s (suc k) (x + stackWidth job l) y ls)
+
+  board-items : (b s y : ℕ) (bd : Board) → map lineItem (boardLines job b s y bd) ≡ itemsOfBoard bd
+  unfolding boardLines itemsOfBoard flatMap
+  board-items b s y [] = refl
+  board-items b s y (st ∷ sts) =
+      map-append lineItem (stripLines job b s 1 0 y st) (boardLines job b (suc s) (y + stripHeight job st) sts)
+      ∙ ap₂ (λ (a c : List ℕ). a ++ c) (strip-items b s 1 0 y st) (board-items b (suc s) (y + stripHeight job st) sts)
+
+  set-items : (b : ℕ) (bs : List Board) → map lineItem (setLines job b bs) ≡ itemsOfSet bs
+  unfolding setLines itemsOfSet flatMap
+  set-items b [] = refl
+  set-items b (bd ∷ bs) =
+      map-append lineItem (boardLines job b 1 0 bd) (setLines job (suc b) bs)
+      ∙ ap₂ (λ (a c : List ℕ). a ++ c) (board-items b 1 0 bd) (set-items (suc b) bs)
+
+  -- the lines of a set hold its items, in order
+  pub lines-items : (bs : List Board) → map lineItem (linesOf job bs) ≡ itemsOfSet bs
+  unfolding linesOf
+  lines-items bs = set-items 1 bs
+
+  pub lines-length : (bs : List Board) → length (linesOf job bs) ≡ length (itemsOfSet bs)
+  lines-length bs = sym (length-map (linesOf job bs) lineItem) ∙ ap length (lines-items bs)
+
+-- placements as words are read back
+pub words-rows : (ps : List Placement) → rowsOf (placementWords ps) ≡ ps
+unfolding rowsOf placementWords flatMap
+words-rows [] = refl
+words-rows (p ∷ ps) = ap (λ (r : List Placement). p ∷ r) (words-rows ps)
+
+-- and whole lines of words are written back
+pub rows-words : (ws : List ℕ) → length ws % 7 ≡ 0 → placementWords (rowsOf ws) ≡ ws
+unfolding rowsOf placementWords flatMap
+rows-words [] e = refl
+rows-words (b ∷ []) e = absurd (omega arith)
+rows-words (b ∷ s ∷ []) e = absurd (omega arith)
+rows-words (b ∷ s ∷ k ∷ []) e = absurd (omega arith)
+rows-words (b ∷ s ∷ k ∷ p ∷ []) e = absurd (omega arith)
+rows-words (b ∷ s ∷ k ∷ p ∷ i ∷ []) e = absurd (omega arith)
+rows-words (b ∷ s ∷ k ∷ p ∷ i ∷ x ∷ []) e = absurd (omega arith)
+rows-words (b ∷ s ∷ k ∷ p ∷ i ∷ x ∷ y ∷ ws) e =
+    ap (λ (r : List ℕ). b ∷ s ∷ k ∷ p ∷ i ∷ x ∷ y ∷ r) (rows-words ws (omega arith))
+
+-- seven words for each
+pub words-length : (ps : List Placement) → length (placementWords ps) ≡ 7 * length ps
+unfolding placementWords
+words-length ps = records-length _ 7 (λ p. refl) ps
+
+pub words-whole : (ps : List Placement) → length (placementWords ps) % 7 ≡ 0
+words-whole ps = ap (λ (n : ℕ). n % 7) (words-length ps) ∙ mul-mod-right 7 (length ps)
