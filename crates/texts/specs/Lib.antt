@@ -4,3 +4,8 @@ pub mod Reader
 pub mod JobLines
 pub mod SawText
 pub mod FoldText
+pub mod Admitted
+pub mod TextOf
+pub mod Held
+pub mod Printed
+pub mod TextLaws

@@ -1,0 +1,210 @@
+-- What a fold text holds, both ways: its lines are those of its job words and layout words, and from these lines they are read back.
+-- Assumes nothing.
+use Prim.Native.Nat.{ℕ, suc, _*_}
+use native.Mathlib.Omega.{arith}
+use mathlib.Core.Path.{_≡_, refl, sym, ap, _∙_, subst}
+use mathlib.Core.Logic.{inl, inr}
+use mathlib.Core.Bool.{true}
+use mathlib.Core.List.{List, [], _∷_, _++_, map, append-assoc, append-nil}
+use lib.ListN.{length, drop, length-append}
+use borrow.Author.Tests.{not-false}
+use Rattle.job.specs.Verdict.{pass, lowest}
+use Rattle.job.specs.Job.{jobOf}
+use Rattle.layouts.specs.Placement.{Placement, placementWords}
+use Rattle.layouts.specs.Lines.{rowsOf, rowRight}
+use Rattle.texts.specs.Shape.{layoutLine}
+use Rattle.texts.specs.JobLines.{Place, first, types, body, itemPrices, platePrices, done, typesOf, afterType}
+use Rattle.texts.specs.FoldText.{Fold, foldAdmits, foldAfter, foldComplete, foldGrammar}
+use Rattle.texts.specs.Admitted.{InLimits, OfShape, Admitted, Runs}
+use Rattle.texts.specs.TextOf.{jobRows, placementRow, foldRowsOf}
+use Rattle.texts.specs.Held.{FoldHeld, FoldBothWays}
+use Rattle.texts.proofs.Basics.{not-both, lowest-more, lowest-parts}
+use Rattle.texts.proofs.Lists.{map-append}
+use Rattle.texts.proofs.ShapeLaws.{narrow-layout, shape-fits, Kinds, Shorter}
+use Rattle.texts.proofs.Running.{Plain, runs-append, runs-keep}
+use Rattle.texts.proofs.WholeTexts.{both-ways}
+use Rattle.texts.proofs.JobLaws.{JobWhole, job-passes, passes-job, job-types, board-types}
+use Rattle.texts.proofs.JobText.{AtTypes, JobAt, first-read, types-read}
+use Rattle.texts.proofs.JobRuns.{Opens, job-runs}
+use Rattle.texts.proofs.WordGroups.{sevens}
+use Rattle.texts.proofs.LayoutRows.{placementOf, badRow, rows-append, words-rows, row-right, right-row, layouts-pass, pass-layouts, seven-words}
+
+-- a fold text by its parts
+abbrev pub fold : Place → List ℕ → List ℕ → Fold
+fold p ws us = record { place = p; job = ws; layouts = us }
+
+-- ---- from lines to what they give
+
+-- the layout words so far, seven a line and each line within its limits, and the lines of what is held
+pub record LaidOut (rows : List (List ℕ)) (f : Fold) : Type 0 where
+  pub job : JobWhole (f .job)
+  pub count : ℕ
+  pub size : length (f .layouts) ≡ 7 * count
+  pub right : lowest 2 (badRow (jobOf (f .job))) 1 (rowsOf (f .layouts)) ≡ pass
+  pub lines : rows ≡ foldRowsOf f
+
+-- by the place
+abbrev pub FoldForm : Place → List (List ℕ) → Fold → Type 0
+FoldForm first rows f = rows ≡ []
+FoldForm (types i) rows f = AtTypes i rows (f .job)
+FoldForm body rows f = LaidOut rows f
+FoldForm (itemPrices i) rows f = ⊥
+FoldForm (platePrices j) rows f = ⊥
+FoldForm done rows f = ⊥
+
+-- where a fold text stands after the lines `rows`
+abbrev pub FoldAt : List (List ℕ) → Fold → Type 0
+FoldAt rows f = FoldForm (f .place) rows f
+
+-- the job's lines bring a fold text to its body, with no layouts yet
+from-job : (p : Place) (rows : List (List ℕ)) (ws : List ℕ) → JobAt p rows ws → FoldForm p rows (fold p ws [])
+unfolding foldRowsOf rowsOf lowest
+from-job first rows ws j = j
+from-job (types i) rows ws j = j
+from-job body rows ws j = record { job = j .0; count = 0; size = refl; right = refl; lines = j .1 ∙ sym (append-nil (jobRows ws)) }
+from-job (itemPrices i) rows ws j = absurd j
+from-job (platePrices i) rows ws j = absurd j
+from-job done rows ws j = absurd j
+
+-- one line 7 more
+layout-more :
+    (rows : List (List ℕ)) (ws us : List ℕ) (b s k p i x y : ℕ)
+    → LaidOut rows (fold body ws us)
+    → InLimits (layoutLine (typesOf ws) .limits) (b ∷ s ∷ k ∷ p ∷ i ∷ x ∷ y ∷ [])
+    → LaidOut (rows ++ ((7 ∷ b ∷ s ∷ k ∷ p ∷ i ∷ x ∷ y ∷ []) ∷ [])) (fold body ws (us ++ (b ∷ s ∷ k ∷ p ∷ i ∷ x ∷ y ∷ [])))
+unfolding foldRowsOf rowsOf placementRow
+layout-more rows ws us b s k p i x y l h =
+    let q : Placement = placementOf b s k p i x y in
+    let vs : List ℕ = b ∷ s ∷ k ∷ p ∷ i ∷ x ∷ y ∷ [] in
+    let size = l .size in
+    let e : rowsOf (us ++ vs) ≡ rowsOf us ++ (q ∷ []) = rows-append (sevens (l .count) us size) vs in
+    let r = row-right (jobOf ws) (typesOf ws) b s k p i x y (job-types ws (l .job)) h in
+    record {
+      job = l .job;
+      count = suc (l .count);
+      size = length-append us vs ∙ omega arith;
+      right = rw e (lowest-more 2 (badRow (jobOf ws)) 1 (rowsOf us) q (l .right) (rw r));
+      lines =
+          ap (λ (t : List (List ℕ)). t ++ (placementRow q ∷ [])) (l .lines)
+          ∙ append-assoc (jobRows ws) (map placementRow (rowsOf us)) (placementRow q ∷ [])
+          ∙ ap (λ (t : List (List ℕ)). jobRows ws ++ t) (sym (map-append placementRow (rowsOf us) (q ∷ [])) ∙ ap (map placementRow) (sym e));
+    }
+
+layout-read :
+    (rows : List (List ℕ)) (ws us ns : List ℕ)
+    → LaidOut rows (fold body ws us)
+    → OfShape (layoutLine (typesOf ws)) ns
+    → LaidOut (rows ++ (ns ∷ [])) (fold body ws (us ++ drop 1 ns))
+layout-read rows ws us ns l o = rw (o .numbers) (seven (o .others) (o .limits))
+  where
+    seven : (vs : List ℕ) → InLimits (layoutLine (typesOf ws) .limits) vs → LaidOut (rows ++ ((7 ∷ vs) ∷ [])) (fold body ws (us ++ vs))
+    seven [] h = absurd h
+    seven (a ∷ []) h = absurd (h .2)
+    seven (a ∷ b ∷ []) h = absurd (h .2 .2)
+    seven (a ∷ b ∷ c ∷ []) h = absurd (h .2 .2 .2)
+    seven (a ∷ b ∷ c ∷ d ∷ []) h = absurd (h .2 .2 .2 .2)
+    seven (a ∷ b ∷ c ∷ d ∷ e ∷ []) h = absurd (h .2 .2 .2 .2 .2)
+    seven (a ∷ b ∷ c ∷ d ∷ e ∷ f ∷ []) h = absurd (h .2 .2 .2 .2 .2 .2)
+    seven (a ∷ b ∷ c ∷ d ∷ e ∷ f ∷ g ∷ []) h = layout-more rows ws us a b c d e f g l h
+    seven (a ∷ b ∷ c ∷ d ∷ e ∷ f ∷ g ∷ v ∷ vs) h = absurd (h .2 .2 .2 .2 .2 .2 .2)
+
+fold-step :
+    (p : Place) (ws us : List ℕ) (rows : List (List ℕ)) (ns : List ℕ)
+    → FoldForm p rows (fold p ws us)
+    → Admitted (foldAdmits (fold p ws us)) ns
+    → FoldAt (rows ++ (ns ∷ [])) (foldAfter (fold p ws us) ns)
+unfolding foldAdmits foldAfter
+fold-step first ws us rows ns h (inl a) = from-job (types 1) (rows ++ (ns ∷ [])) (drop 1 ns) (first-read rows ns h a)
+fold-step first ws us rows ns h (inr a) = absurd a
+fold-step (types i) ws us rows ns h (inl a) = from-job (afterType (typesOf ws) i) (rows ++ (ns ∷ [])) (ws ++ drop 2 ns) (types-read i rows ws ns h a)
+fold-step (types i) ws us rows ns h (inr a) = absurd a
+fold-step body ws us rows ns h (inl a) = layout-read rows ws us ns h a
+fold-step body ws us rows ns h (inr a) = absurd a
+fold-step (itemPrices i) ws us rows ns h a = absurd a
+fold-step (platePrices j) ws us rows ns h a = absurd a
+fold-step done ws us rows ns h a = absurd a
+
+-- wherever lines bring a fold text
+pub fold-at : (rows : List (List ℕ)) (f : Fold) → Runs foldGrammar (foldGrammar .start) rows f → FoldAt rows f
+fold-at rows f r =
+    runs-keep foldGrammar FoldAt (λ d t ns h a. fold-step (t .place) (t .job) (t .layouts) d ns h a)
+    [] (foldGrammar .start) f rows refl r
+
+-- ---- from what is held to lines
+
+shapes : (p : Place) (ws us : List ℕ) → Kinds (foldAdmits (fold p ws us)) × Shorter 9 (foldAdmits (fold p ws us))
+unfolding foldAdmits
+shapes first ws us = omega arith
+shapes (types i) ws us = omega arith
+shapes body ws us = omega arith
+shapes (itemPrices i) ws us = (tt, tt)
+shapes (platePrices j) ws us = (tt, tt)
+shapes done ws us = (tt, tt)
+
+-- each kind stands once among the lines admitted, and none has more than eight numbers
+pub fold-plain : Plain foldGrammar
+fold-plain = record { kinds = λ f. shapes (f .place) (f .job) (f .layouts) .0; short = λ f. shapes (f .place) (f .job) (f .layouts) .1 }
+
+-- a fold text begins with the job's lines
+pub fold-opens : Opens foldGrammar (λ p ws. fold p ws [])
+unfolding foldAdmits foldAfter
+fold-opens = record { start = refl; admits-first = refl; admits-types = λ i ws. refl; after-first = λ ns. refl; after-types = λ i ws ns. refl }
+
+-- lines 7, each within its limits
+pub layouts-run :
+    (ws us : List ℕ) (k : ℕ) (ps : List Placement)
+    → JobWhole ws
+    → lowest 2 (badRow (jobOf ws)) k ps ≡ pass
+    → Runs foldGrammar (fold body ws us) (map placementRow ps) (fold body ws (us ++ placementWords ps))
+unfolding foldAdmits foldAfter placementWords mathlib.Core.List.flatMap placementRow
+layouts-run ws us k [] j h = ap (fold body ws) (sym (append-nil us))
+layouts-run ws us k (p ∷ ps) j h =
+    let q = lowest-parts 2 (badRow (jobOf ws)) k p ps h in
+    let n = board-types ws (j .board) in
+    let shape = right-row (jobOf ws) (typesOf ws) p (job-types ws j) (not-false (rowRight (jobOf ws) p) (q .0)) in (
+      inl shape,
+      shape-fits (layoutLine (typesOf ws)) (placementRow p) (narrow-layout (typesOf ws) (omega arith)) shape,
+      rw append-assoc at (layouts-run ws (us ++ drop 1 (placementRow p)) (suc k) ps j (q .1)),
+    )
+
+-- all that a fold text holds
+pub fold-runs : (f : Fold) → FoldHeld f → Runs foldGrammar (foldGrammar .start) (foldRowsOf f) f
+unfolding foldRowsOf
+fold-runs f h =
+    let j = passes-job (f .job) (h .job) in
+    let size = seven-words (jobOf (f .job)) (f .layouts) (h .layouts) in
+    let words = words-rows (sevens (length (rowsOf (f .layouts))) (f .layouts) size) in
+    let r = layouts-run (f .job) [] 1 (rowsOf (f .layouts)) j (pass-layouts (jobOf (f .job)) (f .layouts) (h .layouts)) in
+    let e : fold body (f .job) (placementWords (rowsOf (f .layouts))) ≡ f = λ i. fold (sym (h .place) i) (f .job) (words i) in
+    runs-append foldGrammar (foldGrammar .start) (fold body (f .job) []) f (jobRows (f .job)) (map placementRow (rowsOf (f .layouts)))
+    (job-runs foldGrammar (λ p ws. fold p ws []) fold-opens (f .job) j)
+    (subst (λ (t : Fold). Runs foldGrammar (fold body (f .job) []) (map placementRow (rowsOf (f .layouts))) t) e r)
+
+-- ---- whole texts
+
+complete-held :
+    (p : Place) (ws us : List ℕ) (rows : List (List ℕ))
+    → FoldForm p rows (fold p ws us)
+    → foldComplete (fold p ws us) ≡ true
+    → FoldHeld (fold p ws us) × (rows ≡ foldRowsOf (fold p ws us))
+unfolding foldComplete
+complete-held first ws us rows h c = absurd (not-both c refl)
+complete-held (types i) ws us rows h c = absurd (not-both c refl)
+complete-held body ws us rows h c = (
+  record { place = refl; job = job-passes ws (h .job); layouts = layouts-pass (jobOf ws) (h .count) us (h .size) (h .right) },
+  h .lines,
+)
+complete-held (itemPrices i) ws us rows h c = absurd h
+complete-held (platePrices j) ws us rows h c = absurd h
+complete-held done ws us rows h c = absurd h
+
+fold-complete : (f : Fold) → FoldHeld f → foldComplete f ≡ true
+unfolding foldComplete
+fold-complete f h = rw (h .place, foldComplete)
+
+-- fold texts both ways
+pub fold-both-ways : FoldBothWays
+fold-both-ways =
+    both-ways foldGrammar fold-plain FoldHeld foldRowsOf
+    (λ nss f r c. complete-held (f .place) (f .job) (f .layouts) nss (fold-at nss f r) c)
+    (λ f h. (fold-runs f h, fold-complete f h))

@@ -1,0 +1,48 @@
+-- The lines 1 and 2 of job words: one more of them, how many they are, and how many bytes.
+-- Assumes nothing.
+use Prim.Native.Nat.{ℕ, suc, _+_, _*_}
+use native.Mathlib.Omega.{arith}
+use mathlib.Core.Path.{_≡_, refl, ap, _∙_}
+use mathlib.Core.List.{List, [], _∷_, _++_}
+use lib.ListN.{length, take, drop, length-drop}
+use lib.Seq.{drop-append-le, take-append-le, length-take-le}
+use Rattle.texts.specs.TextOf.{itemRows, jobRows}
+use Rattle.texts.proofs.WordGroups.{Threes, no-type, one-type, threes}
+use Rattle.texts.proofs.Lists.{bytesOf, bytes-cons}
+
+-- the lines 2 of one part of the types' words after another
+itemRows-append : (i : ℕ) {ws : List ℕ} {k : ℕ} → Threes ws k → (us : List ℕ) → itemRows i (ws ++ us) ≡ itemRows i ws ++ itemRows (i + k) us
+unfolding itemRows
+itemRows-append i no-type us = ap (λ (j : ℕ). itemRows j us) (omega arith)
+itemRows-append i (one-type {a = a} {b = b} {c = c} {k = k} t) us =
+    let e : i + suc k ≡ suc i + k = omega arith in
+    rw e (ap (λ (l : List (List ℕ)). (2 ∷ i ∷ a ∷ b ∷ c ∷ []) ∷ l) (itemRows-append (suc i) t us))
+
+-- one line 2 more
+pub jobRows-more :
+    (k : ℕ) (ws : List ℕ) (w h d : ℕ)
+    → length ws ≡ 5 + 3 * k
+    → jobRows (ws ++ (w ∷ h ∷ d ∷ [])) ≡ jobRows ws ++ ((2 ∷ suc k ∷ w ∷ h ∷ d ∷ []) ∷ [])
+unfolding jobRows itemRows
+jobRows-more k ws w h d e =
+    let l : length (drop 5 ws) ≡ 3 * k = length-drop 5 ws ∙ omega arith in
+    let s : 1 + k ≡ suc k = omega arith in
+    let q = itemRows-append 1 (threes k (drop 5 ws) l) (w ∷ h ∷ d ∷ []) in
+    rw (take-append-le 5 ws (w ∷ h ∷ d ∷ []) (omega arith), drop-append-le 5 ws (w ∷ h ∷ d ∷ []) (omega arith))
+    (ap (λ (l : List (List ℕ)). (1 ∷ take 5 ws) ∷ l) (rw s at q))
+
+-- 46 bytes for each
+itemRows-size : (i : ℕ) {ws : List ℕ} {k : ℕ} → Threes ws k → (length (itemRows i ws) ≡ k) × (length (bytesOf (itemRows i ws)) ≡ 46 * k)
+unfolding itemRows mathlib.Core.List.flatMap
+itemRows-size i no-type = (refl, refl)
+itemRows-size i (one-type {a = a} {b = b} {c = c} {ws = ws} t) =
+    let r = itemRows-size (suc i) t in
+    (ap suc (r .0), bytes-cons (2 ∷ i ∷ a ∷ b ∷ c ∷ []) (itemRows (suc i) ws) ∙ omega arith)
+
+-- one line for the board and one for each type; 55 bytes and 46 for each
+pub jobRows-size : (k : ℕ) (ws : List ℕ) → length ws ≡ 5 + 3 * k → (length (jobRows ws) ≡ suc k) × (length (bytesOf (jobRows ws)) ≡ 55 + 46 * k)
+unfolding jobRows
+jobRows-size k ws h =
+    let r = itemRows-size 1 (threes k (drop 5 ws) (length-drop 5 ws ∙ omega arith)) in
+    let t : length (take 5 ws) ≡ 5 = length-take-le 5 ws (omega arith) in
+    (ap suc (r .0), bytes-cons (1 ∷ take 5 ws) (itemRows 1 (drop 5 ws)) ∙ omega arith)

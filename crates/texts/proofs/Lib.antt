@@ -1,0 +1,26 @@
+-- The laws of this crate: lines and texts both ways, texts in parts, and what an admitted text holds.
+pub mod Basics
+pub mod ShapeLaws
+pub mod ReaderLaws
+pub mod Lists
+pub mod WordGroups
+pub mod Running
+pub mod ReadSoFar
+pub mod WholeTexts
+pub mod JobLaws
+pub mod JobRows
+pub mod JobText
+pub mod JobRuns
+pub mod PlanRows
+pub mod SawRead
+pub mod SawRuns
+pub mod LayoutRows
+pub mod FoldTexts
+pub mod SawTexts
+pub mod Prefix
+pub mod LongTexts
+pub mod LinesIn
+pub mod Printed
+pub mod CallRows
+pub mod FoldRows
+pub mod TextLaws

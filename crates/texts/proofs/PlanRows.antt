@@ -1,0 +1,107 @@
+-- The lines 3 of a plan and the lines 4, 5 and 6 of prices: one more of them, how many they are, and how many bytes.
+-- Assumes nothing.
+use Prim.Native.Nat.{ℕ, suc, _+_, _-_, _*_, _≤_}
+use native.Mathlib.Omega.{arith}
+use mathlib.Core.Path.{_≡_, refl, ap, _∙_}
+use mathlib.Core.Bool.{Bool, true, false, not, cond}
+use mathlib.Core.List.{List, [], _∷_, _++_}
+use mathlib.Core.Option.{Option, none, some}
+use lib.Dec.{leb, eqb}
+use lib.ListN.{length, getD, drop, List·getD-append}
+use lib.Seq.{drop-append-le}
+use borrow.Author.Tests.{ne-eqb}
+use Rattle.job.specs.Verdict.{pass, within}
+use Rattle.plan.specs.Prices.{maxPrice, lowestPrice, priceWords}
+use Rattle.texts.specs.SawText.{Counted, PriceLines, withPrice}
+use Rattle.texts.specs.TextOf.{planRows, priceRowsFrom, priceRows}
+use Rattle.texts.specs.Held.{InPlan, PlanLimits}
+use Rattle.texts.proofs.Basics.{within-both, lowest-append, lowest-one}
+use Rattle.texts.proofs.Lists.{bytesOf, bytes-cons}
+
+-- ---- lines 3
+
+-- one line 3 more
+pub planRows-more : (rs : List Counted) (r : Counted) → planRows (rs ++ (r ∷ [])) ≡ planRows rs ++ ((3 ∷ r .plate ∷ r .item ∷ r .count ∷ []) ∷ [])
+unfolding planRows
+planRows-more [] r = refl
+planRows-more (s ∷ rs) r = ap (λ (l : List (List ℕ)). (3 ∷ s .plate ∷ s .item ∷ s .count ∷ []) ∷ l) (planRows-more rs r)
+
+-- a line for each, of 37 bytes
+pub planRows-size : (rs : List Counted) → (length (planRows rs) ≡ length rs) × (length (bytesOf (planRows rs)) ≡ 37 * length rs)
+unfolding planRows mathlib.Core.List.flatMap
+planRows-size [] = (refl, refl)
+planRows-size (r ∷ rs) =
+    let p = planRows-size rs in
+    (ap suc (p .0), bytes-cons (3 ∷ r .plate ∷ r .item ∷ r .count ∷ []) (planRows rs) ∙ omega arith)
+
+-- within their limits with one more
+pub plan-limits-more :
+    (n : ℕ) (rs : List Counted) (r : Counted)
+    → PlanLimits n rs
+    → InPlan n r
+    → PlanLimits n (rs ++ (r ∷ []))
+plan-limits-more n [] r p q = (q, tt)
+plan-limits-more n (s ∷ rs) r p q = (p .0, plan-limits-more n rs r (p .1) q)
+
+-- ---- lines 4, 5 and 6
+
+-- the line of the k-th price, of n item types
+abbrev pub priceRow : ℕ → ℕ → ℕ → List ℕ
+priceRow n k x = cond (leb k n) (5 ∷ k ∷ x ∷ []) (6 ∷ (k - n) ∷ x ∷ [])
+
+from-append : (n k : ℕ) (xs ys : List ℕ) → priceRowsFrom n k (xs ++ ys) ≡ priceRowsFrom n k xs ++ priceRowsFrom n (k + length xs) ys
+unfolding priceRowsFrom
+from-append n k [] ys = ap (λ (j : ℕ). priceRowsFrom n j ys) (omega arith)
+from-append n k (x ∷ xs) ys =
+    let e : k + suc (length xs) ≡ suc k + length xs = omega arith in
+    rw e (ap (λ (l : List (List ℕ)). priceRow n k x ∷ l) (from-append n (suc k) xs ys))
+
+row-length : (n k x : ℕ) → length (priceRow n k x) ≡ 3
+row-length n k x = go (leb k n)
+  where
+    go : (t : Bool) → length (cond t (5 ∷ k ∷ x ∷ []) (6 ∷ (k - n) ∷ x ∷ [])) ≡ 3
+    go true = refl
+    go false = refl
+
+from-size : (n k : ℕ) (xs : List ℕ) → (length (priceRowsFrom n k xs) ≡ length xs) × (length (bytesOf (priceRowsFrom n k xs)) ≡ 28 * length xs)
+unfolding priceRowsFrom mathlib.Core.List.flatMap
+from-size n k [] = (refl, refl)
+from-size n k (x ∷ xs) =
+    let p = from-size n (suc k) xs in
+    (ap suc (p .0), bytes-cons (priceRow n k x) (priceRowsFrom n (suc k) xs) ∙ omega (arith, row-length n k x))
+
+-- one line more
+pub priceRows-more :
+    (ps : PriceLines) (x k : ℕ)
+    → length (ps .words) ≡ suc k
+    → priceRows (some (withPrice ps x)) ≡ priceRows (some ps) ++ (priceRow (ps .types) (suc k) x ∷ [])
+unfolding priceRows priceRowsFrom
+priceRows-more ps x k e =
+    let d : drop 1 (ps .words ++ (x ∷ [])) ≡ drop 1 (ps .words) ++ (x ∷ []) = drop-append-le 1 (ps .words) (x ∷ []) (omega arith) in
+    let first : getD (ps .words ++ (x ∷ [])) 0 0 ≡ getD (ps .words) 0 0 = List·getD-append (ps .words) (x ∷ []) 0 0 (omega arith) in
+    let l : length (drop 1 (ps .words)) ≡ k = lib.ListN.length-drop 1 (ps .words) ∙ omega arith in
+    let place : 1 + length (drop 1 (ps .words)) ≡ suc k = omega arith in
+    let f = from-append (ps .types) 1 (drop 1 (ps .words)) (x ∷ []) in
+    rw (d, first) (ap (λ (l : List (List ℕ)). (4 ∷ getD (ps .words) 0 0 ∷ ps .types ∷ ps .residuals ∷ []) ∷ l) (rw place at f))
+
+-- at most 37 bytes for each line
+pub priceRows-bound : (o : Option PriceLines) → length (bytesOf (priceRows o)) ≤ 37 * length (priceRows o)
+unfolding priceRows mathlib.Core.List.flatMap
+priceRows-bound none = omega arith
+priceRows-bound (some ps) =
+    let p = from-size (ps .types) 1 (drop 1 (ps .words)) in
+    let b = bytes-cons (4 ∷ getD (ps .words) 0 0 ∷ ps .types ∷ ps .residuals ∷ []) (priceRowsFrom (ps .types) 1 (drop 1 (ps .words))) in
+    omega arith
+
+-- the denominator passes as a word
+pub denominator-passes : (x : ℕ) → 1 ≤ x → x ≤ maxPrice → priceWords (x ∷ []) ≡ pass
+unfolding priceWords lowestPrice
+denominator-passes x l h = lowest-one 2 (λ k y. not (within (cond (eqb k 1) 1 0) maxPrice y)) 1 x (rw (within-both 1 maxPrice x l h))
+
+-- one more price passes as a word
+pub price-passes : (ws : List ℕ) (x : ℕ) → 1 ≤ length ws → x ≤ maxPrice → priceWords ws ≡ pass → priceWords (ws ++ (x ∷ [])) ≡ pass
+unfolding priceWords lowestPrice
+price-passes ws x l h p =
+    let later : eqb (1 + length ws) 1 ≡ false = ne-eqb (1 + length ws) 1 (λ q. omega arith) in
+    lowest-append 2 (λ k y. not (within (cond (eqb k 1) 1 0) maxPrice y)) 1 ws (x ∷ []) p
+    (lowest-one 2 (λ k y. not (within (cond (eqb k 1) 1 0) maxPrice y)) (1 + length ws) x (rw (later, within-both 0 maxPrice x (omega arith) h)))

@@ -1,0 +1,243 @@
+-- The saw program's output is read back: lines 7 as the placements, line 8 as boards, sum, D and fewest; and its lines 7 are a fold text.
+-- Assumes nothing.
+use Prim.Native.Nat.{ℕ, zero, suc, _+_, _*_, _≤_, _<_}
+use native.Mathlib.Omega.{arith}
+use native.Mathlib.Nat.{mul-le-mul-right}
+use mathlib.Core.Path.{_≡_, refl, sym, ap, _∙_}
+use mathlib.Core.Bool.{Bool, true, false, not, cond}
+use mathlib.Core.List.{List, [], _∷_, _++_, map, flatMap}
+use mathlib.Core.Option.{Option, none, some}
+use lib.Dec.{ltb, eqb}
+use lib.ListN.{length, getD, take, drop, length-append}
+use borrow.Author.Tests.{ltb-false, not-false}
+use Rattle.job.specs.declared.item.Item.{Item}
+use Rattle.job.specs.Lists.{all, sumOf}
+use Rattle.job.specs.Verdict.{pass, refuseIf, within, lowest}
+use Rattle.job.specs.Job.{Job, maxPieces, jobOf, jobWords, larger, demanded, admission}
+use Rattle.plan.specs.Prices.{maxPrice, pricesOf, lowestPrice, priceWords, priced, priceSum, fewest}
+use Rattle.layouts.specs.Placement.{Placement, placementWords}
+use Rattle.layouts.specs.Lines.{rowRight, setOf}
+use Rattle.layouts.specs.Fold.{folded}
+use Rattle.listing.specs.Listing.{Cut, listingOf}
+use Rattle.columns.specs.Group.{limit}
+use Rattle.columns.specs.Line.{Fit, lineOf}
+use Rattle.texts.specs.Shape.{layoutLine}
+use Rattle.texts.specs.JobLines.{Place, body, typesOf}
+use Rattle.texts.specs.Reader.{started, fed, textRow, written}
+use Rattle.texts.specs.SawText.{Counted, PriceLines, Saw, sawGrammar, sawRows, placementLine, resultLine, sawLines, sawWritten, sawText}
+use Rattle.texts.specs.FoldText.{Fold, foldComplete, foldGrammar, countLines, foldLines}
+use Rattle.texts.specs.Admitted.{Text}
+use Rattle.texts.specs.TextOf.{jobRows, planRows, placementRow}
+use Rattle.texts.specs.Held.{PricesHeld, SawHeld}
+use Rattle.texts.specs.Printed.{linesIn, AllFit, resultRow, sawHolds, sawRun, printedRows, countedOf, PrintedBack}
+use Rattle.texts.proofs.Basics.{within-parts, then-parts, refuseIf-passed, lowest-parts, all-parts, all-lowest}
+use Rattle.texts.proofs.Lists.{bytesOf, bytes-more, flatMap-append}
+use Rattle.texts.proofs.ReaderLaws.{standing}
+use Rattle.texts.proofs.LinesIn.{lines-both-ways}
+use Rattle.texts.proofs.ShapeLaws.{narrow-layout, shape-fits}
+use Rattle.texts.proofs.JobLaws.{JobWhole, passes-job, job-types, board-types}
+use Rattle.texts.proofs.LayoutRows.{right-row, placementRows-size}
+use Rattle.texts.proofs.JobRows.{jobRows-size}
+use Rattle.texts.proofs.JobRuns.{job-runs}
+use Rattle.texts.proofs.Running.{runs-append}
+use Rattle.texts.proofs.WholeTexts.{text-read, text-row}
+use Rattle.texts.proofs.SawTexts.{saw-both-ways}
+use Rattle.texts.proofs.FoldTexts.{fold, fold-plain, fold-opens, layouts-run}
+
+-- ---- the output is lines of numbers
+
+placement-lines : (ps : List Placement) → flatMap placementLine ps ≡ bytesOf (map placementRow ps)
+unfolding flatMap placementLine placementRow
+placement-lines [] = refl
+placement-lines (p ∷ ps) = ap (λ (l : List ℕ). placementLine p ++ l) (placement-lines ps)
+
+result-line : (job : Job) (n : ℕ) (o : Option PriceLines) → resultLine job n o ≡ lineOf (resultRow job n o)
+unfolding resultLine resultRow
+result-line job n none = refl
+result-line job n (some ps) = refl
+
+printed-lines : (s : Saw) → sawLines s ≡ bytesOf (printedRows s)
+unfolding sawLines printedRows
+printed-lines s =
+    let job : Job = jobOf (s .job) in
+    let n : ℕ = sawRun s .last .turn .board in
+    let rows : List (List ℕ) = map placementRow (sawRun s .placements) in
+    ap (λ (l : List ℕ). l ++ resultLine job n (s .prices)) (placement-lines (sawRun s .placements))
+    ∙ ap (λ (l : List ℕ). bytesOf rows ++ l) (result-line job n (s .prices))
+    ∙ sym (bytes-more rows (resultRow job n (s .prices)))
+
+-- the lines 3 of a fold
+count-lines : (cs : List Cut) (ns : List ℕ) → countLines cs ns ≡ bytesOf (planRows (countedOf cs ns))
+unfolding countLines countedOf planRows flatMap
+count-lines [] ns = refl
+count-lines (c ∷ cs) [] = refl
+count-lines (c ∷ cs) (n ∷ ns) = go (eqb n 0) (count-lines cs ns)
+  where
+    row : Counted
+    row = record { plate = c .plate; item = c .item; count = n }
+
+    go :
+        (t : Bool)
+        → countLines cs ns ≡ bytesOf (planRows (countedOf cs ns))
+        → elim t [ true ↦ countLines cs ns | false ↦ lineOf (3 ∷ c .plate ∷ c .item ∷ n ∷ []) ++ countLines cs ns ]
+        ≡ bytesOf (planRows (elim t [ true ↦ countedOf cs ns | false ↦ row ∷ countedOf cs ns ]))
+    go true ih = ih
+    go false ih = ap (λ (l : List ℕ). lineOf (3 ∷ c .plate ∷ c .item ∷ n ∷ []) ++ l) ih
+
+fold-lines :
+    (f : Fold)
+    → foldLines f
+    ≡ bytesOf (planRows (countedOf (listingOf (jobOf (f .job)) .cuts) (folded (jobOf (f .job)) (listingOf (jobOf (f .job))) (setOf (f .layouts)))))
+unfolding foldLines
+fold-lines f =
+    count-lines (listingOf (jobOf (f .job)) .cuts) (folded (jobOf (f .job)) (listingOf (jobOf (f .job))) (setOf (f .layouts)))
+
+-- ---- the sum
+
+-- each of some numbers is at most m
+abbrev Capped : ℕ → List ℕ → Type 0
+Capped m [] = Unit {0}
+Capped m (x ∷ xs) = (x ≤ m) × Capped m xs
+
+capped-drop : (m k : ℕ) (xs : List ℕ) → Capped m xs → Capped m (drop k xs)
+capped-drop m zero xs c = c
+capped-drop m (suc k) [] c = tt
+capped-drop m (suc k) (x ∷ xs) c = capped-drop m k xs (c .1)
+
+capped-take : (m k : ℕ) (xs : List ℕ) → Capped m xs → Capped m (take k xs)
+capped-take m zero xs c = tt
+capped-take m (suc k) [] c = tt
+capped-take m (suc k) (x ∷ xs) c = (c .0, capped-take m k xs (c .1))
+
+capped-getD : (m k : ℕ) (xs : List ℕ) → Capped m xs → getD xs k 0 ≤ m
+capped-getD m zero [] c = omega arith
+capped-getD m (suc k) [] c = omega arith
+capped-getD m zero (x ∷ xs) c = c .0
+capped-getD m (suc k) (x ∷ xs) c = capped-getD m k xs (c .1)
+
+prices-capped : (k : ℕ) (ws : List ℕ) → lowest 2 (λ j x. not (within (lowestPrice j) maxPrice x)) k ws ≡ pass → Capped maxPrice ws
+prices-capped k [] h = tt
+prices-capped k (x ∷ ws) h =
+    let p = lowest-parts 2 (λ j y. not (within (lowestPrice j) maxPrice y)) k x ws h in
+    (within-parts (lowestPrice k) maxPrice x (not-false (within (lowestPrice k) maxPrice x) (p .0)) .1, prices-capped (suc k) ws (p .1))
+
+-- prices of at most m come to at most m times the demands
+priced-capped : (m : ℕ) (items : List Item) (ps : List ℕ) → Capped m ps → priced items ps ≤ m * sumOf (λ it. it .demand) items
+unfolding priced sumOf
+priced-capped m [] ps c = omega arith
+priced-capped m (it ∷ items) [] c = omega arith
+priced-capped m (it ∷ items) (p ∷ ps) c =
+    let r = priced-capped m items ps (c .1) in omega (arith, mul-le-mul-right (it .demand) (c .0))
+
+-- the demands of an admitted job come to at most 4,000
+admitted-demands : (job : Job) → admission job ≡ pass → demanded job ≤ maxPieces
+unfolding admission
+admitted-demands job h =
+    let p = then-parts (lowest 3 (λ _ it. larger job it) 1 (job .items)) (refuseIf (ltb maxPieces (demanded job)) 4 0) h in
+    ltb-false maxPieces (demanded job) (refuseIf-passed (ltb maxPieces (demanded job)) 4 0 (p .1))
+
+-- ---- the numbers fit nine columns
+
+fit-result : (job : Job) (n : ℕ) (p : Place) (o : Option PriceLines) → admission job ≡ pass → PricesHeld p o → n ≤ maxPieces → Fit (resultRow job n o)
+unfolding Fit resultRow priceSum pricesOf priceWords demanded
+fit-result job n p none a h l = omega arith
+fit-result job n p (some ps) a h l =
+    let c = prices-capped 1 (ps .words) (h .1 .words) in
+    let d = admitted-demands job a in
+    let n′ : ℕ = length (job .items) in
+    let items = capped-take maxPrice n′ (drop 1 (ps .words)) (capped-drop maxPrice 1 (ps .words) c) in
+    let sum = priced-capped maxPrice (job .items) (take n′ (drop 1 (ps .words))) items in
+    let D = capped-getD maxPrice 0 (ps .words) c in
+    (omega arith, (omega arith, (omega arith, (omega arith, (few (fewest job (pricesOf job (ps .words)) n), tt)))))
+  where
+    few : (t : Bool) → cond t 1 0 < limit
+    few true = omega arith
+    few false = omega arith
+
+fit-placements : (ws : List ℕ) → JobWhole ws → (ps : List Placement) → all (rowRight (jobOf ws)) ps ≡ true → AllFit (map placementRow ps)
+fit-placements ws j [] h = tt
+fit-placements ws j (p ∷ ps) h =
+    let a = all-parts (rowRight (jobOf ws)) p ps h in
+    let n = board-types ws (j .board) in
+    let shape = right-row (jobOf ws) (typesOf ws) p (job-types ws j) (a .0) in
+    (shape-fits (layoutLine (typesOf ws)) (placementRow p) (narrow-layout (typesOf ws) (omega arith)) shape, fit-placements ws j ps (a .1))
+
+fit-append : (mss nss : List (List ℕ)) → AllFit mss → AllFit nss → AllFit (mss ++ nss)
+fit-append [] nss f g = g
+fit-append (ms ∷ mss) nss f g = (f .0, fit-append mss nss (f .1) g)
+
+-- ---- read back
+
+rows-admission : (s : Saw) → sawRows s ≡ pass → admission (jobOf (s .job)) ≡ pass
+unfolding sawRows
+rows-admission s h = then-parts (admission (jobOf (s .job))) _ h .0
+
+printed-back :
+    (s : Saw)
+    → SawHeld s
+    → sawRows s ≡ pass
+    → all (rowRight (jobOf (s .job))) (sawRun s .placements) ≡ true
+    → sawRun s .last .turn .board ≤ maxPieces
+    → linesIn (sawLines s) ≡ some (printedRows s)
+unfolding printedRows
+printed-back s h r a b =
+    let j = passes-job (s .job) (h .job) in
+    let n : ℕ = sawRun s .last .turn .board in
+    let rows : List (List ℕ) = map placementRow (sawRun s .placements) in
+    let ps = fit-placements (s .job) j (sawRun s .placements) a in
+    let last = fit-result (jobOf (s .job)) n (s .place) (s .prices) (rows-admission s r) (h .prices) b in
+    ap linesIn (printed-lines s)
+    ∙ lines-both-ways .written (printedRows s) (fit-append rows (resultRow (jobOf (s .job)) n (s .prices) ∷ []) ps (last, tt))
+
+-- the answer to an accepted text is what is written of its plan
+accepted :
+    (bs : List ℕ)
+    → textRow sawGrammar (fed sawGrammar (started sawGrammar) bs) ≡ pass
+    → sawRows (sawHolds bs) ≡ pass
+    → sawText bs ≡ sawLines (sawHolds bs)
+unfolding sawText sawWritten written
+accepted bs t r = rw (t, r)
+
+-- ---- lines 7 after the job's lines
+
+fold-count : (ws : List ℕ) (ps : List Placement) → JobWhole ws → length (jobRows ws ++ map placementRow ps) ≡ suc (typesOf ws) + length ps
+fold-count ws ps j =
+    length-append (jobRows ws) (map placementRow ps) ∙ omega (arith, placementRows-size ps .0, jobRows-size (typesOf ws) ws (j .size) .0)
+
+fold-text :
+    (ws : List ℕ) (ps : List Placement)
+    → jobWords ws ≡ pass
+    → all (rowRight (jobOf ws)) ps ≡ true
+    → length ps ≤ maxPieces
+    → Text foldGrammar (bytesOf (jobRows ws) ++ flatMap placementLine ps) (fold body ws (placementWords ps))
+unfolding foldComplete
+fold-text ws ps h a l =
+    let j = passes-job ws h in
+    let n = board-types ws (j .board) in
+    let k = fold-count ws ps j in
+    record {
+      lines = jobRows ws ++ map placementRow ps;
+      bytes = ap (λ (l : List ℕ). bytesOf (jobRows ws) ++ l) (placement-lines ps) ∙ sym (flatMap-append lineOf (jobRows ws) (map placementRow ps));
+      few = omega arith;
+      runs =
+          runs-append foldGrammar (foldGrammar .start) (fold body ws []) (fold body ws (placementWords ps)) (jobRows ws) (map placementRow ps)
+          (job-runs foldGrammar (λ p us. fold p us []) fold-opens ws j)
+          (layouts-run ws [] 1 ps j (all-lowest (rowRight (jobOf ws)) 2 1 ps a));
+      whole = refl;
+    }
+
+-- the output read back
+pub printed : PrintedBack
+unfolding fold-text
+printed =
+    record {
+      lines = printed-lines;
+      back = λ bs t r a b. ap linesIn (accepted bs t r) ∙ printed-back (sawHolds bs) (saw-both-ways .read bs t .0) r a b;
+      counts = fold-lines;
+      folds = λ ws ps h a l.
+          let t = fold-text ws ps h a l in (
+            text-read foldGrammar fold-plain (bytesOf (jobRows ws) ++ flatMap placementLine ps) (fold body ws (placementWords ps)) t
+                ∙ ap (standing foldGrammar (fold body ws (placementWords ps))) (fold-count ws ps (passes-job ws h)),
+            text-row foldGrammar fold-plain (bytesOf (jobRows ws) ++ flatMap placementLine ps) (fold body ws (placementWords ps)) t,
+          );
+    }

@@ -1,0 +1,118 @@
+-- Document 01, "Texts": any text of lines read as its numbers, what the programs write as numbers, and what it says when it is read back.
+-- Assumes nothing.
+use Prim.Native.Nat.{ℕ, suc, _+_, _≤_}
+use mathlib.Core.Path.{_≡_}
+use mathlib.Core.Bool.{true, false, cond}
+use mathlib.Core.List.{List, [], _∷_, _++_, map, flatMap}
+use mathlib.Core.Option.{Option, none, some}
+use lib.Dec.{eqb}
+use lib.ListN.{length}
+use Rattle.job.specs.Lists.{all}
+use Rattle.job.specs.Verdict.{pass}
+use Rattle.job.specs.Job.{Job, maxPieces, jobOf, jobWords}
+use Rattle.listing.specs.Listing.{Cut, listingOf}
+use Rattle.plan.specs.Prices.{pricesOf, priceSum, fewest}
+use Rattle.layouts.specs.Placement.{Placement, placementWords}
+use Rattle.layouts.specs.Lines.{rowRight, setOf}
+use Rattle.layouts.specs.Unfold.{Run, unfolded}
+use Rattle.layouts.specs.Fold.{folded}
+use Rattle.columns.specs.Line.{Fit, lineOf, readLine}
+use Rattle.texts.specs.Reader.{started, fed, textRow}
+use Rattle.texts.specs.JobLines.{body, typesOf}
+use Rattle.texts.specs.SawText.{Counted, PriceLines, Saw, sawGrammar, planCounts, sawRows, placementLine, sawLines, sawText}
+use Rattle.texts.specs.FoldText.{Fold, foldGrammar, foldLines}
+use Rattle.texts.specs.TextOf.{jobRows, planRows, placementRow}
+
+-- a line before the lines after it
+abbrev pub alsoLine : Option (List ℕ) → Option (List (List ℕ)) → Option (List (List ℕ))
+alsoLine none o = none
+alsoLine (some ns) none = none
+alsoLine (some ns) (some nss) = some (ns ∷ nss)
+
+-- the numbers of the lines of a text, where `begun` are the bytes of the line that has begun
+unfoldable pub linesFrom : List ℕ → List ℕ → Option (List (List ℕ))
+linesFrom [] [] = some []
+linesFrom (c ∷ begun) [] = none
+linesFrom begun (b ∷ bs) =
+    elim (eqb b 10) [
+      | true ↦ alsoLine (readLine (begun ++ (b ∷ []))) (linesFrom [] bs)
+      | false ↦ linesFrom (begun ++ (b ∷ [])) bs
+    ]
+
+-- the numbers of the lines of a text, if it is lines of numbers
+unfoldable pub linesIn : List ℕ → Option (List (List ℕ))
+linesIn bs = linesFrom [] bs
+
+-- the numbers of each line fit nine columns
+abbrev pub AllFit : List (List ℕ) → Type 0
+AllFit [] = Unit {0}
+AllFit (ns ∷ nss) = Fit ns × AllFit nss
+
+-- lines of numbers both ways
+pub record LinesBothWays : Type 0 where
+  pub read : (bs : List ℕ) (nss : List (List ℕ)) → linesIn bs ≡ some nss → (bs ≡ flatMap lineOf nss) × AllFit nss
+  pub written : (nss : List (List ℕ)) → AllFit nss → linesIn (flatMap lineOf nss) ≡ some nss
+
+-- line 8 as numbers
+unfoldable pub resultRow : Job → ℕ → Option PriceLines → List ℕ
+resultRow job n none = 8 ∷ n ∷ 0 ∷ 1 ∷ 0 ∷ []
+resultRow job n (some pl) =
+    let ps = pricesOf job (pl .words) in
+    8 ∷ n ∷ priceSum job ps ∷ ps .denominator ∷ cond (fewest job ps n) 1 0 ∷ []
+
+-- what a saw text holds
+abbrev pub sawHolds : List ℕ → Saw
+sawHolds bs = fed sawGrammar (started sawGrammar) bs .state
+
+-- the unfolding that it asks for
+abbrev pub sawRun : Saw → Run
+sawRun s =
+    let l = listingOf (jobOf (s .job)) in unfolded (jobOf (s .job)) l (planCounts l (s .plan))
+
+-- what the saw program writes, as numbers: a line 7 for each placement, then line 8
+unfoldable pub printedRows : Saw → List (List ℕ)
+printedRows s =
+    map placementRow (sawRun s .placements) ++ (resultRow (jobOf (s .job)) (sawRun s .last .turn .board) (s .prices) ∷ [])
+
+-- the counted cuts of a fold, as lines 3
+unfoldable pub countedOf : List Cut → List ℕ → List Counted
+countedOf [] ns = []
+countedOf (c ∷ cs) [] = []
+countedOf (c ∷ cs) (n ∷ ns) =
+    elim (eqb n 0) [
+      | true ↦ countedOf cs ns
+      | false ↦ record { plate = c .plate; item = c .item; count = n } ∷ countedOf cs ns
+    ]
+
+-- the output of the saw program read back; of the placements it is assumed that they are within the limits of line 7, and of the boards that they
+-- are at most 4,000
+pub record PrintedBack : Type 0 where
+  -- what is written of an accepted plan is lines of these numbers
+  pub lines : (s : Saw) → sawLines s ≡ flatMap lineOf (printedRows s)
+  -- and they are read back from the answer to an accepted text
+  pub back :
+      (bs : List ℕ)
+      → textRow sawGrammar (fed sawGrammar (started sawGrammar) bs) ≡ pass
+      → sawRows (sawHolds bs) ≡ pass
+      → all (rowRight (jobOf (sawHolds bs .job))) (sawRun (sawHolds bs) .placements) ≡ true
+      → sawRun (sawHolds bs) .last .turn .board ≤ maxPieces
+      → linesIn (sawText bs) ≡ some (printedRows (sawHolds bs))
+  -- what the fold program writes is the lines 3 of the cuts counted
+  pub counts :
+      (f : Fold)
+      → foldLines f
+      ≡ flatMap lineOf (planRows (countedOf (listingOf (jobOf (f .job)) .cuts) (folded (jobOf (f .job)) (listingOf (jobOf (f .job))) (setOf (f .layouts)))))
+  -- after the job's lines the lines 7 are a fold text, which holds the job's words and the placements
+  pub folds :
+      (ws : List ℕ) (ps : List Placement)
+      → jobWords ws ≡ pass
+      → all (rowRight (jobOf ws)) ps ≡ true
+      → length ps ≤ maxPieces
+      → (fed foldGrammar (started foldGrammar) (flatMap lineOf (jobRows ws) ++ flatMap placementLine ps)
+      ≡ record {
+        state = record { place = body; job = ws; layouts = placementWords ps };
+        lines = suc (typesOf ws) + length ps;
+        pending = [];
+        verdict = pass;
+      })
+      × (textRow foldGrammar (fed foldGrammar (started foldGrammar) (flatMap lineOf (jobRows ws) ++ flatMap placementLine ps)) ≡ pass)

@@ -1,0 +1,104 @@
+-- What holds of texts, as statements: lines and texts both ways, texts in parts, how much of a text decides, and texts as calls.
+-- Assumes nothing.
+use Prim.Native.Nat.{ℕ, _≤_, _<_}
+use mathlib.Core.Path.{_≡_}
+use mathlib.Core.Logic.{_↔_}
+use mathlib.Core.List.{List, [], _∷_, _++_}
+use mathlib.Core.Option.{some}
+use lib.ListN.{length, take}
+use Rattle.job.specs.Verdict.{pass, refuse}
+use Rattle.job.specs.Buffers.{filled, platesSize, cutsSize, countsSize}
+use Rattle.job.specs.Job.{jobOf}
+use Rattle.listing.specs.Listing.{listingOf}
+use Rattle.plan.specs.PlanCall.{planVerdict}
+use Rattle.plan.specs.PriceCall.{priceVerdict}
+use Rattle.layouts.specs.FoldCall.{foldVerdict}
+use Rattle.columns.specs.Line.{Fit, lineOf, readLine}
+use Rattle.texts.specs.Shape.{Shape, lineRow}
+use Rattle.texts.specs.Reader.{Grammar, Reader, started, lineRead, fed, textRow}
+use Rattle.texts.specs.SawText.{PriceLines, Saw, sawGrammar, planCounts, sawRows, sawText}
+use Rattle.texts.specs.FoldText.{Fold, foldGrammar, foldRows, foldText}
+use Rattle.texts.specs.Admitted.{OfShape, Admitted}
+use Rattle.texts.specs.Held.{SawHeld, FoldHeld, SawBothWays, FoldBothWays}
+use Rattle.texts.specs.Printed.{LinesBothWays, PrintedBack}
+
+-- a line, both ways
+pub record OneLine : Type 0 where
+  -- reading what was written gives the numbers
+  pub read : (ns : List ℕ) → Fit ns → readLine (lineOf ns) ≡ some ns
+  -- writing what was read gives the bytes
+  pub written : (bs ns : List ℕ) → readLine bs ≡ some ns → (bs ≡ lineOf ns) × Fit ns
+  -- a line that the line row passes is written of numbers of an admitted shape, each within its limits
+  pub admitted :
+      (line : ℕ) (ss : List Shape) (bs : List ℕ)
+      → lineRow line ss (readLine bs) ≡ pass
+      → (ns : List ℕ) × (bs ≡ lineOf ns) × Fit ns × Admitted ss ns
+  -- and every line of a shape, its numbers within their limits, passes as it is written
+  pub passes :
+      (line : ℕ) (s : Shape) (ss : List Shape) (ns : List ℕ)
+      → OfShape s ns
+      → Fit ns
+      → lineRow line (s ∷ ss) (readLine (lineOf ns)) ≡ pass
+
+-- a text in parts, of any grammar
+pub record InParts {S : Type 0} (g : Grammar S) : Type 0 where
+  -- one part after another is the whole
+  pub parts : (r : Reader S) (as′ bs : List ℕ) → fed g r (as′ ++ bs) ≡ fed g (fed g r as′) bs
+  -- once refused a text stays as it is
+  pub refused : (r : Reader S) (bs : List ℕ) (n p : ℕ) → r .verdict ≡ refuse n p → fed g r bs ≡ r
+  -- a line written of at most eight numbers is read at once
+  pub line :
+      (r : Reader S) (ns : List ℕ)
+      → r .verdict ≡ pass
+      → r .lines < 99999
+      → r .pending ≡ []
+      → Fit ns
+      → length ns ≤ 8
+      → fed g r (lineOf ns) ≡ lineRead g r (some ns)
+  -- any byte after 99,999 lines is 1, line 100,000
+  pub over :
+      (bs : List ℕ) (b : ℕ) (cs : List ℕ)
+      → fed g (started g) bs .verdict ≡ pass
+      → fed g (started g) bs .lines ≡ 99999
+      → fed g (started g) (bs ++ (b ∷ cs)) .verdict ≡ refuse 1 100000
+  -- what a reader keeps of a line that has begun is at most 72 bytes
+  pub kept : (bs : List ℕ) → length (fed g (started g) bs .pending) ≤ 72
+
+-- how much of a text decides
+pub record Decided : Type 0 where
+  pub saw-bytes : (bs : List ℕ) → textRow sawGrammar (fed sawGrammar (started sawGrammar) bs) ≡ pass → length bs ≤ 3700341
+  pub fold-bytes : (bs : List ℕ) → textRow foldGrammar (fed foldGrammar (started foldGrammar) bs) ≡ pass → length bs ≤ 7299882
+  pub saw : (n : ℕ) (bs : List ℕ) → 3700342 ≤ n → sawText (take n bs) ≡ sawText bs
+  pub fold : (n : ℕ) (bs : List ℕ) → 7299883 ≤ n → foldText (take n bs) ≡ foldText bs
+
+-- texts and calls, lent and passed buffers of their full sizes
+pub record AsCalls (plates cuts : List ℕ) : Type 0 where
+  -- what a saw text accepts, the plan test and the price test accept
+  pub plan :
+      (s : Saw)
+      → SawHeld s
+      → sawRows s ≡ pass
+      → planVerdict (s .job) (filled countsSize (planCounts (listingOf (jobOf (s .job))) (s .plan))) plates cuts ≡ pass
+  pub prices :
+      (s : Saw) (ps : PriceLines)
+      → SawHeld s
+      → sawRows s ≡ pass
+      → s .prices ≡ some ps
+      → priceVerdict (s .job) (ps .words) plates cuts ≡ pass
+  -- a fold text is accepted just where folding accepts its words
+  pub fold :
+      (f : Fold) (counts : List ℕ)
+      → FoldHeld f
+      → countsSize ≤ length counts
+      → foldRows f ≡ pass ↔ foldVerdict (f .job) (f .layouts) plates cuts counts ≡ pass
+
+-- all of these
+pub record TextLaws : Type 1 where
+  pub one-line : OneLine
+  pub lines : LinesBothWays
+  pub saw : SawBothWays
+  pub fold : FoldBothWays
+  pub in-parts : {S : Type 0} (g : Grammar S) → InParts g
+  pub printed : PrintedBack
+  pub decided : Decided
+  pub as-calls : (plates cuts : List ℕ) → platesSize ≤ length plates → cutsSize ≤ length cuts → AsCalls plates cuts
