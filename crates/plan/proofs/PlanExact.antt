@@ -1,10 +1,10 @@
 -- Document 01, "Plan": what the plan test says in plain statements, both ways, and that words past the last cut play no part in it.
 -- Assumes nothing.
-use Prim.Native.Nat.{ℕ, zero, suc, _+_, _-_, _≤_, _<_}
+use Prim.Native.Nat.{ℕ, zero, suc, _+_, _-_, _≤_, _<_, zero-le}
 use native.Mathlib.Omega.{arith}
 use mathlib.Core.Path.{_≡_, refl, sym, ap}
 use mathlib.Core.Logic.{_↔_, _⊎_, inl, inr}
-use mathlib.Core.Bool.{Bool, false, not}
+use mathlib.Core.Bool.{Bool, true, false, cond, not}
 use mathlib.Core.List.{List, [], _∷_}
 use lib.Dec.{eqb}
 use lib.ListN.{length, getD, take, drop, length-drop, List·getD-eq-default}
@@ -128,3 +128,14 @@ module _ (job : Job) (l : Listing) (ns : List ℕ) (none : NonePast l ns) where
   pub boards-take : boards l (take (length (l .cuts)) ns) ≡ boards l ns
   unfolding boards
   boards-take = countOf-take (onPlate 0) (l .cuts) ns
+
+-- the counts of some cuts are at most all counts together
+pub countOf-total : (test : Cut → Bool) (cs : List Cut) (ns : List ℕ) → countOf test cs ns ≤ total ns
+unfolding countOf total sumOf
+countOf-total test [] ns = zero-le
+countOf-total test (c ∷ cs) [] = zero-le
+countOf-total test (c ∷ cs) (n ∷ ns) = go (test c) (countOf-total test cs ns)
+  where
+    go : (t : Bool) → countOf test cs ns ≤ total ns → cond t n 0 + countOf test cs ns ≤ n + total ns
+    go true h = omega arith
+    go false h = omega arith

@@ -20,6 +20,7 @@ pub mod SawTexts
 pub mod Prefix
 pub mod LongTexts
 pub mod LinesIn
+pub mod SawDemand
 pub mod Printed
 pub mod CallRows
 pub mod FoldRows

@@ -30,6 +30,7 @@ use Rattle.texts.specs.Admitted.{Text}
 use Rattle.texts.specs.TextOf.{jobRows, planRows, placementRow}
 use Rattle.texts.specs.Held.{PricesHeld, SawHeld}
 use Rattle.texts.specs.Printed.{linesIn, AllFit, resultRow, sawHolds, sawRun, printedRows, countedOf, PrintedBack}
+use Rattle.texts.proofs.SawDemand.{saw-placed, saw-boards}
 use Rattle.texts.proofs.Basics.{within-parts, then-parts, refuseIf-passed, lowest-parts, all-parts, all-lowest}
 use Rattle.texts.proofs.Lists.{bytesOf, bytes-more, flatMap-append}
 use Rattle.texts.proofs.ReaderLaws.{standing}
@@ -232,7 +233,10 @@ unfolding fold-text
 printed =
     record {
       lines = printed-lines;
-      back = λ bs t r a b. ap linesIn (accepted bs t r) ∙ printed-back (sawHolds bs) (saw-both-ways .read bs t .0) r a b;
+      back = λ bs t r.
+          let held = saw-both-ways .read bs t .0 in
+          ap linesIn (accepted bs t r)
+          ∙ printed-back (sawHolds bs) held r (saw-placed (sawHolds bs) held r) (saw-boards (sawHolds bs) held r);
       counts = fold-lines;
       folds = λ ws ps h a l.
           let t = fold-text ws ps h a l in (

@@ -84,8 +84,7 @@ countedOf (c ∷ cs) (n ∷ ns) =
       | false ↦ record { plate = c .plate; item = c .item; count = n } ∷ countedOf cs ns
     ]
 
--- the output of the saw program read back; of the placements it is assumed that they are within the limits of line 7, and of the boards that they
--- are at most 4,000
+-- the output of the programs read back
 pub record PrintedBack : Type 0 where
   -- what is written of an accepted plan is lines of these numbers
   pub lines : (s : Saw) → sawLines s ≡ flatMap lineOf (printedRows s)
@@ -94,8 +93,6 @@ pub record PrintedBack : Type 0 where
       (bs : List ℕ)
       → textRow sawGrammar (fed sawGrammar (started sawGrammar) bs) ≡ pass
       → sawRows (sawHolds bs) ≡ pass
-      → all (rowRight (jobOf (sawHolds bs .job))) (sawRun (sawHolds bs) .placements) ≡ true
-      → sawRun (sawHolds bs) .last .turn .board ≤ maxPieces
       → linesIn (sawText bs) ≡ some (printedRows (sawHolds bs))
   -- what the fold program writes is the lines 3 of the cuts counted
   pub counts :

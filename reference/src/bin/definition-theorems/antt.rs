@@ -1,5 +1,6 @@
 //! Lists, texts and theorems as antt writes them.
 
+use reference::Refusal;
 use std::fmt::Write;
 
 /// The shortest run of equal words that is written as a repetition.
@@ -71,6 +72,17 @@ pub fn bytes(text: &[u8]) -> String {
 /// Whether a byte stands for itself in quoted text.
 fn is_quoted(byte: &u8) -> bool {
     (b' '..=b'~').contains(byte) && !b"\"\\".contains(byte)
+}
+
+/// What a call answers, and plates, cuts and the third buffer, if there is one, when it ends.
+pub fn outcome(answer: &Result<Vec<u32>, Refusal>, lent: &[Vec<u16>]) -> Vec<String> {
+    let answer = match answer {
+        Ok(results) => format!("outcome (given {})", numbers(results)),
+        Err(refusal) => format!("outcome (refused {} {})", refusal.number, refusal.place),
+    };
+    let third = (lent.len() == 2).then(|| words(&[]));
+    let ends = lent.iter().map(|buffer| words(buffer)).chain(third);
+    std::iter::once(answer).chain(ends).collect()
 }
 
 /// The first lines of a file of theorems.

@@ -1,6 +1,6 @@
 //! Theorems over the five calls: the answer, and every lent buffer when the call ends.
 
-use crate::antt::{numbers, words, Equation};
+use crate::antt::{outcome, words, Equation};
 use crate::damage::{damage_job, damage_order, damage_words, Words};
 use crate::inputs::{random_layouts, random_plan, random_prices, Model};
 use crate::random::Random;
@@ -60,18 +60,25 @@ struct Input {
 pub fn theorem(random: &mut Random, call: Call) -> Theorem {
     loop {
         let input = random_input(random, call);
-        let mut after = input.lent.clone();
-        let answer = answer(call, &input, &mut after);
+        let mut lent = input.lent.clone();
+        let answer = answer(call, &input, &mut lent);
         let placed = match (call, &answer) {
             (Call::Unfolding, Ok(results)) => results[1],
             _ => 0,
         };
-        if placed <= MOST_PLACED {
-            return Theorem {
-                equation: equation(call, &input, &answer, &after),
-                refusal: answer.err().map(|refusal| refusal.number),
-            };
+        if placed > MOST_PLACED {
+            continue;
         }
+        let own = (call != Call::Listing).then_some(&input.own);
+        let arguments = [&input.job].into_iter().chain(own).chain(&input.lent);
+        return Theorem {
+            equation: Equation {
+                definition: call.definition(),
+                arguments: arguments.map(|argument| words(argument)).collect(),
+                answer: outcome(&answer, &lent),
+            },
+            refusal: answer.err().map(|refusal| refusal.number),
+        };
     }
 }
 
@@ -192,27 +199,5 @@ fn answer(call: Call, input: &Input, lent: &mut [Vec<u16>]) -> Result<Vec<u32>, 
             calls::fold(job, own, plates, cuts, counts).map(|boards| vec![boards])
         }
         _ => unreachable!("each call is lent its buffers"),
-    }
-}
-
-/// The call's outcome, as the definition and as the reference have it.
-fn equation(
-    call: Call,
-    input: &Input,
-    answer: &Result<Vec<u32>, Refusal>,
-    after: &[Vec<u16>],
-) -> Equation {
-    let own = (call != Call::Listing).then_some(&input.own);
-    let arguments = [&input.job].into_iter().chain(own).chain(&input.lent);
-    let answer = match answer {
-        Ok(results) => format!("outcome (given {})", numbers(results)),
-        Err(refusal) => format!("outcome (refused {} {})", refusal.number, refusal.place),
-    };
-    let no_third = (after.len() == 2).then(|| words(&[]));
-    let ends = after.iter().map(|buffer| words(buffer)).chain(no_third);
-    Equation {
-        definition: call.definition(),
-        arguments: arguments.map(|argument| words(argument)).collect(),
-        answer: std::iter::once(answer).chain(ends).collect(),
     }
 }

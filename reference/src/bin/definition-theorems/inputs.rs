@@ -146,10 +146,9 @@ fn random_plate(random: &mut Random, listing: &Listing, waiting: &mut Vec<u16>) 
     }
     waiting.sort_by_key(|&plate| listing.plates[usize::from(plate)].stage);
     let last = waiting.len() - 1;
-    let at = if random.once_in(3) {
-        random.below(last + 1)
-    } else {
-        last
+    let at = match random.once_in(3) {
+        true => random.below(last + 1),
+        false => last,
     };
     waiting.remove(at)
 }

@@ -1,7 +1,7 @@
 //! Theorems below the calls: the walk within small limits, sets of layouts and their rules,
 //! rectangles, and whether a plan is the fewest.
 
-use crate::antt::{list, numbers, words, Equation};
+use crate::antt::{list, numbers, outcome, words, Equation};
 use crate::inputs::{grow_anywhere, random_prices, random_set, words_of_lines, Model};
 use crate::random::Random;
 use crate::Theorem;
@@ -24,33 +24,20 @@ pub fn walk_theorem(random: &mut Random) -> Theorem {
         cuts: about(random, cuts),
     };
     let walked = Listing::walk(&model.job, limits);
-    let answer = match &walked {
-        Ok(listing) => vec![
-            format!(
-                "outcome (given ({} ∷ {} ∷ []))",
-                listing.residual_types(),
-                listing.cuts.len()
-            ),
-            words(&listing.plate_words()),
-            words(&listing.cut_words()),
-            words(&[]),
-        ],
-        Err(refusal) => vec![format!(
-            "outcome (refused {} {}) [] [] []",
-            refusal.number, refusal.place
-        )],
+    let lent = match &walked {
+        Ok(listing) => [listing.plate_words(), listing.cut_words()],
+        Err(_) => [Vec::new(), Vec::new()],
     };
+    let sizes = |listing: Listing| [listing.residual_types(), listing.cuts.len()];
+    let answer = walked.map(|listing| sizes(listing).map(|size| size as u32).to_vec());
+    let [plate_types, cuts] = [limits.plate_types, limits.cuts].map(|limit| limit.to_string());
     Theorem {
         equation: Equation {
             definition: "walkCall",
-            arguments: vec![
-                limits.plate_types.to_string(),
-                limits.cuts.to_string(),
-                words(&model.words),
-            ],
-            answer,
+            arguments: vec![plate_types, cuts, words(&model.words)],
+            answer: outcome(&answer, &lent),
         },
-        refusal: walked.err().map(|refusal| refusal.number),
+        refusal: answer.err().map(|refusal| refusal.number),
     }
 }
 
@@ -61,9 +48,9 @@ pub fn set_theorem(random: &mut Random) -> Theorem {
     let set = set_or_broken(random, &model.job);
     let lines = placements(&model.job, &set);
     let mut laid = vec![0; model.job.items.len() + 1];
-    lines
-        .iter()
-        .for_each(|line| laid[usize::from(line.item)] += 1);
+    for line in &lines {
+        laid[usize::from(line.item)] += 1;
+    }
     let holds = [
         set.iter().all(|board| keeps_rules(&model.job, board)),
         ensure_demands(&model.job, &laid).is_ok(),
@@ -192,9 +179,8 @@ fn is_inside(job: &Job, lines: &[Placement]) -> bool {
 /// Whether no square millimetre is covered twice.
 fn is_without_overlap(job: &Job, lines: &[Placement]) -> bool {
     let mut covered = HashSet::new();
-    cells(job, lines)
-        .into_iter()
-        .all(|cell| covered.insert(cell))
+    let mut cells = cells(job, lines).into_iter();
+    cells.all(|cell| covered.insert(cell))
 }
 
 /// A set as a list of lists of lists of lists.

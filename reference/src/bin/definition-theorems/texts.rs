@@ -85,9 +85,8 @@ fn is_short(text: &[u8]) -> bool {
 
 /// Whether the job that the text begins with, if there is one, has a small listing.
 fn is_small_text(text: &[u8]) -> bool {
-    Lines::new(text)
-        .job()
-        .map_or(true, |job| is_small_job(&job))
+    let job = Lines::new(text).job();
+    job.map_or(true, |job| is_small_job(&job))
 }
 
 /// The refusal that an output is, if it is one line of kind 9.
@@ -139,11 +138,8 @@ fn saw_lines(random: &mut Random, model: &Model) -> Vec<Line> {
     let [types, plates] = [0, 1].map(|which: usize| prices[which].len() as u32);
     lines.push(vec![4, u32::from(words[0]), types, plates]);
     for (kind, list) in (5..).zip(&prices) {
-        lines.extend(
-            (1..)
-                .zip(list)
-                .map(|(number, &price)| vec![kind, number, u32::from(price)]),
-        );
+        let line = |(number, &price)| vec![kind, number, u32::from(price)];
+        lines.extend((1..).zip(list).map(line));
     }
     lines
 }
