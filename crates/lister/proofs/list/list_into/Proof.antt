@@ -33,7 +33,7 @@ walk-requires c κs =
     )
 
 sub-t31 : tie.Need-sub-t31
-sub-t31 c = as-next (c .before .before .m .given .1) (c .before .before .before .before .before .before .before .before .walk .ensures) .rep .some-plate
+sub-t31 c = omega (arith, as-next (c .before .before .m .given .1) (c .before .before .before .before .before .before .before .before .walk .ensures) .rep .some-plate)
 
 returns : tie.Need-returns
 returns c =
