@@ -10,3 +10,4 @@ pub mod CodePriceRows
 pub mod CodeListed
 pub mod CodeCall
 pub mod CodeCalls
+pub mod CodeBound

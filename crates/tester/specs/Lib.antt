@@ -4,3 +4,4 @@ pub mod Sums
 pub mod RowSays
 pub mod PlanSays
 pub mod PriceSays
+pub mod PriceBound

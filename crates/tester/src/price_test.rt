@@ -10,6 +10,7 @@ ghost use Rattle.plan.specs.Prices.{priceWords};
 ghost use Rattle.plan.specs.PriceCall.{priceVerdict, priceAnswer};
 ghost use Rattle.tester.specs.RowSays.{rowVerdict};
 ghost use Rattle.tester.specs.PriceSays.{saysOf, sumAndD, priceTail};
+ghost use Rattle.tester.specs.PriceBound.{Bounds, OnAccepted};
 use crate::prices::PriceAnswer;
 use crate::prices::price_rows;
 use crate::prices::price_words;
@@ -67,11 +68,13 @@ fn price_into(job: &[u16], prices: &[u16], plates: &mut [u16], cuts: &mut [u16])
 // The price test: the sum of price times demand, and D, where the prices are accepted.
 // Refused are 1 and 2 of the job's words; 2 a price word outside its limits, naming it from 1; 3 and 4 of the job; 5 a buffer shorter than its full
 // size, plates 1, cuts 2; 6 and 7 of the model, naming 0; 13 another number of words than the model's, naming 0; 14 a cut over its limit. Plates and
-// cuts end as the listing; after 5 they are unchanged, after another refusal every word of them is 0.
+// cuts end as the listing; after 5 they are unchanged, after another refusal every word of them is 0. The sum and D of
+// accepted prices bound every set of layouts, by demand 3.
 pub fn test_prices(job: &[u16], prices: &[u16], plates: &mut [u16], cuts: &mut [u16]) -> PriceAnswer
     ensures { λ r. ⌜ saysOf r ≡ priceAnswer (now (job .entry)) (now (prices .entry)) (now (plates .entry)) (now (cuts .entry)) ⌝ }
     ensures { λ _. ⌜ now (plates .exit) ≡ platesEnd (priceVerdict (now (job .entry)) (now (prices .entry)) (now (plates .entry)) (now (cuts .entry))) (now (job .entry)) (now (plates .entry)) ⌝ }
     ensures { λ _. ⌜ now (cuts .exit) ≡ cutsEnd (priceVerdict (now (job .entry)) (now (prices .entry)) (now (plates .entry)) (now (cuts .entry))) (now (job .entry)) (now (cuts .entry)) ⌝ }
+    ensures { λ r. ⌜ OnAccepted r (Bounds (now (job .entry))) ⌝ }
 {
     match price_checks(job, prices) {
         Row::Refuses(number, place) => {

@@ -4,6 +4,8 @@ use denote.Ref.{now}
 use Rattle.job.specs.Verdict.{pass}
 use Rattle.tester.specs.RowSays.{rowVerdict}
 use Rattle.tester.proofs.CodeCalls.{priceChecks, price-job-refused, price-plates-short, price-cuts-short, price-full}
+use Rattle.tester.specs.declared.prices.PriceAnswer.the-variants.{Accepted, Refused}
+use Rattle.tester.proofs.CodeBound.{with-bound}
 use borrow.Author.Needs.{needs}
 use Rattle.tester.proofs.price_test.test_prices.Statement.{statement}
 use Rattle.tester.proofs.price_test.test_prices.Tie as tie
@@ -15,12 +17,14 @@ admitted c = sym (c .before .before .price-checks .ensures) ∙ ap rowVerdict (c
 returns : tie.Need-returns
 returns c =
     let a = c .before .before .before .before .before .before .before .before .args in
-    price-plates-short (now (a .job)) (now (a .prices)) (now (a .plates)) (now (a .cuts)) (admitted (c .before)) (c .if1 .taken)
+    with-bound (now (a .job)) (now (a .prices)) (now (a .plates)) (now (a .cuts)) (Refused 5 1)
+    (price-plates-short (now (a .job)) (now (a .prices)) (now (a .plates)) (now (a .cuts)) (admitted (c .before)) (c .if1 .taken))
 
 returns-2 : tie.Need-returns-2
 returns-2 c =
     let a = c .before .before .before .before .before .before .before .before .before .args in
-    price-cuts-short (now (a .job)) (now (a .prices)) (now (a .plates)) (now (a .cuts)) (admitted (c .before .before)) (c .before .if1 .left) (c .if2 .taken)
+    with-bound (now (a .job)) (now (a .prices)) (now (a .plates)) (now (a .cuts)) (Refused 5 2)
+    (price-cuts-short (now (a .job)) (now (a .prices)) (now (a .plates)) (now (a .cuts)) (admitted (c .before .before)) (c .before .if1 .left) (c .if2 .taken))
 
 price-into-requires : tie.Need-price-into-requires
 price-into-requires c κs = (admitted (c .before .before .before .before), (c .before .before .before .if1 .left, c .before .before .if2 .left))
@@ -28,12 +32,14 @@ price-into-requires c κs = (admitted (c .before .before .before .before), (c .b
 returns-3 : tie.Need-returns-3
 returns-3 c =
     let a = c .before .before .before .before .before .before .before .before .before .before .before .before .before .before .before .before .args in
-    price-job-refused (now (a .job)) (now (a .prices)) (now (a .plates)) (now (a .cuts)) _ _ (sym (c .before .before .before .before .before .before .before .before .before .before .before .price-checks .ensures) ∙ ap rowVerdict (c .before .before .before .before .before .before .before .before .before .number .given .1)) (c .before .before .before .before .before .before .clear .ensures) (c .before .before .clear2 .ensures)
+    with-bound (now (a .job)) (now (a .prices)) (now (a .plates)) (now (a .cuts)) (Refused _ _)
+    (price-job-refused (now (a .job)) (now (a .prices)) (now (a .plates)) (now (a .cuts)) _ _ (sym (c .before .before .before .before .before .before .before .before .before .before .before .price-checks .ensures) ∙ ap rowVerdict (c .before .before .before .before .before .before .before .before .before .number .given .1)) (c .before .before .before .before .before .before .clear .ensures) (c .before .before .clear2 .ensures))
 
 returns-4 : tie.Need-returns-4
 returns-4 c =
     let a = c .before .before .before .before .before .before .before .before .before .before .before .before .before .before .before .before .args in
-    price-full (now (a .job)) (now (a .prices)) (now (a .plates)) (now (a .cuts)) (admitted (c .before .before .before .before .before .before .before .before .before)) (c .before .before .before .before .before .before .before .before .if1 .left) (c .before .before .before .before .before .before .before .if2 .left) (c .before .before .before .before .price-into .ensures)
+    with-bound (now (a .job)) (now (a .prices)) (now (a .plates)) (now (a .cuts)) (c .before .before .before .before .price-into .result)
+    (price-full (now (a .job)) (now (a .prices)) (now (a .plates)) (now (a .cuts)) (admitted (c .before .before .before .before .before .before .before .before .before)) (c .before .before .before .before .before .before .before .before .if1 .left) (c .before .before .before .before .before .before .before .if2 .left) (c .before .before .before .before .price-into .ensures))
 
 pub test-prices-spec : {M : Type 1} → statement M
 test-prices-spec =

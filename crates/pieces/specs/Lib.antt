@@ -1,0 +1,2 @@
+-- The definition of this crate: the piece that is taken next.
+pub mod Next

@@ -1,0 +1,134 @@
+// The unfolding call.
+ghost use mathlib.Core.Path.{_≡_};
+ghost use mathlib.Core.List.{[]};
+ghost use Prim.Native.Nat.{_≤_};
+ghost use lib.ListN.{length};
+ghost use Rattle.job.specs.Verdict.{pass, _then_};
+ghost use Rattle.job.specs.Buffers.{given, platesSize, cutsSize, countsSize, placementsSize};
+ghost use Rattle.job.specs.Job.{jobOf, jobWords, admission};
+ghost use Rattle.listing.specs.Holds.{Holds};
+ghost use Rattle.listing.specs.ListCall.{platesEnd, cutsEnd};
+ghost use Rattle.plan.specs.Plan.{countsRow, planRow};
+ghost use Rattle.plan.specs.Plan.{boards as boardsOf};
+ghost use Rattle.tester.specs.PlanSays.{planTail};
+ghost use Rattle.layouts.specs.Placement.{placementWords};
+ghost use Rattle.layouts.specs.UnfoldCall.{unfoldVerdict, unfoldingOf, unfoldAnswer, placementsEnd};
+ghost use Rattle.layouts.specs.Demand3.{J, L, Unfolds};
+ghost use Rattle.unfolding.specs.Ready.{ModelLent};
+ghost use Rattle.unfolding.specs.Ending.{saysOf, results, OnSuccess, Ended};
+use crate::counts::copy_counts;
+use crate::run::run;
+use job::admit::Admission;
+use job::admit::check_job;
+use job::counters::CutNumber;
+use job::counters::ItemType;
+use job::counters::PlateType;
+use job::words::clear;
+use lister::list::Listed;
+use lister::list::list_into;
+use tester::plan_row::PlanAnswer;
+use tester::plan_row::plan_rows;
+
+// The boards used and the pieces placed; or the number of a refusal and the place that it names.
+pub enum Unfolded {
+    Done(u16, u16),
+    Refused(u16, usize),
+}
+
+// Unfolds an accepted plan, which opens a number of boards, over a listing of k cuts; the counts are spent from a copy.
+fn unfold_plan(
+    job: &[u16],
+    counts: &[u16],
+    plates: &[u16],
+    cuts: &[u16],
+    k: CutNumber,
+    boards: u16,
+    placements: &mut [u16],
+) -> Unfolded
+    requires { ⌜ ModelLent (now job) (now plates) (now cuts) (k .0) ⌝ }
+    requires { ⌜ (countsSize ≤ length (now counts)) × ((countsRow (L (now job)) (now counts) then planRow (J (now job)) (L (now job)) (now counts)) ≡ pass) ⌝ }
+    requires { ⌜ boards ≡ boardsOf (L (now job)) (now counts) ⌝ }
+    requires { ⌜ (Holds (now placements) []) × (placementsSize ≤ length (now placements)) ⌝ }
+    ensures { λ r. ⌜ saysOf r ≡ given (results (now (job .entry)) (now (counts .entry))) ⌝ }
+    ensures { λ _. ⌜ Holds (now (placements .exit)) (placementWords (unfoldingOf (now (job .entry)) (now (counts .entry)) .placements)) ⌝ }
+{
+    let mut left = [0u16; 8192];
+    copy_counts(counts, &mut left);
+    let r = run(job, plates, cuts, k, &mut left, boards, placements);
+    Unfolded::Done(r.boards, r.pieces)
+}
+
+// Lists an admitted job into buffers of full size, tests the plan by its listing, and unfolds it.
+fn unfold_into(
+    job: &[u16],
+    counts: &[u16],
+    plates: &mut [u16],
+    cuts: &mut [u16],
+    placements: &mut [u16],
+) -> Unfolded
+    requires { ⌜ (jobWords (now job) then admission (jobOf (now job))) ≡ pass ⌝ }
+    requires { ⌜ (platesSize ≤ length (now plates)) × ((cutsSize ≤ length (now cuts)) × ((countsSize ≤ length (now counts)) × (placementsSize ≤ length (now placements)))) ⌝ }
+    ensures { λ r. ⌜ Ended (planTail (jobOf (now (job .entry))) (now (counts .entry))) (now (job .entry)) (now (counts .entry)) (now (plates .entry)) (now (cuts .entry)) (now (placements .entry)) (saysOf r) (now (plates .exit)) (now (cuts .exit)) (now (placements .exit)) ⌝ }
+{
+    clear(placements);
+    match list_into(job, plates, cuts) {
+        Listed::Refused(number, place) => Unfolded::Refused(number, place as usize),
+        Listed::Done(residuals, k) => {
+            let n = ItemType(job[4]);
+            let m = PlateType(residuals.0 + 1);
+            match plan_rows(job, n, cuts, m, k, counts) {
+                PlanAnswer::Refused(number, place) => {
+                    clear(plates);
+                    clear(cuts);
+                    Unfolded::Refused(number, place)
+                }
+                PlanAnswer::Accepted(boards) => {
+                    unfold_plan(job, counts, plates, cuts, k, boards, placements)
+                }
+            }
+        }
+    }
+}
+
+// The unfolding call: the placements of an accepted plan, board after board, and the numbers of boards and pieces.
+// Refused are 1 to 4 of the job; 5 a buffer shorter than its full size, plates 1, cuts 2, counts 3, placements 4; 6 and 7 of the model, naming 0; 8 a
+// nonzero count past the last cut, naming the cut that it would be; 10 a total above 4,000, naming 0; 11 a type short; 12 a plate type overdrawn. Plates
+// and cuts end as the listing, placements as the seven words of each piece; after 5 all three are unchanged, after another refusal every word of them
+// is 0, after success the unused words are 0. On success the placements are what demand 3 says of an accepted plan.
+pub fn unfold(
+    job: &[u16],
+    counts: &[u16],
+    plates: &mut [u16],
+    cuts: &mut [u16],
+    placements: &mut [u16],
+) -> Unfolded
+    ensures { λ r. ⌜ saysOf r ≡ unfoldAnswer (now (job .entry)) (now (counts .entry)) (now (plates .entry)) (now (cuts .entry)) (now (placements .entry)) ⌝ }
+    ensures { λ _. ⌜ now (plates .exit) ≡ platesEnd (unfoldVerdict (now (job .entry)) (now (counts .entry)) (now (plates .entry)) (now (cuts .entry)) (now (placements .entry))) (now (job .entry)) (now (plates .entry)) ⌝ }
+    ensures { λ _. ⌜ now (cuts .exit) ≡ cutsEnd (unfoldVerdict (now (job .entry)) (now (counts .entry)) (now (plates .entry)) (now (cuts .entry)) (now (placements .entry))) (now (job .entry)) (now (cuts .entry)) ⌝ }
+    ensures { λ _. ⌜ now (placements .exit) ≡ placementsEnd (unfoldVerdict (now (job .entry)) (now (counts .entry)) (now (plates .entry)) (now (cuts .entry)) (now (placements .entry))) (now (job .entry)) (now (counts .entry)) (now (placements .entry)) ⌝ }
+    ensures { λ r. ⌜ OnSuccess r (Unfolds (J (now (job .entry))) (L (now (job .entry))) (now (counts .entry)) (unfoldingOf (now (job .entry)) (now (counts .entry)))) ⌝ }
+{
+    match check_job(job) {
+        Admission::Refused(number, place) => {
+            clear(plates);
+            clear(cuts);
+            clear(placements);
+            Unfolded::Refused(number, place as usize)
+        }
+        Admission::Passed => {
+            if plates.len() < 6144 {
+                return Unfolded::Refused(5, 1);
+            }
+            if cuts.len() < 32768 {
+                return Unfolded::Refused(5, 2);
+            }
+            if counts.len() < 8192 {
+                return Unfolded::Refused(5, 3);
+            }
+            if placements.len() < 28000 {
+                return Unfolded::Refused(5, 4);
+            }
+            unfold_into(job, counts, plates, cuts, placements)
+        }
+    }
+}
