@@ -2,12 +2,15 @@
 //!
 //! Layers, bottom up: the job and its limits; plates, cuts and their listing; plans, prices,
 //! layouts, unfolding and folding as structures; the five calls over words; the two texts.
+//! Beside them: the published instances and the jobs at the limits, with plans for them.
 
 pub mod buffers;
 pub mod calls;
 pub mod columns;
 pub mod fold_text;
 pub mod folding;
+pub mod greedy;
+pub mod instances;
 pub mod job;
 pub mod layout;
 pub mod layout_lines;

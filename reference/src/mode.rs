@@ -33,6 +33,22 @@ impl Mode {
         }
     }
 
+    /// The two numbers of line 1, which are also the first two job words.
+    pub fn numbers(self) -> [u16; 2] {
+        let stages = if self.is_two_stage() { 2 } else { 3 };
+        [stages, u16::from(self.is_exact())]
+    }
+
+    /// The name that document 01 gives the mode.
+    pub fn name(self) -> &'static str {
+        match self {
+            Mode::TwoExact => "2E",
+            Mode::TwoNonExact => "2N",
+            Mode::ThreeExact => "3E",
+            Mode::ThreeNonExact => "3N",
+        }
+    }
+
     /// Whether the mode has two stages; otherwise it has three.
     pub fn is_two_stage(self) -> bool {
         matches!(self, Mode::TwoExact | Mode::TwoNonExact)

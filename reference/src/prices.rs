@@ -55,6 +55,12 @@ impl Prices {
         })
     }
 
+    /// The price words: D, the n item prices, the m residual prices.
+    pub fn words(&self) -> Vec<u16> {
+        let denominator = [self.denominator];
+        [&denominator[..], &self.items, &self.residuals].concat()
+    }
+
     /// Tests the prices and gives their bound. An n or m that is not the model's is 13; a cut
     /// whose item and kept residuals cost more than D on type 0, or than the plate cut on a
     /// residual type, is 14.

@@ -1,0 +1,44 @@
+//! What the five calls answer on a job and its inputs.
+
+use super::inputs::Inputs;
+use crate::buffers::{COUNTS, CUTS, PLACEMENTS, PLATES};
+use crate::calls::{fold, list, test_plan, test_prices, unfold, Listed, Unfolded};
+use crate::prices::Bound;
+use crate::refusal::Refusal;
+
+/// The results of the five calls on a job, a plan, a price list and a set of layouts.
+#[derive(Debug, Clone, PartialEq, Eq)]
+pub struct Outcome {
+    pub listed: Listed,
+    /// The boards that the plan test counts.
+    pub boards: u32,
+    pub bound: Bound,
+    pub unfolded: Unfolded,
+    /// The placements that unfolding wrote.
+    pub placements: Vec<u16>,
+    /// The boards of the unfolded plan, and the counts that folding it gives.
+    pub folded: u32,
+    pub counts: Vec<u16>,
+}
+
+/// Runs the five calls: the layouts of the inputs give the plan, which is unfolded, and what
+/// unfolding wrote is folded.
+pub fn of(job: &[u16], inputs: &Inputs) -> Result<Outcome, Refusal> {
+    let [mut plates, mut cuts, mut counts, mut placements] =
+        [PLATES, CUTS, COUNTS, PLACEMENTS].map(|kind| vec![0; kind.full_size]);
+    let listed = list(job, &mut plates, &mut cuts)?;
+    let boards = test_plan(job, &inputs.counts, &mut plates, &mut cuts)?;
+    let bound = test_prices(job, &inputs.prices, &mut plates, &mut cuts)?;
+    let unfolded = unfold(job, &inputs.counts, &mut plates, &mut cuts, &mut placements)?;
+    placements.truncate(7 * unfolded.pieces as usize);
+    let folded = fold(job, &placements, &mut plates, &mut cuts, &mut counts)?;
+    Ok(Outcome {
+        listed,
+        boards,
+        bound,
+        unfolded,
+        placements,
+        folded,
+        counts,
+    })
+}

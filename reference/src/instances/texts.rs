@@ -1,0 +1,69 @@
+//! The two texts of a job and its inputs, for a job whose listing is not refused.
+
+use super::inputs::Inputs;
+use crate::columns::write_line;
+use crate::job::Job;
+use crate::listing::{Listing, FULL};
+use crate::refusal::Refusal;
+
+/// The saw text: the job, the plan and the prices.
+pub fn saw_text(job: &[u16], inputs: &Inputs) -> Result<Vec<u8>, Refusal> {
+    let mut text = job_lines(job);
+    text.extend(plan_lines(job, &inputs.counts)?);
+    let types = usize::from(job[4]);
+    let (items, residuals) = inputs.prices[1..].split_at(types);
+    let head = [inputs.prices[0], job[4], residuals.len() as u16];
+    write_words(&mut text, 4, &head);
+    for (kind, prices) in [(5, items), (6, residuals)] {
+        for (number, &price) in (1..).zip(prices) {
+            write_words(&mut text, kind, &[number, price]);
+        }
+    }
+    Ok(text)
+}
+
+/// The fold text: the job and the layouts.
+pub fn fold_text(job: &[u16], inputs: &Inputs) -> Vec<u8> {
+    let mut text = job_lines(job);
+    text.extend(layout_lines(&inputs.layouts));
+    text
+}
+
+/// Lines of kinds 1 and 2.
+fn job_lines(job: &[u16]) -> Vec<u8> {
+    let (head, items) = job.split_at(5);
+    let mut text = Vec::new();
+    write_words(&mut text, 1, head);
+    for (number, item) in (1..).zip(items.chunks(3)) {
+        write_words(&mut text, 2, &[number, item[0], item[1], item[2]]);
+    }
+    text
+}
+
+/// Lines of kind 3 for the cuts that are counted.
+pub fn plan_lines(job: &[u16], counts: &[u16]) -> Result<Vec<u8>, Refusal> {
+    let listing = Listing::walk(&Job::from_words(job)?, FULL)?;
+    let mut text = Vec::new();
+    for (cut, &count) in listing.cuts.iter().zip(counts) {
+        if count > 0 {
+            write_words(&mut text, 3, &[cut.plate, cut.item, count]);
+        }
+    }
+    Ok(text)
+}
+
+/// Lines of kind 7.
+pub fn layout_lines(layouts: &[u16]) -> Vec<u8> {
+    let mut text = Vec::new();
+    for line in layouts.chunks(7) {
+        write_words(&mut text, 7, line);
+    }
+    text
+}
+
+/// A line of this kind.
+fn write_words(text: &mut Vec<u8>, kind: u32, words: &[u16]) {
+    let mut numbers = vec![kind];
+    numbers.extend(words.iter().map(|&word| u32::from(word)));
+    write_line(text, &numbers);
+}

@@ -1,0 +1,87 @@
+//! The five calls and the two texts on every published instance in every mode.
+
+use reference::instances::inputs::Inputs;
+use reference::instances::outcome::{self, Outcome};
+use reference::instances::{jobs, texts, NamedJob};
+use reference::layout::keeps_rules;
+use reference::layout_lines::{lines_of_words, set_of};
+use reference::{fold_text, saw_text, Job};
+
+/// The inputs and the outcome of a job whose listing is not refused.
+fn run(job: &NamedJob) -> Option<(Inputs, Outcome)> {
+    let inputs = Inputs::of(&job.words).ok()?;
+    let found = outcome::of(&job.words, &inputs);
+    let found = found.unwrap_or_else(|refusal| panic!("{}: {refusal:?}", job.name));
+    Some((inputs, found))
+}
+
+/// Asserts that plan, unfolding and folding agree: on boards, on pieces, which are the demands
+/// exactly, and on counts; and that what was unfolded keeps the layout rules.
+pub fn assert_agreement(job: &NamedJob, inputs: &Inputs, found: &Outcome) {
+    let name = &job.name;
+    let structured = Job::from_words(&job.words).unwrap();
+    let demands = structured.items.iter().map(|item| u32::from(item.demand));
+    assert_eq!(found.unfolded.boards, found.boards, "{name}");
+    assert_eq!(found.folded, found.boards, "{name}");
+    assert_eq!(found.unfolded.pieces, demands.sum::<u32>(), "{name}");
+    assert_eq!(found.counts, inputs.counts, "{name}");
+    for layouts in [&inputs.layouts, &found.placements] {
+        let lines = lines_of_words(layouts, structured.items.len()).unwrap();
+        let set = set_of(&lines);
+        assert_eq!(set.len(), found.boards as usize, "{name}");
+        let kept = |board: &reference::Board| keeps_rules(&structured, board);
+        assert!(set.iter().all(kept), "{name}");
+    }
+    assert!(found.bound.sum <= found.boards * found.bound.d, "{name}");
+}
+
+/// Asserts that the texts answer as the calls do.
+pub fn assert_texts(job: &NamedJob, inputs: &Inputs, found: &Outcome) {
+    let name = &job.name;
+    let bound = found.bound;
+    let fewest = u32::from(bound.is_fewest(found.boards));
+    let last = [8, found.boards, bound.sum, bound.d, fewest].map(|number| format!("{number:>9}"));
+    let mut expected = texts::layout_lines(&found.placements);
+    expected.extend(last.concat().bytes());
+    expected.push(b'\n');
+    let text = texts::saw_text(&job.words, inputs).unwrap();
+    assert!(saw_text(&text) == expected, "{name}");
+    let text = texts::fold_text(&job.words, inputs);
+    let plan = texts::plan_lines(&job.words, &inputs.counts).unwrap();
+    assert!(fold_text(&text) == plan, "{name}");
+}
+
+#[test]
+fn calls_and_texts_agree_on_every_instance() {
+    for job in jobs() {
+        if let Some((inputs, found)) = run(&job) {
+            assert_agreement(&job, &inputs, &found);
+            assert_texts(&job, &inputs, &found);
+        }
+    }
+}
+
+#[test]
+fn listings_are_refused_only_for_types_sizes_and_limits() {
+    for job in jobs() {
+        let Err(refusal) = Inputs::of(&job.words) else {
+            continue;
+        };
+        let types = usize::from(job.words[4]);
+        match refusal.number {
+            2 => assert!(types > 40 && refusal.place == 0, "{}", job.name),
+            3 => assert!((1..=types as u32).contains(&refusal.place), "{}", job.name),
+            number => assert!([6, 7].contains(&number), "{}", job.name),
+        }
+    }
+}
+
+/// Document 01, "Cases": the 6 by 6 example of 001 has 6 residual types and three boards.
+#[test]
+fn the_example_of_document_001_has_three_boards() {
+    let job = jobs().into_iter().find(|job| job.name == "001-1 1 6x6 2N");
+    let (_, found) = run(&job.unwrap()).unwrap();
+    assert_eq!((found.listed.residuals, found.listed.cuts), (6, 10));
+    assert_eq!(found.boards, 3);
+    assert!(found.bound.is_fewest(3));
+}

@@ -1,0 +1,126 @@
+//! Jobs at the limits and one past them: the files of `data/limits/`.
+
+use crate::calls::{assert_agreement, assert_texts};
+use reference::instances::inputs::Inputs;
+use reference::instances::limit_jobs::{limit_jobs, LimitJob, NONE};
+use reference::instances::outcome;
+use reference::{Job, Listed, Listing, Mode, Refusal};
+
+/// The size that a walk without limits reaches.
+fn size_without_limits(words: &[u16]) -> Listed {
+    let job = Job::from_words(words).unwrap();
+    let listing = Listing::walk(&job, NONE).unwrap();
+    Listed {
+        residuals: listing.residual_types() as u32,
+        cuts: listing.cuts.len() as u32,
+    }
+}
+
+fn mode(limit: &LimitJob) -> Mode {
+    let [stages, exact] = [0, 1].map(|index| u32::from(limit.job.words[index]));
+    Mode::from_numbers(stages, exact).unwrap()
+}
+
+/// The five calls on lent words that are not 0, each with inputs that fit no job.
+fn refusals(job: &[u16]) -> [Option<Refusal>; 5] {
+    let mut plates = vec![7; 6_144];
+    let mut cuts = vec![7; 32_768];
+    let mut lent = vec![7; 28_000];
+    let counts = vec![0; 8_192];
+    let answers = [
+        reference::list(job, &mut plates, &mut cuts).err(),
+        reference::test_plan(job, &counts, &mut plates, &mut cuts).err(),
+        reference::test_prices(job, &[1], &mut plates, &mut cuts).err(),
+        reference::unfold(job, &counts, &mut plates, &mut cuts, &mut lent).err(),
+        reference::fold(job, &[], &mut plates, &mut cuts, &mut lent).err(),
+    ];
+    let words = plates.iter().chain(&cuts).chain(&lent);
+    assert!(words.into_iter().all(|&word| word == 0));
+    answers
+}
+
+#[test]
+fn jobs_at_the_limits_are_listed_planned_and_unfolded() {
+    for limit in limit_jobs() {
+        let (Ok(listed), Some(plan)) = (limit.listed, limit.plan) else {
+            continue;
+        };
+        let job = limit.job;
+        let inputs = Inputs::of(&job.words).unwrap();
+        let found = outcome::of(&job.words, &inputs).unwrap();
+        assert_eq!(
+            (found.listed, found.unfolded),
+            (listed, plan),
+            "{}",
+            job.name
+        );
+        assert_agreement(&job, &inputs, &found);
+        assert_texts(&job, &inputs, &found);
+    }
+}
+
+#[test]
+fn jobs_past_the_limits_are_refused_by_every_call() {
+    for limit in limit_jobs() {
+        let LimitJob { job, listed, .. } = limit;
+        match listed {
+            Ok(_) => assert!(limit.plan.is_some(), "{}", job.name),
+            Err(refusal) => assert_eq!(refusals(&job.words), [Some(refusal); 5], "{}", job.name),
+        }
+        if let Some(past) = limit.without_limits {
+            assert_eq!(size_without_limits(&job.words), past, "{}", job.name);
+        }
+    }
+}
+
+/// Whether some job of this mode has just so many plate types and cuts, either of them any
+/// number within its limit if none is given, and the answer is this.
+fn some(wanted: Mode, plates: Option<u32>, cuts: Option<u32>, answer: Option<u32>) -> bool {
+    limit_jobs().iter().any(|limit| {
+        let size = limit.without_limits.or(limit.listed.ok());
+        size.is_some_and(|size| {
+            mode(limit) == wanted
+                && plates.map_or(size.residuals < 2_048, |many| size.residuals + 1 == many)
+                && cuts.map_or(size.cuts <= 8_192, |many| size.cuts == many)
+                && limit.listed.err().map(|refusal| refusal.number) == answer
+        })
+    })
+}
+
+#[test]
+fn every_limit_is_met_and_passed_by_one_in_every_mode() {
+    for mode in Mode::ALL {
+        assert!(some(mode, Some(2_048), None, None));
+        assert!(some(mode, Some(2_049), None, Some(6)));
+        assert!(some(mode, None, Some(8_192), None));
+        assert!(some(mode, None, Some(8_193), Some(7)));
+        assert!(some(mode, Some(2_048), Some(8_192), None));
+        assert!(some(mode, Some(2_048), Some(8_193), Some(7)));
+    }
+}
+
+#[test]
+fn the_largest_numbers_are_reached() {
+    let mut most_words = [0; 8];
+    let mut most_placed = [0; 7];
+    let mut most_sum = 0;
+    for limit in limit_jobs().iter().filter(|limit| limit.plan.is_some()) {
+        let words = &limit.job.words;
+        let (head, items) = words.split_at(5);
+        for item in items.chunks(3) {
+            let joined = [head, item].concat();
+            most_words = std::array::from_fn(|index| joined[index].max(most_words[index]));
+        }
+        let found = outcome::of(words, &Inputs::of(words).unwrap()).unwrap();
+        for line in found.placements.chunks(7) {
+            most_placed = std::array::from_fn(|index| line[index].max(most_placed[index]));
+        }
+        most_sum = found.bound.sum.max(most_sum);
+    }
+    // Stages, exact, W, H, n; width, height, demand.
+    let largest = [3, 1, 10_000, 10_000, 40, 10_000, 10_000, 4_000];
+    assert_eq!(most_words, largest);
+    // Board, strip, stack, place, type, x, y.
+    assert_eq!(most_placed, [4_000, 2_000, 2_000, 1_000, 40, 9_995, 9_995]);
+    assert_eq!(most_sum, 39_996_000);
+}
