@@ -1,0 +1,179 @@
+//! The saw's answer: lines of kind 7 and one of kind 8, or one line 9.
+
+use crate::columns::numbers;
+use crate::job::Job;
+
+/// An item placed by the saw.
+#[derive(Debug, Clone, Copy, PartialEq, Eq, Hash)]
+pub struct Placement {
+    pub strip: usize,
+    pub stack: usize,
+    pub item: usize,
+    pub x: usize,
+    pub y: usize,
+}
+
+/// The placements of each board, and what line 8 says.
+#[derive(Debug, Clone, PartialEq, Eq)]
+pub struct Answer {
+    pub boards: Vec<Vec<Placement>>,
+    pub sum: usize,
+    pub denominator: usize,
+    pub fewest: bool,
+}
+
+impl Answer {
+    /// Reads the saw's output for a job. An error says what is wrong with it.
+    pub fn read(text: &str, job: &Job) -> Result<Answer, String> {
+        let mut answer = Answer {
+            boards: Vec::new(),
+            sum: 0,
+            denominator: 1,
+            fewest: false,
+        };
+        let mut ended = false;
+        for (number, line) in (1..).zip(text.lines()) {
+            let fault = |fault: String| format!("line {number} of the saw's output {fault}");
+            let all = numbers(line).ok_or(fault("is not a line of numbers".into()))?;
+            if ended {
+                return Err(fault("follows its line of kind 8".into()));
+            }
+            if let [9, refusal, place] = all[..] {
+                return Err(refused(refusal, place));
+            }
+            answer.take(job, &all).map_err(fault)?;
+            ended = all[0] == 8;
+        }
+        match ended && !answer.boards.is_empty() {
+            true => Ok(answer),
+            false => Err("the saw's output is not whole: \
+                          lines of kind 7 and then one of kind 8 are expected"
+                .into()),
+        }
+    }
+
+    /// Takes in a line of kind 7 or 8.
+    fn take(&mut self, job: &Job, numbers: &[usize]) -> Result<(), String> {
+        match *numbers {
+            [7, board, strip, stack, _, item, x, y] => {
+                let at = Placement {
+                    strip,
+                    stack,
+                    item,
+                    x,
+                    y,
+                };
+                self.place(job, board, at)
+            }
+            [8, _, sum, denominator, fewest] => {
+                (self.sum, self.denominator, self.fewest) = (sum, denominator, fewest == 1);
+                Ok(())
+            }
+            _ => Err("is of no kind that the saw writes".into()),
+        }
+    }
+
+    /// Adds a placement to its board, the last one or the next.
+    fn place(&mut self, job: &Job, board: usize, placement: Placement) -> Result<(), String> {
+        if board == self.boards.len() + 1 {
+            self.boards.push(Vec::new());
+        }
+        if board == 0 || board != self.boards.len() {
+            return Err(format!(
+                "names board {board}, neither the last one nor the next"
+            ));
+        }
+        let known = (1..=job.items.len()).contains(&placement.item);
+        let fits = known && {
+            let item = job.item(placement.item);
+            placement.x + item.width <= job.width && placement.y + item.height <= job.height
+        };
+        match fits {
+            true => self.boards[board - 1].push(placement),
+            false => {
+                return Err(
+                    "places an item that this job has not: is it the output for another job?"
+                        .into(),
+                )
+            }
+        }
+        Ok(())
+    }
+
+    /// The number of items placed.
+    pub fn pieces(&self) -> usize {
+        self.boards.iter().map(Vec::len).sum()
+    }
+
+    /// How often an item type lies on the boards.
+    pub fn pieces_of(&self, item_type: usize) -> usize {
+        let of_type = |placement: &&Placement| placement.item == item_type;
+        self.boards.iter().flatten().filter(of_type).count()
+    }
+}
+
+/// What to say of an output that is a refusal.
+fn refused(refusal: usize, place: usize) -> String {
+    format!(
+        "the saw refused the text with {refusal}, place {place}; \
+         \"office explain TEXT {refusal} {place}\" says why"
+    )
+}
+
+/// The refusal that a saw's output is: number and place.
+pub fn refusal(text: &str) -> Result<[usize; 2], String> {
+    match numbers(text.lines().next().unwrap_or("")).as_deref() {
+        Some([9, refusal, place]) => Ok([*refusal, *place]),
+        Some([7 | 8, ..]) => {
+            Err("the saw accepted the text; there is no refusal to explain".into())
+        }
+        _ => Err("this is no output of the saw: a line of kind 9 is expected".into()),
+    }
+}
+
+#[cfg(test)]
+mod tests {
+    use super::*;
+    use crate::job::tests::job_a;
+
+    const OUTPUT: &str = "7 1 1 1 1 1 0 0\n7 1 1 2 1 2 5 0\n7 2 1 1 1 1 0 0\n8 2 2 1 1\n";
+
+    #[test]
+    fn an_answer_is_read() {
+        let answer = Answer::read(OUTPUT, &job_a()).unwrap();
+        assert_eq!(
+            (answer.boards.len(), answer.pieces(), answer.pieces_of(1)),
+            (2, 3, 2)
+        );
+        assert_eq!(
+            (answer.sum, answer.denominator, answer.fewest),
+            (2, 1, true)
+        );
+    }
+
+    #[test]
+    fn every_fault_is_told() {
+        for (text, told) in [
+            ("", "not whole"),
+            ("7 1 1 1 1 1 0 0\n", "not whole"),
+            ("9 12 2\n", "refused the text with 12, place 2"),
+            ("7 2 1 1 1 1 0 0\n", "neither the last one nor the next"),
+            ("7 0 1 1 1 1 0 0\n", "neither the last one nor the next"),
+            ("7 1 1 1 1 1 5 0\n", "another job"),
+            ("7 1 1 1 1 3 0 0\n", "another job"),
+            ("3 1 1\n", "of no kind"),
+            ("hello\n", "not a line of numbers"),
+            ("8 1 0 1 0\n8 1 0 1 0\n", "follows"),
+        ] {
+            let fault = Answer::read(text, &job_a()).unwrap_err();
+            assert!(fault.contains(told), "{text}: {fault}");
+        }
+    }
+
+    #[test]
+    fn a_refusal_is_read() {
+        assert_eq!(refusal("        9       12        2\n"), Ok([12, 2]));
+        assert!(refusal(OUTPUT).unwrap_err().contains("accepted"));
+        assert!(refusal("").unwrap_err().contains("no output"));
+    }
+}

@@ -1,0 +1,11 @@
+//! Drawings: each board of the saw's answer as an SVG picture, and all of them on one HTML page.
+
+mod label;
+mod page;
+mod svg;
+
+pub use page::page;
+pub use svg::{board_file, Drawing};
+
+#[cfg(test)]
+mod tests;

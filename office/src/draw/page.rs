@@ -1,0 +1,149 @@
+//! All boards on one HTML page, with a table of the item types before them.
+
+use super::svg::{board_file, colour, Drawing, STYLE};
+use crate::answer::{Answer, Placement};
+use crate::columns::thousands;
+use crate::job::Job;
+use std::collections::HashMap;
+use std::fmt::Write;
+
+/// The page's own style; boards out of sight are not laid out until they are scrolled to.
+const HEAD: &str = "<!DOCTYPE html>
+<html lang=\"en\"><head><meta charset=\"utf-8\"><title>Boards</title>
+<style>
+body { font-family: Arial, Helvetica, \"DejaVu Sans\", sans-serif; margin: 1.5em; color: #111 }
+table { border-collapse: collapse; margin: 1em 0 }
+th, td { border: 1px solid #999; padding: 0.2em 0.7em; text-align: right }
+figure { margin: 1em 0; break-inside: avoid; content-visibility: auto }
+svg { max-width: 100%; height: auto }
+</style></head><body>
+";
+
+/// The files of a drawing: a picture for each board, and the page.
+pub fn page(job: &Job, answer: &Answer) -> Vec<(String, String)> {
+    let drawing = Drawing::of(job);
+    let titles = titles(job, answer);
+    let mut files = Vec::new();
+    let mut page = String::from(HEAD);
+    let _ = writeln!(
+        page,
+        "<svg class=\"board\" width=\"0\" height=\"0\" style=\"position: absolute\">{STYLE}</svg>"
+    );
+    summary(&mut page, job, answer);
+    let [width, height] = drawing.size();
+    for (number, (title, placements)) in (1..).zip(titles.iter().zip(&answer.boards)) {
+        let size = format!("contain-intrinsic-size: {width:.0}px {height:.0}px");
+        let _ = writeln!(page, "<figure id=\"board-{number}\" style=\"{size}\">");
+        page.push_str(&drawing.board(title, placements, ""));
+        page.push_str("</figure>\n");
+        files.push((
+            format!("board-{number}.svg"),
+            board_file(&drawing, title, placements),
+        ));
+    }
+    page.push_str("</body></html>\n");
+    files.push(("boards.html".into(), page));
+    files
+}
+
+/// The title of each board: its pieces, the share of its area that they use, and the first board that
+/// is laid out alike.
+fn titles(job: &Job, answer: &Answer) -> Vec<String> {
+    let boards = answer.boards.len();
+    let mut first: HashMap<&[Placement], usize> = HashMap::new();
+    let mut titles = Vec::new();
+    for (number, placements) in (1..).zip(&answer.boards) {
+        let alike = *first.entry(placements).or_insert(number);
+        let alike = if alike < number {
+            format!(", as board {alike}")
+        } else {
+            String::new()
+        };
+        let pieces = counted(placements.len(), "piece");
+        let used = percent(used_area(job, placements), job.width * job.height);
+        titles.push(format!(
+            "Board {number} of {boards}: {pieces}, {used} used{alike}"
+        ));
+    }
+    titles
+}
+
+/// The area that a board's items cover.
+fn used_area(job: &Job, placements: &[Placement]) -> usize {
+    let area =
+        |placement: &Placement| job.item(placement.item).width * job.item(placement.item).height;
+    placements.iter().map(area).sum()
+}
+
+/// A share in percent, with one decimal.
+fn percent(part: usize, whole: usize) -> String {
+    format!("{:.1} %", 100.0 * part as f64 / whole as f64)
+}
+
+/// A number of things, in the singular or the plural.
+fn counted(number: usize, thing: &str) -> String {
+    let plural = if number == 1 { "" } else { "s" };
+    format!("{} {thing}{plural}", thousands(number))
+}
+
+/// Boards, pieces and bound, and the table of item types.
+fn summary(page: &mut String, job: &Job, answer: &Answer) {
+    let boards = counted(answer.boards.len(), "board");
+    let area = job.width * job.height * answer.boards.len();
+    let used: usize = answer
+        .boards
+        .iter()
+        .map(|placements| used_area(job, placements))
+        .sum();
+    let _ = writeln!(
+        page,
+        "<h1>{boards} of {} by {} mm, mode {}</h1>",
+        job.width,
+        job.height,
+        job.mode()
+    );
+    let pieces = counted(answer.pieces(), "piece");
+    let _ = writeln!(
+        page,
+        "<p>{pieces}; {} of the boards' area is used, {} is waste or offcuts (hatched).",
+        percent(used, area),
+        percent(area - used, area)
+    );
+    page.push_str(
+        "Red lines are the edges of strips, dashed ones those of stacks; \
+         the number beside a strip is its height.</p>\n",
+    );
+    let _ = writeln!(page, "<p>{}</p>", bound(answer));
+    table(page, job, answer);
+}
+
+/// The table of item types.
+fn table(page: &mut String, job: &Job, answer: &Answer) {
+    let head = ["type", "width", "height", "demanded", "cut", "surplus"];
+    let head = head.map(|name| format!("<th>{name}</th>")).concat();
+    let _ = writeln!(page, "<table><tr>{head}</tr>");
+    for (item_type, item) in (1..).zip(&job.items) {
+        let cut = answer.pieces_of(item_type);
+        let surplus = cut.saturating_sub(item.demand);
+        let numbers = [item.width, item.height, item.demand, cut, surplus];
+        let cells = numbers.map(|number| format!("<td>{number}</td>")).concat();
+        let fill = format!("style=\"background: {}\"", colour(item_type));
+        let _ = writeln!(page, "<tr><td {fill}>{item_type}</td>{cells}</tr>");
+    }
+    page.push_str("</table>\n");
+}
+
+/// What the prices say of the number of boards.
+fn bound(answer: &Answer) -> String {
+    let [sum, denominator] = [answer.sum, answer.denominator];
+    match (sum, answer.fewest) {
+        (0, _) => "No prices were sent, so nothing is said of the fewest boards possible.".into(),
+        (_, true) => {
+            format!("No plan needs fewer boards: the prices show a bound of {sum}/{denominator}.")
+        }
+        (_, false) => format!(
+            "The prices show that at least {} are needed ({sum}/{denominator}).",
+            counted(sum.div_ceil(denominator), "board")
+        ),
+    }
+}

@@ -1,0 +1,71 @@
+//! Refusals 3 to 7: the job, the saw's memory, the model.
+
+use super::sent::Sent;
+use super::Told;
+use crate::columns::thousands;
+use crate::job::MOST_PIECES;
+use crate::listing::Listing;
+
+/// Refusal 3.
+pub fn larger(sent: &Sent, item_type: usize) -> Option<Told> {
+    let job = sent.job()?;
+    let item = *job.items.get(item_type.checked_sub(1)?)?;
+    let wide = item.width > job.width;
+    (wide || item.height > job.height).then(|| {
+        let fault = format!(
+            "the item is {} by {}, the board {} by {}; items are not turned",
+            item.width, item.height, job.width, job.height
+        );
+        let cure = format!(
+            "Correct line {}, swap the item's sides if it may be turned, or take a larger board",
+            item_type + 1
+        );
+        Told::new(format!("item type {item_type}"), fault, cure)
+    })
+}
+
+/// Refusal 4.
+pub fn demands(sent: &Sent) -> Option<Told> {
+    let demands: usize = sent.job()?.items.iter().map(|item| item.demand).sum();
+    (demands > MOST_PIECES).then(|| {
+        let fault = format!(
+            "the demands add up to {}; at most 4,000 are allowed",
+            thousands(demands)
+        );
+        Told::new("the whole job", fault, "Split the job into several")
+    })
+}
+
+/// Refusal 5, which no text meets.
+pub fn buffer(place: usize) -> Told {
+    let name = match place {
+        1 => "plates",
+        2 => "cuts",
+        3 => "counts",
+        4 => "placements",
+        _ => "an unknown buffer",
+    };
+    let fault = format!("the controller lent too little room for {name}");
+    Told::new(
+        format!("buffer {place}"),
+        fault,
+        "No text causes this: tell the controller's engineers",
+    )
+}
+
+/// Refusals 6 and 7.
+pub fn model(sent: &Sent, number: usize) -> Option<Told> {
+    let job = sent.job()?;
+    let fault = Listing::of(&job).err()?;
+    fault.contains(&format!("with {number};")).then(|| {
+        let most = if number == 6 {
+            "2,048 plate types"
+        } else {
+            "8,192 cuts"
+        };
+        let fault = format!("the job has more than {most}");
+        let cure = "Take fewer item types in one job, or a two-stage or exact mode; \
+                    small items on a large board cost most";
+        Told::new("the whole job", fault, cure)
+    })
+}

@@ -1,0 +1,200 @@
+//! Refusals 15 to 18: the layouts of a fold text.
+
+use super::sent::Sent;
+use super::Told;
+use crate::job::Job;
+
+/// A line of kind 7.
+#[derive(Debug, Clone, Copy)]
+pub struct Row {
+    pub line: usize,
+    pub turn: [usize; 4],
+    pub item: usize,
+    pub at: [usize; 2],
+}
+
+/// The lines of kind 7.
+pub fn rows(sent: &Sent) -> Vec<Row> {
+    let row = |line| match sent.numbers(line)?[..] {
+        [7, board, strip, stack, place, item, x, y] => Some(Row {
+            line,
+            turn: [board, strip, stack, place],
+            item,
+            at: [x, y],
+        }),
+        _ => None,
+    };
+    (sent.body()..=sent.count()).filter_map(row).collect()
+}
+
+/// A strip: its stacks from the left, each its rows from the bottom.
+struct Strip {
+    stacks: Vec<Vec<Row>>,
+}
+
+impl Strip {
+    /// The strip of a board.
+    fn of(rows: &[Row], board: usize, strip: usize) -> Strip {
+        let rows = rows.iter().filter(|row| row.turn[..2] == [board, strip]);
+        let mut stacks: Vec<Vec<Row>> = Vec::new();
+        for &row in rows {
+            match stacks.last_mut() {
+                Some(stack) if stack[0].turn[2] == row.turn[2] => stack.push(row),
+                _ => stacks.push(vec![row]),
+            }
+        }
+        Strip { stacks }
+    }
+
+    /// The heights of the stacks: sums of their items' heights.
+    fn heights(&self, job: &Job) -> Vec<usize> {
+        let height = |stack: &Vec<Row>| stack.iter().map(|row| job.item(row.item).height).sum();
+        self.stacks.iter().map(height).collect()
+    }
+
+    /// The widths of the stacks: each that of its widest item.
+    fn widths(&self, job: &Job) -> Vec<usize> {
+        let width = |stack: &Vec<Row>| {
+            stack
+                .iter()
+                .map(|row| job.item(row.item).width)
+                .max()
+                .unwrap_or(0)
+        };
+        self.stacks.iter().map(width).collect()
+    }
+
+    /// The height of the strip: that of its highest stack.
+    fn height(&self, job: &Job) -> usize {
+        self.heights(job).into_iter().max().unwrap_or(0)
+    }
+}
+
+/// The rows, the job, and the row on a line, with its board and strip.
+fn at(sent: &Sent, line: usize) -> Option<(Vec<Row>, Job, Row)> {
+    let rows = rows(sent);
+    let row = *rows.iter().find(|row| row.line == line)?;
+    Some((rows, sent.job()?, row))
+}
+
+/// The heights of the strips below a strip of a board.
+fn below(rows: &[Row], job: &Job, board: usize, strip: usize) -> usize {
+    (1..strip)
+        .map(|lower| Strip::of(rows, board, lower).height(job))
+        .sum()
+}
+
+/// Refusal 15.
+pub fn not_next(sent: &Sent, line: usize) -> Option<Told> {
+    let (rows, _, row) = at(sent, line)?;
+    let before = rows
+        .iter()
+        .find(|before| before.line + 1 == line)
+        .map(|before| before.turn);
+    let next = match before {
+        None => vec![[1, 1, 1, 1]],
+        Some([b, s, k, p]) => vec![
+            [b, s, k, p + 1],
+            [b, s, k + 1, 1],
+            [b, s + 1, 1, 1],
+            [b + 1, 1, 1, 1],
+        ],
+    };
+    (!next.contains(&row.turn)).then(|| {
+        let shown = |turn: &[usize; 4]| turn.map(|number| number.to_string()).join(" ");
+        let fault = format!(
+            "board, strip, stack, place are {}, not the next in turn",
+            shown(&row.turn)
+        );
+        let all: Vec<String> = next.iter().map(shown).collect();
+        let cure = format!(
+            "Number them from 1 without gaps: there {} can stand",
+            all.join(", or ")
+        );
+        Told::new(format!("line {line}"), fault, cure)
+    })
+}
+
+/// Refusal 16.
+pub fn stage_rule(sent: &Sent, line: usize) -> Option<Told> {
+    let (rows, job, row) = at(sent, line)?;
+    let [board, number, ..] = row.turn;
+    let strip = Strip::of(&rows, board, number);
+    let [heights, height] = [strip.heights(&job), vec![strip.height(&job)]];
+    let single = |stack: &Vec<Row>| stack.len() == 1;
+    let same = |stack: &Vec<Row>| {
+        stack
+            .iter()
+            .all(|row| job.item(row.item).width == job.item(stack[0].item).width)
+    };
+    let full = strip
+        .stacks
+        .iter()
+        .zip(&heights)
+        .any(|(stack, of)| single(stack) && *of == height[0]);
+    let fault = match job.two_stage() {
+        true if !strip.stacks.iter().all(single) => {
+            "in two stages each stack is one item".to_string()
+        }
+        true if job.exact && heights.iter().any(|of| *of != height[0]) => {
+            "in mode 2E all items of a strip are equally high".to_string()
+        }
+        false if !full => format!(
+            "no stack of the strip is a single item of the strip's height, {}",
+            height[0]
+        ),
+        false if job.exact && !strip.stacks.iter().all(same) => {
+            "in mode 3E all items of a stack are equally wide".to_string()
+        }
+        _ => return None,
+    };
+    let cure = format!(
+        "Rearrange strip {number} of board {board}, or send the job in a mode that allows it"
+    );
+    Some(Told::new(format!("strip from line {line}"), fault, cure))
+}
+
+/// Refusal 17.
+pub fn past_board(sent: &Sent, line: usize) -> Option<Told> {
+    let (rows, job, row) = at(sent, line)?;
+    let [board, number, ..] = row.turn;
+    let strip = Strip::of(&rows, board, number);
+    let across: usize = strip.widths(&job).iter().sum();
+    let upwards = below(&rows, &job, board, number) + strip.height(&job);
+    let fault = match (across > job.width, upwards > job.height) {
+        (true, _) => format!(
+            "its stacks are {across} wide together, the board {}",
+            job.width
+        ),
+        (false, true) => format!("it reaches up to {upwards}, the board to {}", job.height),
+        _ => return None,
+    };
+    let cure = format!("Move items from strip {number} of board {board} to another strip or board");
+    Some(Told::new(format!("strip from line {line}"), fault, cure))
+}
+
+/// Refusal 18.
+pub fn position(sent: &Sent, line: usize) -> Option<Told> {
+    let (rows, job, row) = at(sent, line)?;
+    let [board, number, stack, _] = row.turn;
+    let strip = Strip::of(&rows, board, number);
+    let x: usize = strip.widths(&job).iter().take(stack - 1).sum();
+    let lower = strip
+        .stacks
+        .get(stack - 1)?
+        .iter()
+        .take_while(|lower| lower.line < line);
+    let y = below(&rows, &job, board, number)
+        + lower
+            .map(|lower| job.item(lower.item).height)
+            .sum::<usize>();
+    (row.at != [x, y]).then(|| {
+        let fault = format!(
+            "x and y are {} and {}, the item's position is {x} and {y}",
+            row.at[0], row.at[1]
+        );
+        let cure = "x is the widths of the stacks before it; \
+                    y the strips below plus the items below it in its stack";
+        Told::new(format!("line {line}"), fault, cure)
+    })
+}

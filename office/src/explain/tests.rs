@@ -1,0 +1,232 @@
+//! Each refusal explained, with the second implementation as the saw that gives it.
+
+use super::explain;
+use crate::answer::refusal;
+use crate::columns::line;
+use crate::job::tests::{job, job_a};
+
+/// Job A and these lines.
+fn text(lines: &[&[usize]]) -> String {
+    lines
+        .iter()
+        .fold(job_a().text(), |text, numbers| text + &line(numbers))
+}
+
+/// What is said of a text, refused by the program that it is for.
+fn told(text: &str) -> String {
+    let fold = text.lines().any(|line| line.starts_with("        7"));
+    let answer = if fold {
+        reference::fold_text(text.as_bytes())
+    } else {
+        reference::saw_text(text.as_bytes())
+    };
+    let [number, place] = refusal(std::str::from_utf8(&answer).unwrap()).unwrap();
+    let told =
+        explain(text.as_bytes(), number, place).unwrap_or_else(|fault| panic!("{fault}:\n{text}"));
+    assert!(told.starts_with(&format!("Refusal {number}, ")), "{told}");
+    told
+}
+
+/// Checks what is said of texts.
+fn check(texts: &[(String, &str)]) {
+    for (text, expected) in texts {
+        let told = told(text);
+        assert!(told.contains(expected), "{told}\nof\n{text}");
+    }
+}
+
+#[test]
+fn lines_not_of_the_form() {
+    let whole = text(&[&[3, 0, 1, 2]]);
+    let line_2 = &line(&[2, 1, 5, 4, 2]);
+    check(&[
+        (String::new(), "Refusal 1, line 1: the text ends before it. Write there \"1, stages, exact, W, H, n\"."),
+        (line(&[1, 2, 0, 9, 7, 2]), "line 2: the text ends before it. Write there \"2, 1, width"),
+        (whole.replace('\n', "\r\n"), "line 1: it ends with byte 13"),
+        (whole.replacen("        3", "\t3", 1), "a tab stands in column 1"),
+        (whole.replacen("        5", "      -5", 1), "\"-\" stands in column"),
+        (whole.replacen(line_2, &line(&[2, 2, 5, 4, 2]), 1), "line 2: its running number must be 1"),
+        (whole.replacen(line_2, &line(&[2, 1, 5, 4]), 1), "line 2: it has 36 columns; 5 numbers take 45"),
+        (whole.replacen("        9", "       09", 1), "columns 28 to 36 hold \"       09\""),
+        (whole.trim_end().to_string(), "line 4: it does not end with byte 10"),
+        (text(&[&[8, 1, 0, 1, 0]]), "kind 8 does not belong there. Write there \"3, plate, item, count\" or \"4, D, n, m\""),
+        (text(&[&[4, 1, 1, 0], &[6, 1, 1]]), "line 5: kind 6 does not belong there. Write there \"5, 1, price\""),
+        (text(&[&[4, 1, 1, 0], &[5, 1, 1], &[5, 2, 1]]), "line 6: kind 5 does not belong there. Write there nothing"),
+        (text(&[&[4, 1, 2, 5], &[5, 1, 1]]), "line 6: the text ends before it"),
+        (text(&[&[7, 1, 1, 1, 1, 1, 0, 0], &[3, 0, 1, 1]]), "line 5: kind 3 does not belong there"),
+        (whole + "\n", "line 5: its first nine columns hold no kind"),
+    ]);
+}
+
+#[test]
+fn a_text_sent_to_the_other_program() {
+    let plan = text(&[&[3, 0, 1, 2]]);
+    let layouts = text(&[&[7, 1, 1, 1, 1, 1, 0, 0]]);
+    for (text, answer) in [
+        (&plan, reference::fold_text(plan.as_bytes())),
+        (&layouts, reference::saw_text(layouts.as_bytes())),
+    ] {
+        assert_eq!(answer, line(&[9, 1, 4]).as_bytes());
+        let told = explain(text.as_bytes(), 1, 4).unwrap();
+        assert!(
+            told.contains("the program that refused it does not read"),
+            "{told}"
+        );
+    }
+}
+
+#[test]
+fn values_outside_their_limits() {
+    check(&[
+        (
+            line(&[1, 4, 0, 9, 7, 2]),
+            "Refusal 2, line 1: stages is 4, outside its limits. Write stages from 2 to 3.",
+        ),
+        (line(&[1, 2, 0, 9, 10_001, 2]), "H is 10,001"),
+        (
+            text(&[&[3, 0, 3, 1]]),
+            "line 4: item is 3, outside its limits. Write item from 1 to 2",
+        ),
+        (text(&[&[3, 0, 1, 4001]]), "count is 4,001"),
+        (text(&[&[4, 10_000, 2, 5]]), "D is 10,000"),
+        (text(&[&[7, 1, 1, 1, 1, 3, 0, 0]]), "type is 3"),
+    ]);
+}
+
+#[test]
+fn jobs_and_models() {
+    let many: Vec<[usize; 3]> = (0..40).map(|i| [101 + 7 * i, 103 + 11 * i, 1]).collect();
+    check(&[
+        (
+            job("2N", [9, 7], &[[7, 9, 1]]).text(),
+            "Refusal 3, item type 1: the item is 7 by 9, the board 9 by 7",
+        ),
+        (
+            job("2N", [9, 7], &[[5, 4, 4000], [3, 3, 1]]).text(),
+            "Refusal 4, the whole job: the demands add up to 4,001",
+        ),
+        (
+            job("3N", [10_000, 10_000], &[[71, 83, 1], [97, 61, 1]]).text(),
+            "Refusal 6, the whole job",
+        ),
+        (
+            job("3N", [10_000, 10_000], &many).text(),
+            "Refusal 7, the whole job: the job has more than 8,192 cuts",
+        ),
+    ]);
+    assert!(explain(b"", 5, 3).unwrap().contains("counts"));
+}
+
+#[test]
+fn plans() {
+    let exact = job("2E", [9, 7], &[[5, 4, 2], [3, 3, 3], [4, 4, 1]]).text();
+    check(&[
+        (text(&[&[3, 1, 1, 1]]), "item type 1 (5 by 4) cannot be cut from plate type 1 (9 by 3, stage 1): it does not fit"),
+        (text(&[&[3, 9, 1, 1]]), "there is no plate type 9; this job's run from 0 to 5"),
+        (exact + &line(&[3, 2, 2, 1]), "Refusal 8, line 5: item type 2 (3 by 3) cannot be cut from plate type 2 (4 by 4, stage 2): it is not just as high"),
+        (text(&[&[3, 0, 2, 1], &[3, 0, 1, 1]]), "Refusal 9, line 5: it names cut 1"),
+        (text(&[&[3, 0, 1, 3000], &[3, 0, 2, 1001]]), "Refusal 10, the whole plan: there are 4,001 cuts"),
+        (text(&[]), "Refusal 11, item type 1: it is cut 0 times; 2 are demanded on line 2"),
+        (text(&[&[3, 0, 1, 2], &[3, 1, 2, 1], &[3, 2, 2, 3], &[3, 4, 2, 1]]), "Refusal 12, plate type 2: it is 4 by 4, stage 2, is cut 3 times and arises 2 times"),
+    ]);
+}
+
+#[test]
+fn prices() {
+    let plan: [&[usize]; 4] = [&[3, 0, 1, 2], &[3, 1, 2, 1], &[3, 2, 2, 1], &[3, 4, 2, 1]];
+    let few: [&[usize]; 2] = [&[4, 1, 1, 0], &[5, 1, 1]];
+    let low: [&[usize]; 8] = [
+        &[4, 1, 2, 5],
+        &[5, 1, 1],
+        &[5, 2, 0],
+        &[6, 1, 0],
+        &[6, 2, 0],
+        &[6, 3, 0],
+        &[6, 4, 0],
+        &[6, 5, 0],
+    ];
+    check(&[
+        (text(&[&plan[..], &few].concat()), "Refusal 13, the whole price list: line 8 gives n 1 and m 0; this job has 2 item types and 5"),
+        (text(&[&plan[..], &low].concat()), "Refusal 14, cut 5: item type 1 and plate type 2 are worth 1, above 0, the price of plate type 3"),
+    ]);
+}
+
+/// A fold text of a job and these lines of kind 7.
+fn fold(job: crate::job::Job, lines: &[[usize; 7]]) -> String {
+    lines.iter().fold(job.text(), |text, numbers| {
+        text + &line(&[&[7], &numbers[..]].concat())
+    })
+}
+
+const FIRST: [usize; 7] = [1, 1, 1, 1, 1, 0, 0];
+
+#[test]
+fn stage_rules() {
+    let two = job("2E", [9, 7], &[[5, 4, 2], [3, 3, 3]]);
+    let three = job("3N", [5, 5], &[[3, 5, 1], [2, 2, 2]]);
+    let exact = job("3E", [5, 5], &[[3, 5, 1], [2, 2, 2], [1, 2, 1]]);
+    let single = fold(job_a(), &[FIRST, [1, 1, 1, 2, 2, 0, 4]]);
+    let heights = fold(two, &[FIRST, [1, 1, 2, 1, 2, 5, 0]]);
+    let full = fold(three, &[[1, 1, 1, 1, 2, 0, 0], [1, 1, 1, 2, 2, 0, 2]]);
+    let widths = fold(
+        exact,
+        &[FIRST, [1, 1, 2, 1, 2, 3, 0], [1, 1, 2, 2, 3, 3, 2]],
+    );
+    check(&[
+        (
+            single,
+            "Refusal 16, strip from line 4: in two stages each stack is one item",
+        ),
+        (heights, "equally high"),
+        (
+            full,
+            "no stack of the strip is a single item of the strip's height, 4",
+        ),
+        (widths, "equally wide"),
+    ]);
+}
+
+#[test]
+fn layouts() {
+    let turn = fold(job_a(), &[[1, 1, 2, 1, 1, 0, 0]]);
+    let across = fold(job_a(), &[FIRST, [1, 1, 2, 1, 1, 5, 0]]);
+    let upwards = fold(job_a(), &[FIRST, [1, 2, 1, 1, 1, 0, 4]]);
+    let position = fold(job_a(), &[FIRST, [1, 1, 2, 1, 2, 5, 1]]);
+    let many: Vec<[usize; 7]> = (1..=4001).map(|board| [board, 1, 1, 1, 1, 0, 0]).collect();
+    check(&[
+        (
+            turn,
+            "Refusal 15, line 4: board, strip, stack, place are 1 1 2 1",
+        ),
+        (
+            across,
+            "Refusal 17, strip from line 4: its stacks are 10 wide",
+        ),
+        (
+            upwards,
+            "Refusal 17, strip from line 5: it reaches up to 8, the board to 7",
+        ),
+        (
+            position,
+            "Refusal 18, line 5: x and y are 5 and 1, the item's position is 5 and 0",
+        ),
+        (
+            fold(job_a(), &[FIRST]),
+            "Refusal 11, item type 1: it lies on the boards 1 times",
+        ),
+        (fold(job_a(), &many), "Refusal 2, line 4004: board is 4,001"),
+    ]);
+}
+
+#[test]
+fn other_texts_and_numbers_are_told() {
+    let good = text(&[&[3, 0, 1, 2], &[3, 1, 2, 1], &[3, 2, 2, 1], &[3, 4, 2, 1]]);
+    for number in 1..=18 {
+        let said = explain(good.as_bytes(), number, 2);
+        assert!(
+            number == 5 || said.unwrap_err().contains("is it the text that was sent?"),
+            "{number}"
+        );
+    }
+    assert!(explain(b"", 19, 1).unwrap_err().contains("no refusal 19"));
+}

@@ -1,0 +1,82 @@
+//! What the program says of its use.
+
+/// The whole use, for `office --help`.
+pub const HELP: &str = "\
+office: from a job to a plan for the beam saw, and from the saw's answer to drawings.
+
+  office model JOB                  write the job's one-cut model as an LP file
+  office plan JOB SOLUTION          write the saw's text: the job and a solver's plan
+  office prices TEXT [SOLUTION]     write the text with prices from a solver's dual prices
+                                    (without SOLUTION: prices by area)
+  office draw JOB OUTPUT FOLDER     draw the saw's output: a picture of each board, and boards.html
+  office explain TEXT OUTPUT        say in words why the saw refused the text
+  office explain TEXT NUMBER PLACE  the same, from the two numbers at the panel
+  office --help                     this page; office COMMAND --help says more of a command
+
+Files are texts as docs/FORMAT.md says; - stands for standard input. JOB is lines 1 and 2, and any
+text that begins with them serves. Results go to standard output, but for the drawings.
+";
+
+/// The use of one command, if there is such a command.
+pub fn of_command(command: &str) -> Option<&'static str> {
+    Some(match command {
+        "model" => MODEL,
+        "plan" => PLAN,
+        "prices" => PRICES,
+        "draw" => DRAW,
+        "explain" => EXPLAIN,
+        _ => return None,
+    })
+}
+
+const MODEL: &str = "\
+office model JOB
+
+Writes the one-cut model of a job in CPLEX LP format, which GLPK, CBC, HiGHS, SCIP, Gurobi and CPLEX
+read. Column x_P_I counts the cut of item type I from plate type P; rows are item_I, plate_P, pieces.
+
+  office model job.txt > job.lp
+  glpsol --lp job.lp -o job.sol          or: cbc job.lp solve solution job.sol
+";
+
+const PLAN: &str = "\
+office plan JOB SOLUTION
+
+Writes the job and the plan of a solution as the saw's text. The plan is tested first. SOLUTION is
+GLPK's (glpsol -o or -w), CBC's (solution), CPLEX's, or lines of a name and a value (HiGHS, SCIP,
+Gurobi).
+
+  office plan job.txt job.sol > plan.txt
+";
+
+const PRICES: &str = "\
+office prices TEXT [SOLUTION]
+
+Writes the job and plan of TEXT with prices that the saw accepts. SOLUTION must hold dual prices, so
+it is the relaxation's:
+
+  glpsol --lp job.lp --nomip -o dual.sol
+  cbc job.lp initialSolve printingOptions all solution dual.sol
+  office prices plan.txt dual.sol > priced.txt
+
+Without SOLUTION each item's price is its share of the board's area. Price lines of TEXT are replaced.
+";
+
+const DRAW: &str = "\
+office draw JOB OUTPUT FOLDER
+
+Draws the saw's output: board-1.svg, board-2.svg and so on, and boards.html with all of them. An
+earlier drawing in FOLDER is replaced.
+
+  saw < priced.txt > output.txt
+  office draw job.txt output.txt boards
+";
+
+const EXPLAIN: &str = "\
+office explain TEXT OUTPUT
+office explain TEXT NUMBER PLACE
+
+Says in words which rule a line 9 names, which line or type breaks it, and what to change. TEXT is
+the text that was sent to the saw or to the fold program, OUTPUT what came back; NUMBER and PLACE are
+the two numbers at the panel.
+";

@@ -1,0 +1,14 @@
+//! Office kit of the beam saw: it reads and writes the texts of docs/FORMAT.md, and knows of the
+//! saw nothing else.
+
+pub mod answer;
+pub mod columns;
+pub mod draw;
+pub mod explain;
+pub mod help;
+pub mod job;
+pub mod listing;
+pub mod model;
+pub mod plan;
+pub mod prices;
+pub mod solution;

@@ -1,0 +1,174 @@
+//! Plans: counts of cuts, their test, and their lines of kind 3.
+
+use crate::columns::{line, numbers, thousands};
+use crate::job::{Job, MOST_PIECES};
+use crate::listing::Listing;
+use crate::model::column;
+use crate::solution::Solution;
+
+/// How far from a whole number a solver's value may lie.
+const TOLERANCE: f64 = 1e-3;
+
+/// The counts of a solution, one for each cut, rounded to whole numbers.
+pub fn counts(listing: &Listing, solution: &Solution) -> Result<Vec<usize>, String> {
+    let mut counts = Vec::new();
+    for cut in &listing.cuts {
+        let name = column(cut);
+        let value = solution.values.get(&name).copied().unwrap_or(0.0);
+        let rounded = value.round();
+        if (value - rounded).abs() > TOLERANCE || rounded < 0.0 {
+            return Err(format!(
+                "{name} is {value}, not a whole number: \
+                 a plan needs the integer solution, not the relaxation's"
+            ));
+        }
+        counts.push(rounded as usize);
+    }
+    Ok(counts)
+}
+
+/// An error unless the saw accepts the counts: at most 4,000 cuts, each demand reached, no residual
+/// type cut more often than it arises.
+pub fn accepted(job: &Job, listing: &Listing, counts: &[usize]) -> Result<(), String> {
+    let total: usize = counts.iter().sum();
+    if total > MOST_PIECES {
+        return Err(format!(
+            "the plan has {} cuts; at most 4,000 are allowed",
+            thousands(total)
+        ));
+    }
+    for (item_type, item) in (1..).zip(&job.items) {
+        let cut = cut_of_type(listing, counts, item_type);
+        if cut < item.demand {
+            return Err(format!(
+                "item type {item_type} is cut {cut} times; {} are demanded",
+                item.demand
+            ));
+        }
+    }
+    for plate in 1..listing.plates.len() {
+        let [on, arises] = balance(listing, counts, plate);
+        if on > arises {
+            return Err(format!(
+                "plate type {plate} ({}) is cut {on} times, but arises {arises} times",
+                listing.plates[plate].words()
+            ));
+        }
+    }
+    Ok(())
+}
+
+/// How often an item type is cut.
+pub fn cut_of_type(listing: &Listing, counts: &[usize], item_type: usize) -> usize {
+    let cuts = listing.cuts.iter().zip(counts);
+    cuts.filter(|(cut, _)| cut.item == item_type)
+        .map(|(_, &count)| count)
+        .sum()
+}
+
+/// How often a residual type is cut, and how often it arises.
+pub fn balance(listing: &Listing, counts: &[usize], plate: usize) -> [usize; 2] {
+    let mut balance = [0, 0];
+    for (cut, count) in listing.cuts.iter().zip(counts) {
+        if cut.plate == plate {
+            balance[0] += count;
+        }
+        if cut.kept().any(|kept| kept == plate) {
+            balance[1] += count;
+        }
+    }
+    balance
+}
+
+/// The counts that the lines of kind 3 of a saw text give; other lines after the job are left alone.
+pub fn of_text(text: &str, job: &Job, listing: &Listing) -> Result<Vec<usize>, String> {
+    let mut counts = vec![0; listing.cuts.len()];
+    for (number, line) in (1..).zip(text.lines()).skip(1 + job.items.len()) {
+        let all = numbers(line).ok_or(format!(
+            "line {number}: something in it is not a whole number"
+        ))?;
+        match all[..] {
+            [3, plate, item, count] => {
+                let cut = listing.cut_of(plate, item);
+                let cut = cut.ok_or(format!(
+                    "line {number}: item type {item} cannot be cut from plate type {plate}"
+                ))?;
+                counts[cut - 1] = count;
+            }
+            [3, ..] => return Err(format!("line {number}: must be: 3, plate, item, count")),
+            _ => {}
+        }
+    }
+    Ok(counts)
+}
+
+/// The boards that a plan opens.
+pub fn boards(listing: &Listing, counts: &[usize]) -> usize {
+    balance(listing, counts, 0)[0]
+}
+
+/// The lines of kind 3 of a plan, cuts rising; a cut that counts 0 has none.
+pub fn lines(listing: &Listing, counts: &[usize]) -> String {
+    let done = listing
+        .cuts
+        .iter()
+        .zip(counts)
+        .filter(|(_, &count)| count > 0);
+    done.map(|(cut, &count)| line(&[3, cut.plate, cut.item, count]))
+        .collect()
+}
+
+#[cfg(test)]
+mod tests {
+    use super::*;
+    use crate::job::tests::job_a;
+
+    /// Job A's plan.
+    const PLAN: [usize; 8] = [2, 0, 1, 1, 0, 0, 1, 0];
+
+    fn tested(counts: [usize; 8]) -> Result<(), String> {
+        accepted(&job_a(), &Listing::of(&job_a()).unwrap(), &counts)
+    }
+
+    #[test]
+    fn plans_are_tested() {
+        assert_eq!(tested(PLAN), Ok(()));
+        assert_eq!(tested([2, 0, 1, 2, 0, 0, 1, 0]), Ok(()));
+        for (counts, told) in [
+            (
+                [2, 0, 1, 3, 0, 0, 1, 0],
+                "plate type 2 (4 by 4, stage 2) is cut 3 times, but arises 2 times",
+            ),
+            ([2, 0, 0, 2, 0, 0, 1, 0], "plate type 4"),
+            ([0; 8], "item type 1 is cut 0 times; 2 are demanded"),
+            ([4000, 1, 0, 0, 0, 0, 0, 0], "4,001 cuts"),
+        ] {
+            let fault = tested(counts).unwrap_err();
+            assert!(fault.contains(told), "{fault}");
+        }
+    }
+
+    #[test]
+    fn a_solution_becomes_lines() {
+        let listing = Listing::of(&job_a()).unwrap();
+        let mut solution = Solution::default();
+        for (cut, &count) in listing.cuts.iter().zip(&PLAN) {
+            solution.values.insert(column(cut), count as f64 - 1e-7);
+        }
+        let counts = counts(&listing, &solution).unwrap();
+        assert_eq!(counts, PLAN);
+        assert_eq!(boards(&listing, &counts), 2);
+        let text = job_a().text() + &lines(&listing, &counts);
+        assert_eq!(text.lines().count(), 7);
+        assert_eq!(of_text(&text, &job_a(), &listing), Ok(counts));
+        let fault = of_text(&(text + "3 1 1 1\n"), &job_a(), &listing).unwrap_err();
+        assert!(
+            fault.contains("line 8: item type 1 cannot be cut from plate type 1"),
+            "{fault}"
+        );
+        solution.values.insert("x_0_1".into(), 1.5);
+        assert!(super::counts(&listing, &solution)
+            .unwrap_err()
+            .contains("relaxation"));
+    }
+}

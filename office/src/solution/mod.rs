@@ -1,0 +1,116 @@
+//! Solutions: the values and dual prices in a solver's solution file.
+//!
+//! Five forms are told apart by their first lines: GLPK's printable form (`glpsol -o`), GLPK's plain
+//! form (`glpsol -w`), CBC's (`solution`), CPLEX's, and lists of names and values (HiGHS, SCIP,
+//! Gurobi).
+
+mod cbc;
+mod cplex;
+mod glpk_plain;
+mod glpk_printed;
+mod named;
+
+use crate::job::Job;
+use crate::listing::Listing;
+use crate::model;
+use std::collections::HashMap;
+
+/// What a solution file says: values of columns and, if it has them, dual prices of rows.
+#[derive(Debug, Clone, Default, PartialEq)]
+pub struct Solution {
+    pub values: HashMap<String, f64>,
+    pub duals: HashMap<String, f64>,
+}
+
+/// The names of a model's columns and rows, each in the model's order, and which of them is which.
+#[derive(Debug, Clone)]
+pub struct Names {
+    columns: Vec<String>,
+    rows: Vec<String>,
+    kinds: HashMap<String, Kind>,
+}
+
+/// What a name stands for.
+#[derive(Debug, Clone, Copy, PartialEq, Eq)]
+enum Kind {
+    Column,
+    Row,
+}
+
+impl Names {
+    /// The names of a job's model.
+    pub fn of(job: &Job, listing: &Listing) -> Names {
+        let columns = model::columns(listing);
+        let rows = model::rows(listing, job);
+        let named = |list: &[String], kind| {
+            list.iter()
+                .map(|name| (name.clone(), kind))
+                .collect::<Vec<_>>()
+        };
+        let kinds = [named(&columns, Kind::Column), named(&rows, Kind::Row)].concat();
+        Names {
+            columns,
+            rows,
+            kinds: kinds.into_iter().collect(),
+        }
+    }
+
+    /// What a name stands for, if the model has it.
+    fn kind(&self, name: &str) -> Option<Kind> {
+        self.kinds.get(name).copied()
+    }
+}
+
+/// A line of a solution: a row or column by name, its value, its dual price if it has one.
+struct Entry<'a>(&'a str, f64, Option<f64>);
+
+impl Solution {
+    /// Reads a solution file, whichever form it has.
+    pub fn read(text: &str, names: &Names) -> Result<Solution, String> {
+        let first = text
+            .lines()
+            .find(|line| !line.trim().is_empty())
+            .unwrap_or("");
+        match first {
+            "" => Err("the solution file is empty: did the solver find a solution?".into()),
+            _ if first.starts_with("Problem:") => glpk_printed::read(text, names),
+            _ if first.starts_with("c ") || first.starts_with("s ") => {
+                glpk_plain::read(text, names)
+            }
+            _ if first.contains("objective value") && !first.starts_with("objective") => {
+                cbc::read(text, names)
+            }
+            _ if first.starts_with("<?xml") => cplex::read(text, names),
+            _ => named::read(text, names),
+        }
+    }
+
+    /// Takes in a line: a column's value, a row's dual price. A column that the job has not is refused.
+    fn enter(&mut self, names: &Names, Entry(name, value, dual): Entry) -> Result<(), String> {
+        match (names.kind(name), dual) {
+            (Some(Kind::Column), _) => {
+                self.values.insert(name.into(), value);
+            }
+            (Some(Kind::Row), Some(dual)) => {
+                self.duals.insert(name.into(), dual);
+            }
+            (None, _) if name.starts_with("x_") => {
+                return Err(format!(
+                    "the solution has a column {name}, and this job has no such cut: \
+                     was it made from this job's model?"
+                ));
+            }
+            _ => {}
+        }
+        Ok(())
+    }
+}
+
+/// A number as solvers write it.
+fn number(word: &str) -> Option<f64> {
+    let value: f64 = word.parse().ok()?;
+    value.is_finite().then_some(value)
+}
+
+#[cfg(test)]
+mod tests;

@@ -1,0 +1,142 @@
+//! Solutions of job A in every form, as the solvers wrote them.
+
+use super::*;
+use crate::job::tests::job_a;
+
+fn names() -> Names {
+    Names::of(&job_a(), &Listing::of(&job_a()).unwrap())
+}
+
+fn read(text: &str) -> Solution {
+    Solution::read(text, &names()).unwrap()
+}
+
+/// The value of a column that is not 0, and the number of such columns.
+fn nonzero(solution: &Solution, name: &str) -> (f64, usize) {
+    let others = solution
+        .values
+        .values()
+        .filter(|&&value| value != 0.0)
+        .count();
+    (solution.values[name], others)
+}
+
+const PRINTED: &str = "Problem:    
+Rows:       8
+Columns:    8 (8 integer, 0 binary)
+Non-zeros:  30
+Status:     INTEGER OPTIMAL
+Objective:  boards = 2 (MINimum)
+
+   No.   Row name        Activity     Lower bound   Upper bound
+------ ------------    ------------- ------------- -------------
+     1 item_1                      2             2               
+     8 pieces                      5                        4000 
+
+   No. Column name       Activity     Lower bound   Upper bound
+------ ------------    ------------- ------------- -------------
+     1 x_0_1        *              2             0               
+     2 x_0_2        *              0             0               
+     3 x_1_2        *              2             0               
+     4 x_2_2        *              1             0               
+
+Integer feasibility conditions:
+
+KKT.PE: max.abs.err = 0.00e+00 on row 0
+";
+
+const PRINTED_DUALS: &str = "Problem:    
+Status:     OPTIMAL
+
+   No.   Row name   St   Activity     Lower bound   Upper bound    Marginal
+------ ------------ -- ------------- ------------- ------------- -------------
+     1 item_1       NL             2             2                           1 
+     2 item_2       NL             3             3                       < eps
+     4 plate_2      B              1             0               
+
+   No. Column name  St   Activity     Lower bound   Upper bound    Marginal
+------ ------------ -- ------------- ------------- ------------- -------------
+     1 x_0_1        B              2             0               
+     6 x_3_2        NL             0             0                           1 
+
+Karush-Kuhn-Tucker optimality conditions:
+";
+
+#[test]
+fn glpk_printed() {
+    let solution = read(PRINTED);
+    assert_eq!(nonzero(&solution, "x_1_2"), (2.0, 3));
+    assert!(solution.duals.is_empty());
+    let solution = read(PRINTED_DUALS);
+    assert_eq!(nonzero(&solution, "x_0_1"), (2.0, 1));
+    assert_eq!(solution.duals["item_1"], 1.0);
+    assert_eq!(solution.duals["item_2"], 0.0);
+    assert_eq!(solution.duals["plate_2"], 0.0);
+}
+
+#[test]
+fn glpk_plain() {
+    let solution = read("c Status\ns mip 8 8 o 2\ni 1 2\nj 1 2\nj 3 2\nj 4 1\nj 5 0\ne o f\n");
+    assert_eq!(nonzero(&solution, "x_2_2"), (1.0, 3));
+    assert!(solution.duals.is_empty());
+    let solution = read("s bas 8 8 f f 2\ni 1 l 2 1\ni 4 b 1 0\nj 1 b 2 0\nj 6 l 0 1\ne o f\n");
+    assert_eq!(nonzero(&solution, "x_0_1"), (2.0, 1));
+    assert_eq!(solution.duals["item_1"], 1.0);
+    let solution = read("s ipt 8 8 o 2.5\ni 1 2.0 0.9999\nj 1 1.0903 5.9e-10\ne o f\n");
+    assert_eq!(solution.duals["item_1"], 0.9999);
+}
+
+#[test]
+fn cbc() {
+    let head = "Optimal - objective value 2.00000000\n";
+    let solution = read(&format!(
+        "{head}      0 x_0_1      0      1\n      1 x_0_2      2      1\n**    4 x_3_1      2      0\n"
+    ));
+    assert_eq!(nonzero(&solution, "x_3_1"), (2.0, 2));
+    let solution = read(&format!(
+        "{head}      0 item_1      2     1\n      0 x_0_1      0     0\n"
+    ));
+    assert_eq!(solution.duals["item_1"], 1.0);
+}
+
+#[test]
+fn names_and_values() {
+    let solution = read(
+        "solution status: optimal\nobjective value: 2\nx_0_1   2 \t(obj:1)\nx_2_2  1 (obj:0)\n",
+    );
+    assert_eq!(nonzero(&solution, "x_2_2"), (1.0, 2));
+    let solution = read("# Columns 2\nx_0_1 2\nx_1_2 0\n# Rows 1\nitem_1 2\n# Dual solution values\nitem_1 1\nx_0_1 7\n");
+    assert_eq!(nonzero(&solution, "x_0_1"), (2.0, 1));
+    assert_eq!(solution.duals["item_1"], 1.0);
+}
+
+#[test]
+fn cplex() {
+    let head = "<?xml version = \"1.0\"?>\n<CPLEXSolution version=\"1.2\">\n <header problemName=\"a\"/>\n";
+    let solution = read(&format!(
+        "{head} <linearConstraints>\n  <constraint name=\"item_1\" index=\"0\" slack=\"0\" dual=\"1\"/>\n \
+         </linearConstraints>\n <variables>\n  <variable name=\"x_0_1\" index=\"0\" value=\"2\"/>\n  \
+         <variable name=\"x_0_2\" index=\"1\" value=\"0\"/>\n </variables>\n</CPLEXSolution>\n"
+    ));
+    assert_eq!(nonzero(&solution, "x_0_1"), (2.0, 1));
+    assert_eq!(solution.duals["item_1"], 1.0);
+}
+
+#[test]
+fn every_fault_is_told() {
+    for (text, told) in [
+        ("", "empty"),
+        ("Problem:\nStatus:     INTEGER UNDEFINED\n", "no solution"),
+        ("s mip 8 8 u 0\n", "no solution"),
+        ("s mip 7 8 o 0\n", "7 rows and 8 columns"),
+        ("s mip 8 8 o 0\nj 9 1\n", "not the model's"),
+        ("Infeasible - objective value 0\n", "no solution"),
+        ("Optimal - objective value 2\n 0 x_9_9 1 0\n", "no such cut"),
+        ("Optimal - objective value 2\n 0 x_0_1\n", "not CBC's"),
+        ("hello\n", "no column of the job's model"),
+        ("<?xml?>\n", "no variable of the job's model"),
+    ] {
+        let fault = Solution::read(text, &names()).unwrap_err();
+        assert!(fault.contains(told), "{text}: {fault}");
+    }
+}
