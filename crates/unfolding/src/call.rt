@@ -36,7 +36,7 @@ pub enum Unfolded {
 }
 
 // Unfolds an accepted plan, which opens a number of boards, over a listing of k cuts; the counts are spent from a copy.
-fn unfold_plan(
+pub fn unfold_plan(
     job: &[u16],
     counts: &[u16],
     plates: &[u16],
