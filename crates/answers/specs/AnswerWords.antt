@@ -1,0 +1,26 @@
+-- The three words that a call leaves to its host: the refusal number, 0 where accepted; the first value, or the place; the second value.
+-- Assumes nothing.
+use Prim.Native.Nat.{ℕ}
+use mathlib.Core.Path.{_≡_}
+use mathlib.Core.Bool.{cond}
+use mathlib.Core.List.{List, [], _∷_}
+use lib.Dec.{ltb}
+use lib.ListN.{getD}
+use Rattle.job.specs.Buffers.{Answer, given, refused}
+
+-- the largest number of a word of 32 bits
+abbrev pub maxWord : ℕ
+maxWord = 4294967295
+
+-- a place as a word: itself, or the largest number where it is above that
+abbrev pub placeWord : ℕ → ℕ
+placeWord place = cond (ltb place maxWord) place maxWord
+
+-- a value that the call does not have is 0
+abbrev pub answerWords : Answer → List ℕ
+answerWords (given results) = 0 ∷ getD results 0 0 ∷ getD results 1 0 ∷ []
+answerWords (refused number place) = number ∷ placeWord place ∷ 0 ∷ []
+
+-- what is promised of the two values where the refusal number is 0
+abbrev pub WhereAccepted : List ℕ → (ℕ → ℕ → Type 0) → Type 0
+WhereAccepted words promise = getD words 0 0 ≡ 0 → promise (getD words 1 0) (getD words 2 0)

@@ -1,0 +1,2 @@
+-- The definitions of this crate: what a call leaves to a host.
+pub mod AnswerWords

@@ -1,0 +1,2 @@
+// What a call leaves to a host: three words.
+pub mod words;

@@ -1,0 +1,30 @@
+// The three words that a call leaves to its host.
+ghost use mathlib.Core.Path.{_≡_};
+ghost use mathlib.Core.List.{[], _∷_};
+ghost use Rattle.job.specs.Buffers.{given, refused};
+ghost use Rattle.answers.specs.AnswerWords.{placeWord, answerWords};
+
+// Accepted, with a first and a second value, which is 0 where the call has one value alone.
+pub fn accept(answer: &mut [u32; 3], first: u32, second: u32)
+    ensures { λ _. ⌜ now (answer .exit) ≡ answerWords (given (first ∷ second ∷ [])) ⌝ }
+{
+    *answer = [0, first, second];
+}
+
+// A place as a word: itself, or 4,294,967,295 where it is above that.
+fn place_word(place: usize) -> u32
+    ensures { λ r. ⌜ r ≡ placeWord place ⌝ }
+{
+    if place < 4294967295 {
+        place as u32
+    } else {
+        4294967295
+    }
+}
+
+// Refused, with a number of the table and the place that it names.
+pub fn refuse(answer: &mut [u32; 3], number: u16, place: usize)
+    ensures { λ _. ⌜ now (answer .exit) ≡ answerWords (refused number place) ⌝ }
+{
+    *answer = [number as u32, place_word(place), 0];
+}

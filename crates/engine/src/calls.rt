@@ -1,0 +1,120 @@
+// The calls, as a host calls them. `answer` ends as three words: the refusal number, 0 where accepted; the first value, or the place that is named; the
+// second value, or 0. The lent buffers end as those of the call do.
+ghost use mathlib.Core.Path.{_≡_};
+ghost use Rattle.listing.specs.ListCall.{listVerdict, listAnswer, platesEnd, cutsEnd};
+ghost use Rattle.plan.specs.PlanCall.{planVerdict, planAnswer};
+ghost use Rattle.plan.specs.PriceCall.{priceVerdict, priceAnswer};
+ghost use Rattle.layouts.specs.UnfoldCall.{unfoldVerdict, unfoldingOf, unfoldAnswer, placementsEnd};
+ghost use Rattle.layouts.specs.FoldCall.{foldVerdict, foldAnswer, countsEnd};
+ghost use Rattle.layouts.specs.Demand3.{J, L, Unfolds};
+ghost use Rattle.tester.specs.PriceBound.{Bounds};
+ghost use Rattle.folder.specs.Ending.{Promise};
+ghost use Rattle.answers.specs.AnswerWords.{answerWords, WhereAccepted};
+use answers::words::accept;
+use answers::words::refuse;
+use folder::call::FoldAnswer;
+use folder::call::fold;
+use lister::list::Listed;
+use lister::list::list;
+use tester::plan_row::PlanAnswer;
+use tester::plan_test::test_plan;
+use tester::price_test::test_prices;
+use tester::prices::PriceAnswer;
+use unfolding::call::Unfolded;
+use unfolding::call::unfold;
+
+// The listing call: the values are the numbers of residual types and of cuts.
+#[no_mangle]
+pub extern "C" fn saw_list(job: &[u16], plates: &mut [u16], cuts: &mut [u16], answer: &mut [u32; 3])
+    ensures { λ _. ⌜ now (answer .exit) ≡ answerWords (listAnswer (now (job .entry)) (now (plates .entry)) (now (cuts .entry))) ⌝ }
+    ensures { λ _. ⌜ now (plates .exit) ≡ platesEnd (listVerdict (now (job .entry)) (now (plates .entry)) (now (cuts .entry))) (now (job .entry)) (now (plates .entry)) ⌝ }
+    ensures { λ _. ⌜ now (cuts .exit) ≡ cutsEnd (listVerdict (now (job .entry)) (now (plates .entry)) (now (cuts .entry))) (now (job .entry)) (now (cuts .entry)) ⌝ }
+{
+    match list(job, plates, cuts) {
+        Listed::Done(residuals, k) => accept(answer, residuals.0 as u32, k.0 as u32),
+        Listed::Refused(number, place) => refuse(answer, number, place as usize),
+    }
+}
+
+// The plan test: the value is the number of boards.
+#[no_mangle]
+pub extern "C" fn saw_test_plan(
+    job: &[u16],
+    counts: &[u16],
+    plates: &mut [u16],
+    cuts: &mut [u16],
+    answer: &mut [u32; 3],
+)
+    ensures { λ _. ⌜ now (answer .exit) ≡ answerWords (planAnswer (now (job .entry)) (now (counts .entry)) (now (plates .entry)) (now (cuts .entry))) ⌝ }
+    ensures { λ _. ⌜ now (plates .exit) ≡ platesEnd (planVerdict (now (job .entry)) (now (counts .entry)) (now (plates .entry)) (now (cuts .entry))) (now (job .entry)) (now (plates .entry)) ⌝ }
+    ensures { λ _. ⌜ now (cuts .exit) ≡ cutsEnd (planVerdict (now (job .entry)) (now (counts .entry)) (now (plates .entry)) (now (cuts .entry))) (now (job .entry)) (now (cuts .entry)) ⌝ }
+{
+    match test_plan(job, counts, plates, cuts) {
+        PlanAnswer::Accepted(boards) => accept(answer, boards as u32, 0),
+        PlanAnswer::Refused(number, place) => refuse(answer, number, place),
+    }
+}
+
+// The price test: the values are the sum of price times demand and D. Where it is accepted they bound every set of layouts, by demand 3.
+#[no_mangle]
+pub extern "C" fn saw_test_prices(
+    job: &[u16],
+    prices: &[u16],
+    plates: &mut [u16],
+    cuts: &mut [u16],
+    answer: &mut [u32; 3],
+)
+    ensures { λ _. ⌜ now (answer .exit) ≡ answerWords (priceAnswer (now (job .entry)) (now (prices .entry)) (now (plates .entry)) (now (cuts .entry))) ⌝ }
+    ensures { λ _. ⌜ now (plates .exit) ≡ platesEnd (priceVerdict (now (job .entry)) (now (prices .entry)) (now (plates .entry)) (now (cuts .entry))) (now (job .entry)) (now (plates .entry)) ⌝ }
+    ensures { λ _. ⌜ now (cuts .exit) ≡ cutsEnd (priceVerdict (now (job .entry)) (now (prices .entry)) (now (plates .entry)) (now (cuts .entry))) (now (job .entry)) (now (cuts .entry)) ⌝ }
+    ensures { λ _. ⌜ WhereAccepted (now (answer .exit)) (Bounds (now (job .entry))) ⌝ }
+{
+    match test_prices(job, prices, plates, cuts) {
+        PriceAnswer::Accepted(sum, d) => accept(answer, sum, d as u32),
+        PriceAnswer::Refused(number, place) => refuse(answer, number, place),
+    }
+}
+
+// The unfolding call: the values are the numbers of boards and of pieces. Where it is accepted the placements are what demand 3 says.
+#[no_mangle]
+pub extern "C" fn saw_unfold(
+    job: &[u16],
+    counts: &[u16],
+    plates: &mut [u16],
+    cuts: &mut [u16],
+    placements: &mut [u16],
+    answer: &mut [u32; 3],
+)
+    ensures { λ _. ⌜ now (answer .exit) ≡ answerWords (unfoldAnswer (now (job .entry)) (now (counts .entry)) (now (plates .entry)) (now (cuts .entry)) (now (placements .entry))) ⌝ }
+    ensures { λ _. ⌜ now (plates .exit) ≡ platesEnd (unfoldVerdict (now (job .entry)) (now (counts .entry)) (now (plates .entry)) (now (cuts .entry)) (now (placements .entry))) (now (job .entry)) (now (plates .entry)) ⌝ }
+    ensures { λ _. ⌜ now (cuts .exit) ≡ cutsEnd (unfoldVerdict (now (job .entry)) (now (counts .entry)) (now (plates .entry)) (now (cuts .entry)) (now (placements .entry))) (now (job .entry)) (now (cuts .entry)) ⌝ }
+    ensures { λ _. ⌜ now (placements .exit) ≡ placementsEnd (unfoldVerdict (now (job .entry)) (now (counts .entry)) (now (plates .entry)) (now (cuts .entry)) (now (placements .entry))) (now (job .entry)) (now (counts .entry)) (now (placements .entry)) ⌝ }
+    ensures { λ _. ⌜ WhereAccepted (now (answer .exit)) (λ _ _. Unfolds (J (now (job .entry))) (L (now (job .entry))) (now (counts .entry)) (unfoldingOf (now (job .entry)) (now (counts .entry)))) ⌝ }
+{
+    match unfold(job, counts, plates, cuts, placements) {
+        Unfolded::Done(boards, pieces) => accept(answer, boards as u32, pieces as u32),
+        Unfolded::Refused(number, place) => refuse(answer, number, place),
+    }
+}
+
+// The folding call: the value is the number of boards. Where it is accepted the layouts and the counts are what demand 3 says.
+#[no_mangle]
+pub extern "C" fn saw_fold(
+    job: &[u16],
+    layouts: &[u16],
+    plates: &mut [u16],
+    cuts: &mut [u16],
+    counts: &mut [u16],
+    answer: &mut [u32; 3],
+)
+    ensures { λ _. ⌜ now (answer .exit) ≡ answerWords (foldAnswer (now (job .entry)) (now (layouts .entry)) (now (plates .entry)) (now (cuts .entry)) (now (counts .entry))) ⌝ }
+    ensures { λ _. ⌜ now (plates .exit) ≡ platesEnd (foldVerdict (now (job .entry)) (now (layouts .entry)) (now (plates .entry)) (now (cuts .entry)) (now (counts .entry))) (now (job .entry)) (now (plates .entry)) ⌝ }
+    ensures { λ _. ⌜ now (cuts .exit) ≡ cutsEnd (foldVerdict (now (job .entry)) (now (layouts .entry)) (now (plates .entry)) (now (cuts .entry)) (now (counts .entry))) (now (job .entry)) (now (cuts .entry)) ⌝ }
+    ensures { λ _. ⌜ now (counts .exit) ≡ countsEnd (foldVerdict (now (job .entry)) (now (layouts .entry)) (now (plates .entry)) (now (cuts .entry)) (now (counts .entry))) (now (job .entry)) (now (layouts .entry)) (now (counts .entry)) ⌝ }
+    ensures { λ _. ⌜ WhereAccepted (now (answer .exit)) (λ _ _. Promise (now (job .entry)) (now (layouts .entry)) (now (counts .exit))) ⌝ }
+{
+    match fold(job, layouts, plates, cuts, counts) {
+        FoldAnswer::Folded(boards) => accept(answer, boards as u32, 0),
+        FoldAnswer::Refused(number, place) => refuse(answer, number, place),
+    }
+}

@@ -1,0 +1,3 @@
+// The engine for its hosts: each call as a function with the calling convention of C. A slice is passed as a pointer and then its length in words,
+// `answer` as a pointer to three words.
+pub mod calls;

@@ -1,0 +1,2 @@
+// The cut of a plate type and an item type, found by its pair.
+pub mod search;

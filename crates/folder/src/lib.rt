@@ -1,0 +1,3 @@
+// The folding call.
+pub mod boards;
+pub mod call;

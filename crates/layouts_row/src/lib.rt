@@ -1,0 +1,3 @@
+// The checks of layouts, up to the layouts row.
+pub mod front;
+pub mod rows;

@@ -1,0 +1,76 @@
+/* A host of the engine: job A of document 01, listed, its plan and prices tested, its plan unfolded and folded again; then three
+ * refusals.
+ * Build and run: tools/test-hosts. */
+#include <stdio.h>
+#include <string.h>
+
+#include "saw_engine.h"
+
+/* The lent buffers, at their full sizes, and the counts passed in. They are static: together they are 150 KB. */
+static uint16_t plates[SAW_PLATES];
+static uint16_t cuts[SAW_CUTS];
+static uint16_t counts[SAW_COUNTS];
+static uint16_t placements[SAW_PLACEMENTS];
+
+/* Mode 2N, board 9 by 7, item 1 of 5 by 4 (demand 2), item 2 of 3 by 3 (demand 3). */
+static const uint16_t job_a[] = {2, 0, 9, 7, 2, 5, 4, 2, 3, 3, 3};
+/* The counts of cuts 1 to 8. */
+static const uint16_t plan_a[] = {2, 0, 1, 1, 0, 0, 1, 0};
+/* D 1; item types 1 and 2; residual types 1 to 5. */
+static const uint16_t prices_a[] = {1, 1, 0, 0, 0, 1, 0, 0};
+
+#define LENGTH(array) (sizeof(array) / sizeof((array)[0]))
+
+static void print_answer(const char *call, const uint32_t answer[3])
+{
+    if (answer[0] == 0)
+        printf("%s: %u %u\n", call, (unsigned)answer[1], (unsigned)answer[2]);
+    else
+        printf("%s: refused %u at %u\n", call, (unsigned)answer[0], (unsigned)answer[1]);
+}
+
+/* The records of a lent buffer, so many of so many words. */
+static void print_records(const uint16_t *words, size_t records, size_t width)
+{
+    for (size_t record = 0; record < records; record++) {
+        for (size_t word = 0; word < width; word++)
+            printf(" %5u", (unsigned)words[record * width + word]);
+        printf("\n");
+    }
+}
+
+int main(void)
+{
+    uint32_t answer[3];
+
+    saw_list(job_a, LENGTH(job_a), plates, LENGTH(plates), cuts, LENGTH(cuts), answer);
+    print_answer("listing, residual types and cuts", answer);
+    print_records(plates, answer[1] + 1, 3);
+    print_records(cuts, answer[2], 4);
+
+    memcpy(counts, plan_a, sizeof plan_a);
+    saw_test_plan(job_a, LENGTH(job_a), counts, LENGTH(counts), plates, LENGTH(plates), cuts, LENGTH(cuts), answer);
+    print_answer("plan test, boards", answer);
+
+    saw_test_prices(job_a, LENGTH(job_a), prices_a, LENGTH(prices_a), plates, LENGTH(plates), cuts, LENGTH(cuts), answer);
+    print_answer("price test, sum and D", answer);
+
+    saw_unfold(job_a, LENGTH(job_a), counts, LENGTH(counts), plates, LENGTH(plates), cuts, LENGTH(cuts),
+               placements, LENGTH(placements), answer);
+    print_answer("unfolding, boards and pieces", answer);
+    print_records(placements, answer[2], 7);
+
+    memset(counts, 0xff, sizeof counts);
+    saw_fold(job_a, LENGTH(job_a), placements, 7 * (size_t)answer[2], plates, LENGTH(plates), cuts, LENGTH(cuts), counts, LENGTH(counts), answer);
+    print_answer("folding, boards", answer);
+    print_records(counts, 1, LENGTH(plan_a));
+
+    saw_list(job_a, LENGTH(job_a) - 1, plates, LENGTH(plates), cuts, LENGTH(cuts), answer);
+    print_answer("a job cut short", answer);
+    saw_list(job_a, LENGTH(job_a), plates, LENGTH(plates), cuts, LENGTH(cuts) - 1, answer);
+    print_answer("cuts too short", answer);
+    counts[3] = 3;
+    saw_test_plan(job_a, LENGTH(job_a), counts, LENGTH(counts), plates, LENGTH(plates), cuts, LENGTH(cuts), answer);
+    print_answer("cut 4 at 3", answer);
+    return 0;
+}

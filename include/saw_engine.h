@@ -1,0 +1,91 @@
+/* The beam saw plan engine as a static library: the calls of document 01, for a host in C.
+ *
+ * Link target/staticlib/libengine.a, which `rt staticlib engine` writes for x86-64 Linux. Each function is proved to meet its contract in
+ * crates/engine/src/calls.rt. It allocates nothing, keeps no state between calls and always returns; of the C library it uses memcpy and memset alone.
+ *
+ * What a host must keep:
+ *   - A pointer and the length after it name one array of so many words, aligned for its type; a length counts words and not bytes. It may be 0; the
+ *     pointer is then still aligned and not null.
+ *   - `answer` points to three words.
+ *   - No two arrays of one call overlap, unless neither is written. The arrays passed as `const` are read and never change; the others are written.
+ *   - No other thread writes an array of a running call, or reads one that it writes.
+ *   - SAW_STACK bytes of stack are free at the call.
+ * Nothing else is asked: the words may be any, and the lengths too. Old contents of a lent buffer have no influence.
+ *
+ * What a call leaves:
+ *   answer[0]   the refusal number, 1 to 18; 0 where the call is accepted
+ *   answer[1]   the first value; of a refusal the place that it names, or 4294967295 where that is above it
+ *   answer[2]   the second value; 0 where there is none
+ * After 5 the lent buffers are as they were; after any other refusal every word of them is 0; after success they hold their records from the first word
+ * on, and 0 in every word past them. Refusal 5 names the buffer that is shorter than its full size: plates 1, cuts 2, counts 3, placements 4. */
+#ifndef SAW_ENGINE_H
+#define SAW_ENGINE_H
+
+#include <stddef.h>
+#include <stdint.h>
+
+#ifdef __cplusplus
+extern "C" {
+#endif
+
+/* Full sizes, in words of 16 bits: 2,048 plate types of 3 words, 8,192 cuts of 4 words, their counts, 4,000 placements of 7 words. */
+#define SAW_PLATES 6144
+#define SAW_CUTS 32768
+#define SAW_COUNTS 8192
+#define SAW_PLACEMENTS 28000
+
+/* Stack that a call may use, in bytes. */
+#define SAW_STACK 65536
+
+/* Words. A job: stages, exact, W, H, n, then width, height, demand of each item type. A plate: width, height, stage. A cut: plate, item, top, right, where
+ * 0 is a residual that is not kept. Counts: one for each cut, from cut 1. Prices: D, one for each item type, one for each residual type. A placement: board,
+ * strip, stack, place, type, x, y. */
+
+/* Listing. Values: the numbers of residual types and of cuts. Plates and cuts end as the listing.
+ * Refusals: 1, 2, 3, 4 of the job; 5; 6, 7 of the model. */
+void saw_list(const uint16_t *job, size_t job_len,
+              uint16_t *plates, size_t plates_len,
+              uint16_t *cuts, size_t cuts_len,
+              uint32_t answer[3]);
+
+/* Plan test. Value: the number of boards that the plan opens. Plates and cuts end as the listing.
+ * Refusals: those of the listing; 8, 10, 11, 12 of the plan. Counts are SAW_COUNTS words or more. */
+void saw_test_plan(const uint16_t *job, size_t job_len,
+                   const uint16_t *counts, size_t counts_len,
+                   uint16_t *plates, size_t plates_len,
+                   uint16_t *cuts, size_t cuts_len,
+                   uint32_t answer[3]);
+
+/* Price test. Values: the sum of price times demand, and D. Every set of layouts that keeps the rules and meets the demands has so many boards that boards
+ * times D is at least the sum. Plates and cuts end as the listing.
+ * Refusals: those of the listing, 2 also of a price word, which it names from 1; 13, 14 of the prices. */
+void saw_test_prices(const uint16_t *job, size_t job_len,
+                     const uint16_t *prices, size_t prices_len,
+                     uint16_t *plates, size_t plates_len,
+                     uint16_t *cuts, size_t cuts_len,
+                     uint32_t answer[3]);
+
+/* Unfolding. Values: the numbers of boards and of pieces. Plates and cuts end as the listing, placements as the pieces in turn.
+ * Refusals: those of the plan test. */
+void saw_unfold(const uint16_t *job, size_t job_len,
+                const uint16_t *counts, size_t counts_len,
+                uint16_t *plates, size_t plates_len,
+                uint16_t *cuts, size_t cuts_len,
+                uint16_t *placements, size_t placements_len,
+                uint32_t answer[3]);
+
+/* Folding. Value: the number of boards of the layouts. Plates and cuts end as the listing, counts as an accepted plan, one word for each cut. Layouts are
+ * placements, seven words for each.
+ * Refusals: those of the listing, 1 and 2 also of a line of the layouts, which they name from 1; 10, 15, 16, 17, 18, 11 of the layouts. */
+void saw_fold(const uint16_t *job, size_t job_len,
+              const uint16_t *layouts, size_t layouts_len,
+              uint16_t *plates, size_t plates_len,
+              uint16_t *cuts, size_t cuts_len,
+              uint16_t *counts, size_t counts_len,
+              uint32_t answer[3]);
+
+#ifdef __cplusplus
+}
+#endif
+
+#endif
