@@ -1,0 +1,4 @@
+// The fold text, taken in parts.
+pub mod fold;
+pub mod lines;
+pub mod ready;

@@ -1,0 +1,6 @@
+-- The laws of this crate: the line row of numbers, words in lent buffers.
+pub mod CodeJudge
+pub mod CodeWords
+pub mod CodeLine
+pub mod CodeJobLines
+pub mod CodeText

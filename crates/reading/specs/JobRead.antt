@@ -1,0 +1,27 @@
+-- Document 01, "Texts": lines of kinds 1 and 2 as the job's words, in a lent buffer.
+-- Assumes nothing.
+use Prim.Native.Nat.{ℕ, _+_, _*_, _≤_}
+use mathlib.Core.Path.{_≡_}
+use mathlib.Core.List.{List, [], _∷_, _++_}
+use lib.ListN.{length, getD, drop}
+use Rattle.job.specs.Job.{maxTypes}
+use Rattle.listing.specs.Holds.{Holds}
+use Rattle.texts.specs.Shape.{jobLine, itemLine, numbersRow}
+use Rattle.reading.specs.Judged.{verdictOf}
+
+-- line 1 with the numbers ns, over a job's words that become others; r is its refusal, or 0
+pub record FirstRead (ns job job′ : List ℕ) (r : ℕ) : Type 0 where
+  pub row : (line : ℕ) → verdictOf r line ≡ numbersRow line (jobLine ∷ []) ns
+  -- refused, it changes no word
+  pub unchanged : (r ≡ 0 → ⊥) → job′ ≡ job
+  -- else its numbers after the kind are the first words, and the number of types is within its limits
+  pub read : r ≡ 0 → Holds job [] → Holds job′ (drop 1 ns)
+  pub types : r ≡ 0 → (1 ≤ getD job′ 4 0) × (getD job′ 4 0 ≤ maxTypes)
+
+-- line 2 of type i
+pub record ItemRead (i : ℕ) (ns job job′ : List ℕ) (r : ℕ) : Type 0 where
+  pub row : (line : ℕ) → verdictOf r line ≡ numbersRow line (itemLine i ∷ []) ns
+  pub unchanged : (r ≡ 0 → ⊥) → job′ ≡ job
+  -- its numbers after the type are the next words, and the number of types stays
+  pub read : r ≡ 0 → (ws : List ℕ) → length ws ≡ 2 + 3 * i → Holds job ws → Holds job′ (ws ++ drop 2 ns)
+  pub types : r ≡ 0 → getD job′ 4 0 ≡ getD job 4 0

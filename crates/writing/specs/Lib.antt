@@ -1,0 +1,2 @@
+-- The definitions of this crate: what is written to an output.
+pub mod Wrote
