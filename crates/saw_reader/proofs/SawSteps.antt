@@ -1,0 +1,115 @@
+-- What a state and lent buffers keep of a saw text, step by step: nothing read, a line refused, a line admitted.
+-- Assumes nothing.
+use Prim.Native.Nat.{ℕ, zero, suc, _≤_, _<_}
+use native.Mathlib.Omega.{arith}
+use mathlib.Core.Path.{_≡_, refl, sym, ap, _∙_}
+use mathlib.Core.Bool.{true}
+use mathlib.Core.List.{List, []}
+use mathlib.Core.Option.{some}
+use lib.Dec.{leb}
+use lib.ListN.{length, length-replicate}
+use borrow.Author.Tests.{le-leb}
+use Rattle.job.specs.Verdict.{refuse}
+use Rattle.listing.specs.Holds.{Holds}
+use Rattle.listing.proofs.CodeHolds.{cleared}
+use Rattle.texts.specs.Reader.{Reader, maxLines, started, lineRead}
+use Rattle.texts.specs.SawText.{Saw, sawGrammar, sawAfter}
+use Rattle.texts.proofs.Basics.{and-both, within-both}
+use Rattle.reading.specs.declared.text.Place.{Place}
+use Rattle.reading.specs.declared.text.Place.the-variants.{First, Types, Body, ItemPrices, PlatePrices, Done}
+use Rattle.reading.specs.declared.text.TextReader.{TextReader}
+use Rattle.reading.specs.Standing.{placeOf, TextAt}
+use Rattle.reading.proofs.CodeText.{kept-refused, kept-admitted, line-refused, line-admitted, at-ready}
+use Rattle.saw_reader.specs.declared.held.SawHeld.{SawHeld}
+use Rattle.saw_reader.specs.declared.held.Taken.{Taken}
+use Rattle.saw_reader.specs.declared.saw.SawReader.{SawReader}
+use Rattle.saw_reader.specs.SawKept.{Lent, lent, Room, HeldAs, placeSound, TakenAs}
+use Rattle.saw_reader.specs.SawFed.{NoneHeld, SawReady, SawKept, Step, zeros, Started}
+
+-- buffers as long as they were have their full size
+pub room-again :
+    {job plates cuts counts prices job′ plates′ cuts′ counts′ prices′ : List ℕ}
+    → Room (lent job plates cuts counts prices)
+    → length job′ ≡ length job
+    → length plates′ ≡ length plates
+    → length cuts′ ≡ length cuts
+    → length counts′ ≡ length counts
+    → length prices′ ≡ length prices
+    → Room (lent job′ plates′ cuts′ counts′ prices′)
+room-again r a b c d e =
+    record {
+      for-job = omega (arith, r .for-job, a);
+      for-plates = omega (arith, r .for-plates, b);
+      for-cuts = omega (arith, r .for-cuts, c);
+      for-counts = omega (arith, r .for-counts, d);
+      for-prices = omega (arith, r .for-prices, e);
+    }
+
+-- a state that keeps a text has a sound running number
+pub kept-sound : (p : Place) (s : Saw) (lines : ℕ) (h : SawHeld) (b : Lent) → placeOf p ≡ s .place → HeldAs s lines h b → placeSound p (h .prices .types) ≡ true
+kept-sound First s lines h b e k = refl
+kept-sound (Types i) s lines h b e k =
+    let to = (rw (← e) at (k .of-job)) .0 in
+    within-both 1 40 i (to .from) (omega (arith, to .to, to .few-types))
+kept-sound Body s lines h b e k = refl
+kept-sound (ItemPrices i) s lines h b e k =
+    let held = rw (← e) at (k .of-prices) in
+    le-leb i 40 (omega (arith, held .1 .0, held .1 .1 .types, held .1 .1 .few-types))
+kept-sound (PlatePrices j) s lines h b e k =
+    let held = rw (← e) at (k .of-prices) in
+    and-both (leb j 2047) (leb (h .prices .types) 40) (le-leb j 2047 (omega (arith, held .1 .0, held .1 .1 .residuals, held .1 .1 .few-residuals)))
+    (le-leb (h .prices .types) 40 (omega (arith, held .1 .1 .types, held .1 .1 .few-types)))
+kept-sound Done s lines h b e k = refl
+
+module _ (r : Reader Saw) (f : SawReader) (b b′ : Lent) (ns : List ℕ) (t : Taken) (t′ : TextReader) (k : SawKept r f b) (took : TakenAs (r .state) (r .lines) ns t b′) (ready : SawReady (record { text = t′; held = t .held }) b′) where
+  -- the numbers of a line are refused
+  pub step-refused : (t .refusal ≡ 0 → ⊥) → TextAt t′ (f .text .place) (f .text .lines) (t .refusal) [] → SawKept (lineRead sawGrammar r (some ns)) (record { text = t′; held = t .held }) b′
+  step-refused n a = go (t .refusal) refl
+    where
+      go : (m : ℕ) → t .refusal ≡ m → SawKept (lineRead sawGrammar r (some ns)) (record { text = t′; held = t .held }) b′
+      go zero z = absurd (n z)
+      go (suc m) z =
+          let e = line-refused sawGrammar r ns refl m (rw z at (took .row)) in
+          rw e (record { ready = ready; text = kept-refused sawGrammar (λ (s : Saw). s .place) r (f .text) (k .text) m (rw z at a); held = took .refused n })
+
+  -- they are admitted
+  pub step-admitted : t .refusal ≡ 0 → TextAt t′ (t .place) (suc (f .text .lines)) 0 [] → SawKept (lineRead sawGrammar r (some ns)) (record { text = t′; held = t .held }) b′
+  step-admitted z a =
+      let e = line-admitted sawGrammar r ns refl (rw z at (took .row)) in
+      rw e (record { ready = ready; text = kept-admitted sawGrammar (λ (s : Saw). s .place) r (f .text) (k .text) (sawAfter (r .state) ns) a (took .next z); held = took .admitted z })
+
+-- the same as steps
+module _ (f : SawReader) (b b′ : Lent) (ns : List ℕ) (t : Taken) (t′ : TextReader) (took : (r : Reader Saw) → SawKept r f b → TakenAs (r .state) (r .lines) ns t b′) (room : Room b′) where
+  pub refused-step : f .text .lines ≤ maxLines → (t .refusal ≡ 0 → ⊥) → TextAt t′ (f .text .place) (f .text .lines) (t .refusal) [] → Step (λ q. lineRead sawGrammar q (some ns)) f b (record { text = t′; held = t .held }) b′
+  refused-step l n a =
+      let ready : SawReady (record { text = t′; held = t .held }) b′ = record { text = at-ready t′ a l; room = room } in
+      record { ready = ready; kept = λ r k. step-refused r f b b′ ns t t′ k (took r k) ready n a }
+
+  pub admitted-step : f .text .lines < maxLines → t .refusal ≡ 0 → TextAt t′ (t .place) (suc (f .text .lines)) 0 [] → Step (λ q. lineRead sawGrammar q (some ns)) f b (record { text = t′; held = t .held }) b′
+  admitted-step l z a =
+      let ready : SawReady (record { text = t′; held = t .held }) b′ = record { text = at-ready t′ a (omega arith); room = room } in
+      record { ready = ready; kept = λ r k. step-admitted r f b b′ ns t t′ k (took r k) ready z a }
+
+-- nothing is read yet
+zero-length : (ws : List ℕ) → length (zeros ws) ≡ length ws
+zero-length ws = length-replicate (length ws) 0
+
+zero-held : (ws : List ℕ) → Holds (zeros ws) []
+zero-held ws = cleared (length ws) refl
+
+pub started-zero : (job plates cuts counts prices : List ℕ) (t : TextReader) (h : SawHeld) → TextAt t First 0 0 [] → NoneHeld h → Started (lent job plates cuts counts prices) (record { text = t; held = h }) (lent (zeros job) (zeros plates) (zeros cuts) (zeros counts) (zeros prices))
+started-zero job plates cuts counts prices t h a n =
+    record {
+      zeroed = refl;
+      none-held = n;
+      kept = λ room. record {
+        ready = record { text = at-ready t a (omega arith); room = room-again room (zero-length job) (zero-length plates) (zero-length cuts) (zero-length counts) (zero-length prices) };
+        text = record { stands = ap placeOf (a .place-is); lines = a .lines-are; verdict = rw (a .refusal-is); begun = a .begun };
+        held = record {
+          words = zero-held job;
+          of-job = (refl, record { model = n .model; plates = zero-held plates; cuts = zero-held cuts; no-plan = n .no-plan; counts = zero-held counts; no-lines = refl });
+          of-prices = record { none-is = refl; given = n .given; types = n .types; residuals = n .residuals; words = zero-held prices };
+          of-lines = refl;
+        };
+      };
+    }
