@@ -1,0 +1,123 @@
+-- The job and the model of a saw text that ends, listed afresh: what the listing says of the text's rows.
+-- Assumes nothing.
+use Prim.Native.Nat.{ℕ, _+_, _*_, _≤_}
+use native.Mathlib.Omega.{arith}
+use mathlib.Core.Path.{_≡_, refl, sym, ap, _∙_, subst}
+use mathlib.Core.List.{List, [], _∷_}
+use mathlib.Core.Option.{Option}
+use lib.ListN.{length, getD, take}
+use borrow.Author.Tests.{le-ltb}
+use Rattle.job.specs.Verdict.{Verdict, pass, refuse, _then_}
+use Rattle.job.specs.Buffers.{given, answer, sized, platesSize, cutsSize}
+use Rattle.job.specs.Job.{jobOf, jobWords, admission}
+use Rattle.job.specs.declared.counters.PlateType.{PlateType}
+use Rattle.job.specs.declared.counters.CutNumber.{CutNumber}
+use Rattle.job.proofs.Buffers.{filled-read}
+use Rattle.job.proofs.CodeAdmission.{passed-length, passed-few}
+use Rattle.job.proofs.Verdicts.{then-assoc, then-both, then-passed, then-refused}
+use Rattle.listing.specs.Listing.{modelRow, listingOf}
+use Rattle.listing.specs.ListCall.{listVerdict, listAnswer, platesEnd, cutsEnd}
+use Rattle.lister.specs.declared.list.Listed.{Listed}
+use Rattle.lister.specs.declared.list.Listed.the-variants.{Done, Refused}
+use Rattle.lister.specs.Listed.{saysOf}
+use Rattle.tester.proofs.CodeCall.{given-pass, refused-refuse}
+use Rattle.unfolding.proofs.CodeAccepted.{listed-lent}
+use Rattle.texts.specs.JobLines.{Place, bodyLine}
+use Rattle.texts.specs.SawText.{Counted, PriceLines, Saw, sawRows}
+use Rattle.saw_reader.specs.declared.plan_lines.PlanLines.{PlanLines}
+use Rattle.saw_reader.specs.declared.price_lines.PriceLines.{PriceLines as CodePrices}
+use Rattle.saw_reader.specs.PlanRead.{PlanKept}
+use Rattle.saw_reader.specs.ModelRead.{ModelKept}
+use Rattle.saw_reader.proofs.ModelLaws.{model-kept, held-take, Modelled, kept-modelled}
+use Rattle.saw_ending.specs.Tail.{PricesEnd, sawOf, listedRows}
+use Rattle.saw_ending.specs.Ending.{ListedLent, WholeKept, Answered}
+
+-- a buffer of full size
+sized-full : (number size : ℕ) (buffer : List ℕ) → size ≤ length buffer → sized number size buffer ≡ pass
+unfolding sized
+sized-full number size buffer h = rw (le-ltb (length buffer) size h)
+
+-- the job row and the model row
+abbrev pub jobRows : List ℕ → Verdict
+jobRows ws = admission (jobOf ws) then modelRow (jobOf ws)
+
+-- what the listing call says and leaves, lent buffers of full size
+module _ (ws plates cuts plates′ cuts′ : List ℕ) (np : length plates′ ≡ length plates) (nc : length cuts′ ≡ length cuts) (ps : platesSize ≤ length plates) (cs : cutsSize ≤ length cuts) (a : Listed) (says : saysOf a ≡ listAnswer ws plates cuts) (pe : plates′ ≡ platesEnd (listVerdict ws plates cuts) ws plates) (ce : cuts′ ≡ cutsEnd (listVerdict ws plates cuts) ws cuts) where
+  kept : ModelKept ws a plates′ cuts′
+  kept = model-kept ws a plates cuts plates′ cuts′ np nc says pe ce
+
+  module _ (m : PlateType) (k : CutNumber) (e : a ≡ Done m k) where
+    known : Modelled ws cuts′ (m .0) (k .0)
+    known = kept-modelled ws plates′ cuts′ a m k e (omega arith) kept
+
+    pub rows-passed : jobRows ws ≡ pass
+    rows-passed = then-both (admission (jobOf ws)) (modelRow (jobOf ws)) (known .admitted) (known .listed)
+
+    pub listed-so : ListedLent ws plates′ cuts′ (m .0) (k .0)
+    unfolding listAnswer platesEnd cutsEnd
+    listed-so =
+        let s = sym (ap saysOf e) ∙ kept .says in
+        let v : listVerdict ws plates′ cuts′ ≡ pass = given-pass (listVerdict ws plates′ cuts′) _ s in
+        let row : modelRow (jobOf ws) ≡ pass = known .listed in
+        record {
+          words = known .words;
+          lent = known .is-ready .lent;
+          types = known .is-ready .types;
+          listed = known .is-ready .listed;
+          model =
+              listed-lent ws (then-both (jobWords ws) (admission (jobOf ws)) (known .words) (known .admitted)) plates′ cuts′ plates′ cuts′ (m .0) (k .0)
+              (rw row (rw v at s))
+              (rw row (rw v at (kept .plates-are)))
+              (rw row (rw v at (kept .cuts-are)))
+              refl refl;
+        }
+
+  pub rows-refused : (number place : ℕ) → a ≡ Refused number place → jobWords ws ≡ pass → jobRows ws ≡ refuse number place
+  unfolding listAnswer listVerdict
+  rows-refused number place e w =
+      let v : listVerdict ws plates cuts ≡ refuse number place = refused-refuse (listVerdict ws plates cuts) _ (sym (ap saysOf e) ∙ says) in
+      rw (w, sized-full 1 platesSize plates ps, sized-full 2 cutsSize cuts cs) at v
+
+-- the rows of a saw text: the job and the model, then the others
+saw-rows : (s : Saw) → sawRows s ≡ (jobRows (s .job) then listedRows s)
+unfolding sawRows listedRows
+saw-rows s = sym (then-assoc (admission (jobOf (s .job))) (modelRow (jobOf (s .job))) (listedRows s))
+
+module _ (s : Saw) (plan : PlanLines) (lines : CodePrices) (job counts prices : List ℕ) (w : WholeKept s plan lines job counts prices) where
+  -- the buffer holds the job's words, of which there are as many as the fifth says
+  fifth : getD job 4 0 ≡ getD (s .job) 4 0
+  fifth = ap (λ (b : List ℕ). getD b 4 0) (w .words .words) ∙ filled-read (length job) (s .job) 4
+
+  pub few-types : getD job 4 0 ≤ 40
+  few-types = omega (arith, fifth, passed-few (s .job) (w .passed))
+
+  pub words-are : take (5 + 3 * getD job 4 0) job ≡ s .job
+  words-are = held-take (5 + 3 * getD job 4 0) (passed-length (s .job) (w .passed) ∙ ap (λ (n : ℕ). 5 + 3 * n) (sym fifth)) (w .words)
+
+  pub words-pass : jobWords (take (5 + 3 * getD job 4 0) job) ≡ pass
+  words-pass = ap jobWords words-are ∙ w .passed
+
+  module _ (ws : List ℕ) (e : ws ≡ s .job) where
+    -- refused by the job or the model
+    pub job-refused : {number place : ℕ} → jobRows ws ≡ refuse number place → sawRows s ≡ refuse number place
+    job-refused {number} {place} r =
+        saw-rows s ∙ then-refused (jobRows (s .job)) (listedRows s) number place (ap jobRows (sym e) ∙ r)
+
+    -- else by the rows after them
+    module _ (out placements : List ℕ) (n : ℕ) (out′ placements′ : List ℕ) where
+      abbrev Rest : List ℕ → Type 0
+      Rest us =
+          jobRows us ≡ pass
+          → ((place : Place) (rs : List Counted) (o : Option PriceLines)
+          → PlanKept (listingOf (jobOf us)) (bodyLine us) rs plan counts
+          → PricesEnd o lines prices
+          → Answered (listedRows (sawOf place us rs o)) (sawOf place us rs o) out placements n out′ placements′)
+          → Answered (sawRows s) s out placements n out′ placements′
+
+      rest-here : Rest (s .job)
+      rest-here p f =
+          rw (saw-rows s, then-passed (jobRows (s .job)) (listedRows s) p)
+          (f (s .place) (s .plan) (s .prices) (w .of-plan p) (w .of-prices))
+
+      pub job-passed : Rest ws
+      job-passed = subst Rest (sym e) rest-here

@@ -1,0 +1,12 @@
+-- The laws of this crate: the line row of a text that ends, the places that rows name, counts with zeros behind them, the plan row, the prices row, the
+-- unfolding, the answer.
+pub mod TextRow
+pub mod Near
+pub mod Filled
+pub mod PlanPart
+pub mod PricePart
+pub mod UnfoldPart
+pub mod Answers
+pub mod JobPart
+pub mod Room
+pub mod KeptEnds

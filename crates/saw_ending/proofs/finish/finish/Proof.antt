@@ -1,0 +1,18 @@
+-- `finish` is the end of the text that the reader keeps. Assumes nothing.
+use denote.Ref.{now}
+use Rattle.saw_ending.proofs.KeptEnds.{text-ends, finished}
+use borrow.Author.Needs.{needs}
+use Rattle.saw_ending.proofs.finish.finish.Statement.{statement}
+use Rattle.saw_ending.proofs.finish.finish.Tie as tie
+
+returns : tie.Need-returns
+returns c =
+    let a = c .before .before .before .before .before .before .before .before .before .before .before .before .before .before .args in
+    let x = c .before .before .before .before .end-text in (
+      x .ensures .0,
+      (λ room r bs plates cuts is kept.
+          finished r (x .ensures .1 room r (text-ends (now (a .job)) plates cuts (now (a .counts)) (now (a .prices)) bs is kept))),
+    )
+
+pub finish-spec : {M : Type 1} → statement M
+finish-spec = tie.close (tie.spec (λ c κs. search needs) (λ c. search needs) (λ c. search needs) returns)

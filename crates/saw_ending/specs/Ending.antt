@@ -1,0 +1,85 @@
+-- Document 01, "Texts": what is kept of a saw text that ends, and what is then written and left in the lent placements.
+-- Assumes nothing.
+use Prim.Native.Nat.{ℕ, _+_, _≤_}
+use mathlib.Core.Path.{_≡_}
+use mathlib.Core.Bool.{Bool, _&&_}
+use mathlib.Core.List.{List, []}
+use lib.Dec.{leb}
+use lib.ListN.{length, getD, replicate}
+use Rattle.job.specs.Verdict.{Verdict, pass, refuse, _then_}
+use Rattle.job.specs.Buffers.{filled, countsSize, placementsSize}
+use Rattle.job.specs.Job.{jobOf, jobWords, admission}
+use Rattle.listing.specs.Listing.{modelRow, listingOf}
+use Rattle.listing.specs.Holds.{Holds}
+use Rattle.tester.specs.CutRead.{cutsRead, Lent}
+use Rattle.layouts.specs.Placement.{placementWords}
+use Rattle.unfolding.specs.Ready.{ModelLent}
+use Rattle.texts.specs.JobLines.{bodyLine}
+use Rattle.texts.specs.Reader.{Reader, maxLines, textRow, written}
+use Rattle.texts.specs.SawText.{Saw, sawGrammar, sawLines}
+use Rattle.texts.specs.Printed.{sawRun}
+use Rattle.reading.specs.declared.text.TextReader.{TextReader}
+use Rattle.reading.specs.Standing.{TextKept}
+use Rattle.saw_reader.specs.declared.plan_lines.PlanLines.{PlanLines}
+use Rattle.saw_reader.specs.declared.price_lines.PriceLines.{PriceLines}
+use Rattle.saw_reader.specs.declared.held.SawHeld.{SawHeld}
+use Rattle.saw_reader.specs.PlanRead.{PlanKept}
+use Rattle.saw_reader.specs.SawKept.{jobSize, pricesSize}
+use Rattle.writing.specs.Wrote.{Wrote, longestSaw}
+use Rattle.saw_ending.specs.Tail.{PricesEnd}
+
+-- `ws` are the words of an admitted job, and the buffers hold its listing, of m residual types and k cuts
+pub record ListedLent (ws plates cuts : List ℕ) (m k : ℕ) : Type 0 where
+  pub words : jobWords ws ≡ pass
+  pub lent : Lent ws cuts (getD ws 4 0) (m + 1) k
+  pub types : length (listingOf (jobOf ws) .plates) ≡ m + 1
+  pub listed : listingOf (jobOf ws) .cuts ≡ cutsRead k cuts
+  pub model : ModelLent ws plates cuts k
+
+-- buffers of full size, placements cleared, and room for the longest output
+pub record Ready (counts prices placements out : List ℕ) : Type 0 where
+  pub for-counts : countsSize ≤ length counts
+  pub for-prices : pricesSize ≤ length prices
+  pub cleared : Holds placements []
+  pub for-placements : placementsSize ≤ length placements
+  pub for-out : longestSaw ≤ length out
+
+-- what is kept of a saw text that passes the line row: the job's words, the lines 3 where the job is listed, the prices
+pub record WholeKept (s : Saw) (plan : PlanLines) (lines : PriceLines) (job counts prices : List ℕ) : Type 0 where
+  pub words : Holds job (s .job)
+  pub passed : jobWords (s .job) ≡ pass
+  pub of-plan :
+      (admission (jobOf (s .job)) then modelRow (jobOf (s .job))) ≡ pass
+      → PlanKept (listingOf (jobOf (s .job))) (bodyLine (s .job)) (s .plan) plan counts
+  pub of-prices : PricesEnd (s .prices) lines prices
+
+-- what is kept of a saw text that ends: where it stands, and, if it passes the line row, what it holds
+pub record TextEnds (r : Reader Saw) (text : TextReader) (held : SawHeld) (job counts prices : List ℕ) : Type 0 where
+  pub stands : TextKept (λ s. s .place) r text
+  pub few : r .lines ≤ maxLines
+  pub whole : textRow sawGrammar r ≡ pass → WholeKept (r .state) (held .plan) (held .prices) job counts prices
+
+-- lent placements, by the verdict: the words of each piece and then zeros, or, refused, zeros
+abbrev pub placedEnd : Verdict → Saw → List ℕ → List ℕ
+placedEnd pass s placements = filled (length placements) (placementWords (sawRun s .placements))
+placedEnd (refuse number place) s placements = replicate (length placements) 0
+
+-- the answer by a verdict: the bytes written at the start of the output, how many they are, and the placements
+pub record Answered (v : Verdict) (s : Saw) (out placements : List ℕ) (n : ℕ) (out′ placements′ : List ℕ) : Type 0 where
+  pub wrote : Wrote out 0 (written v (sawLines s)) n out′
+  pub placed : placements′ ≡ placedEnd v s placements
+
+-- every buffer has its full size, and the output room for the longest: lengths of the job's words, counts, prices, placements, output
+unfoldable pub roomToEnd : ℕ → ℕ → ℕ → ℕ → ℕ → Bool
+roomToEnd job counts prices placements out =
+    leb jobSize job
+    && leb countsSize counts
+    && leb pricesSize prices
+    && leb placementsSize placements
+    && leb longestSaw out
+
+-- nothing is written
+pub record Unchanged (out placements : List ℕ) (n : ℕ) (out′ placements′ : List ℕ) : Type 0 where
+  pub none : n ≡ 0
+  pub output : out′ ≡ out
+  pub placements-are : placements′ ≡ placements

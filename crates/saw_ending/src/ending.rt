@@ -1,0 +1,186 @@
+// The end of a saw text, from what is kept of it to the bytes that are written.
+ghost use mathlib.Core.Path.{_≡_};
+ghost use mathlib.Core.Bool.{true, false};
+ghost use mathlib.Core.List.{List, [], _∷_};
+ghost use mathlib.Core.Option.{Option};
+ghost use Prim.Native.Nat.{_≤_, _<_};
+ghost use lib.ListN.{length};
+ghost use Rattle.job.specs.Verdict.{_then_};
+ghost use Rattle.job.specs.Buffers.{countsSize, placementsSize};
+ghost use Rattle.job.specs.Job.{jobOf};
+ghost use Rattle.listing.specs.Listing.{listingOf};
+ghost use Rattle.listing.specs.Holds.{Holds};
+ghost use Rattle.columns.specs.Line.{lineOf};
+ghost use Rattle.texts.specs.JobLines.{Place, bodyLine};
+ghost use Rattle.texts.specs.Reader.{Reader, textRow};
+ghost use Rattle.texts.specs.SawText.{Counted, Saw, sawGrammar, sawRows};
+ghost use Rattle.texts.specs.SawText.{PriceLines as Lines456};
+ghost use Rattle.saw_reader.specs.PlanRead.{PlanKept};
+ghost use Rattle.saw_reader.specs.SawKept.{jobSize, pricesSize};
+ghost use Rattle.writing.specs.Wrote.{Wrote, longestSaw};
+ghost use Rattle.saw_ending.specs.Tail.{PricesEnd, sawOf, listedRows};
+ghost use Rattle.saw_ending.specs.Ending.{ListedLent, Ready, WholeKept, TextEnds, Answered, roomToEnd, Unchanged};
+use crate::line_row::text_row;
+use crate::plan_part::plan_row_of_text;
+use crate::price_part::prices_of_text;
+use crate::unfolding_part::write_plan;
+use job::counters::CutNumber;
+use job::counters::ItemType;
+use job::counters::PlateType;
+use job::words::clear;
+use lister::list::Listed;
+use lister::list::list;
+use reading::text::TextReader;
+use saw_reader::held::SawHeld;
+use saw_reader::plan_lines::PlanLines;
+use saw_reader::price_lines::PriceLines;
+use tester::plan_row::PlanAnswer;
+use tester::prices::PriceAnswer;
+use tester::row::Row;
+use writing::refusal::write_refusal;
+
+// Writes line 9; its end is handed back. A place of more than 32 bits, which no text has, writes nothing.
+fn refuse(out: &mut [u8], number: u16, place: usize) -> usize
+    requires { ⌜ longestSaw ≤ length (now out) ⌝ }
+    ensures { λ r. ⌜ (place < 4294967296 → Wrote (now (out .entry)) 0 (lineOf (9 ∷ number ∷ place ∷ [])) r (now (out .exit))) ⌝ }
+{
+    if place >= 4294967296 {
+        return 0;
+    }
+    write_refusal(out, number, place)
+}
+
+// The plan row and the prices row by a listing of a number of residual types and k cuts, then the unfolding: lines 7 and line 8, or line 9.
+pub fn answer_listed(
+    plan: PlanLines,
+    lines: PriceLines,
+    job: &[u16],
+    plates: &[u16],
+    cuts: &[u16],
+    residuals: PlateType,
+    k: CutNumber,
+    counts: &[u16],
+    prices: &[u16],
+    placements: &mut [u16],
+    out: &mut [u8],
+) -> usize
+    requires { ⌜ ListedLent (now job) (now plates) (now cuts) (residuals .0) (k .0) ⌝ }
+    requires { ⌜ Ready (now counts) (now prices) (now placements) (now out) ⌝ }
+    ensures { λ r. ⌜ ((place : Place) (rs : List Counted) (o : Option Lines456) → PlanKept (listingOf (jobOf (now (job .entry)))) (bodyLine (now (job .entry))) rs plan (now (counts .entry)) → PricesEnd o lines (now (prices .entry)) → Answered (listedRows (sawOf place (now (job .entry)) rs o)) (sawOf place (now (job .entry)) rs o) (now (out .entry)) (now (placements .entry)) r (now (out .exit)) (now (placements .exit))) ⌝ }
+{
+    let n = ItemType(job[4]);
+    let m = PlateType(residuals.0 + 1);
+    match plan_row_of_text(plan, job, n, cuts, m, k, counts) {
+        PlanAnswer::Refused(number, place) => refuse(out, number, place),
+        PlanAnswer::Accepted(boards) => {
+            match prices_of_text(lines, job, n, cuts, m, k, prices) {
+                PriceAnswer::Refused(number, place) => refuse(out, number, place),
+                PriceAnswer::Accepted(sum, d) => {
+                    write_plan(
+                        job,
+                        counts,
+                        plates,
+                        cuts,
+                        k,
+                        boards,
+                        sum,
+                        d,
+                        placements,
+                        out,
+                    )
+                }
+            }
+        }
+    }
+}
+
+// The rows after the line row, over a model that is built afresh from the job: lines 7 and line 8, or line 9.
+fn answer_job(
+    plan: PlanLines,
+    lines: PriceLines,
+    job: &[u16],
+    counts: &[u16],
+    prices: &[u16],
+    placements: &mut [u16],
+    out: &mut [u8],
+) -> usize
+    requires { ⌜ jobSize ≤ length (now job) ⌝ }
+    requires { ⌜ Ready (now counts) (now prices) (now placements) (now out) ⌝ }
+    ensures { λ r. ⌜ ((s : Saw) → WholeKept s plan lines (now (job .entry)) (now (counts .entry)) (now (prices .entry)) → Answered (sawRows s) s (now (out .entry)) (now (placements .entry)) r (now (out .exit)) (now (placements .exit))) ⌝ }
+{
+    let n = job[4];
+    if n > 40 {
+        return 0;
+    }
+    let words = 5 + 3 * (n as usize);
+    let mut plates = [0u16; 6144];
+    let mut cuts = [0u16; 32768];
+    match list(&job[..words], &mut plates, &mut cuts) {
+        Listed::Refused(number, place) => refuse(out, number, place as usize),
+        Listed::Done(m, k) => answer_listed(
+            plan,
+            lines,
+            &job[..words],
+            &plates,
+            &cuts,
+            m,
+            k,
+            counts,
+            prices,
+            placements,
+            out,
+        ),
+    }
+}
+
+// Whether each lent buffer has its full size, and the output room for the longest.
+fn has_room(job: usize, counts: usize, prices: usize, placements: usize, out: usize) -> bool
+    ensures { λ r. ⌜ r ≡ roomToEnd job counts prices placements out ⌝ }
+{
+    if job < 125 {
+        return false;
+    }
+    if counts < 8192 {
+        return false;
+    }
+    if prices < 2088 {
+        return false;
+    }
+    if placements < 28000 {
+        return false;
+    }
+    292046 <= out
+}
+
+// What is written where a saw text ends, from where it stands and what is kept of it; the number of bytes is handed back.
+pub fn end_text(
+    text: TextReader,
+    held: SawHeld,
+    job: &[u16],
+    counts: &[u16],
+    prices: &[u16],
+    placements: &mut [u16],
+    out: &mut [u8],
+) -> usize
+    ensures { λ r. ⌜ (roomToEnd (length (now (job .entry))) (length (now (counts .entry))) (length (now (prices .entry))) (length (now (placements .entry))) (length (now (out .entry))) ≡ false → Unchanged (now (out .entry)) (now (placements .entry)) r (now (out .exit)) (now (placements .exit))) ⌝ }
+    ensures { λ n. ⌜ (roomToEnd (length (now (job .entry))) (length (now (counts .entry))) (length (now (prices .entry))) (length (now (placements .entry))) (length (now (out .entry))) ≡ true → (r : Reader Saw) → TextEnds r text held (now (job .entry)) (now (counts .entry)) (now (prices .entry)) → Answered (textRow sawGrammar r then sawRows (r .state)) (r .state) (now (out .entry)) (now (placements .entry)) n (now (out .exit)) (now (placements .exit))) ⌝ }
+{
+    if has_room(
+        job.len(),
+        counts.len(),
+        prices.len(),
+        placements.len(),
+        out.len(),
+    ) {
+        clear(placements);
+        return match text_row(text) {
+            Row::Refuses(number, place) => refuse(out, number, place),
+            Row::Passes => {
+                let plan = held.plan;
+                let lines = held.prices;
+                answer_job(plan, lines, job, counts, prices, placements, out)
+            }
+        };
+    }
+    0
+}
