@@ -14,9 +14,9 @@ use Rattle.plan.specs.PriceCall.{priceVerdict, priceAnswer}
 use Rattle.layouts.specs.Lines.{rowsOf, layoutWords}
 use Rattle.layouts.specs.FoldCall.{foldVerdict, foldAnswer}
 use Rattle.layouts.specs.UnfoldCall.{unfoldVerdict, unfoldAnswer}
-use Rattle.tester.specs.declared.prices.PriceAnswer.{PriceAnswer}
-use Rattle.tester.specs.declared.prices.PriceAnswer.the-variants.{Accepted}
-use Rattle.tester.specs.PriceBound.{Bounds, OnAccepted}
+use Rattle.pricer.specs.declared.prices.PriceAnswer.{PriceAnswer}
+use Rattle.pricer.specs.declared.prices.PriceAnswer.the-variants.{Accepted}
+use Rattle.pricer.specs.PriceBound.{Bounds, OnAccepted}
 use Rattle.tester.proofs.CodeCall.{refused-refuse}
 use Rattle.unfolding.specs.declared.call.Unfolded.{Unfolded}
 use Rattle.unfolding.specs.declared.call.Unfolded.the-variants.{Done}

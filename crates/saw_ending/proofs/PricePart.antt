@@ -16,7 +16,7 @@ use Rattle.job.proofs.Tests.{not-both}
 use Rattle.job.proofs.Verdicts.{pass-not-refuse}
 use Rattle.listing.specs.Listing.{Listing, residualTypes}
 use Rattle.plan.specs.Prices.{pricesOf, priceWords, modelSized, pricesSized, pricesRow}
-use Rattle.tester.specs.PriceSays.{sumAndD}
+use Rattle.pricer.specs.PriceSays.{sumAndD}
 use Rattle.texts.specs.SawText.{PriceLines, priceLinesRow}
 use Rattle.texts.proofs.CallRows.{model-sized}
 use Rattle.writing.specs.Wrote.{sumGiven, denominatorGiven}

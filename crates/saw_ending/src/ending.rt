@@ -30,12 +30,12 @@ use job::counters::PlateType;
 use job::words::clear;
 use lister::list::Listed;
 use lister::list::list;
+use pricer::prices::PriceAnswer;
 use reading::text::TextReader;
 use saw_reader::held::SawHeld;
 use saw_reader::plan_lines::PlanLines;
 use saw_reader::price_lines::PriceLines;
 use tester::plan_row::PlanAnswer;
-use tester::prices::PriceAnswer;
 use tester::row::Row;
 use writing::refusal::write_refusal;
 

@@ -9,7 +9,7 @@ ghost use Rattle.job.specs.Buffers.{answer};
 ghost use Rattle.job.specs.Job.{jobOf, jobWords};
 ghost use Rattle.listing.specs.Listing.{Listing};
 ghost use Rattle.tester.specs.CutRead.{cutsRead, Lent};
-ghost use Rattle.tester.specs.PriceSays.{saysOf};
+ghost use Rattle.pricer.specs.PriceSays.{saysOf};
 ghost use Rattle.texts.specs.SawText.{priceLinesRow};
 ghost use Rattle.texts.specs.SawText.{PriceLines as Lines456};
 ghost use Rattle.writing.specs.Wrote.{sumGiven, denominatorGiven};
@@ -18,10 +18,10 @@ ghost use Rattle.saw_ending.specs.Tail.{PricesGiven, PricesEnd};
 use job::counters::CutNumber;
 use job::counters::ItemType;
 use job::counters::PlateType;
+use pricer::prices::PriceAnswer;
+use pricer::prices::price_rows;
+use pricer::prices::price_words;
 use saw_reader::price_lines::PriceLines;
-use tester::prices::PriceAnswer;
-use tester::prices::price_rows;
-use tester::prices::price_words;
 use tester::row::Row;
 
 // The prices row of lines 4, 5 and 6: 13 where the n or the m of line 4 is not the model's; then 14 of the price words.

@@ -1,12 +1,13 @@
 -- How a call ends, on plain values: its answer, and what it leaves in the plates and the cuts, by the verdict of its rows.
 -- Assumes nothing.
 use mathlib.Core.Path.{_≡_, refl, sym, _∙_}
-use Prim.Native.Nat.{ℕ}
+use Prim.Native.Nat.{ℕ, _≤_, _<_}
 use mathlib.Core.List.{List}
 use native.Mathlib.Omega.{arith}
+use borrow.Author.Tests.{lt-ltb, le-ltb}
 use lib.ListN.{length, replicate}
 use Rattle.job.specs.Verdict.{Verdict, pass, refuse, _then_}
-use Rattle.job.specs.Buffers.{Answer, given, refused, answer}
+use Rattle.job.specs.Buffers.{Answer, given, refused, answer, sized}
 use Rattle.job.proofs.CodeEnds.{Not5, ends-zeros}
 use Rattle.listing.specs.ListCall.{platesEnd, cutsEnd}
 
@@ -19,6 +20,15 @@ given-pass (refuse number place) bs e = let z : _≡_ {A = ℕ} 0 1 = cc in absu
 pub refused-refuse : (v : Verdict) (bs : List ℕ) {number place : ℕ} → refused number place ≡ answer v bs → v ≡ refuse number place
 refused-refuse pass bs e = let z : _≡_ {A = ℕ} 0 1 = cc in absurd (omega arith)
 refused-refuse (refuse n p) bs e = cc
+
+-- buffers that are too short, or not
+pub size-short : (number size : ℕ) (buffer : List ℕ) → length buffer < size → sized number size buffer ≡ refuse 5 number
+unfolding sized
+size-short number size buffer h = rw (lt-ltb _ _ h)
+
+pub size-full : (number size : ℕ) (buffer : List ℕ) → size ≤ length buffer → sized number size buffer ≡ pass
+unfolding sized
+size-full number size buffer h = rw (le-ltb _ _ h)
 
 -- the answer and the two buffers are those of a verdict
 abbrev pub Ended : Verdict → List ℕ → List ℕ → List ℕ → List ℕ → Answer → List ℕ → List ℕ → Type 0

@@ -21,7 +21,7 @@ use Rattle.listing.proofs.Limits.{row-cases}
 use Rattle.plan.specs.Plan.{countsRow, planRow}
 use Rattle.tester.specs.PlanSays.{planTail}
 use Rattle.tester.proofs.CodeCall.{given-pass, refused-refuse}
-use Rattle.tester.proofs.CodeCalls.{plan-not5}
+use Rattle.tester.proofs.CodePlanCall.{plan-not5}
 use Rattle.layouts.specs.Placement.{placementWords}
 use Rattle.layouts.specs.UnfoldCall.{unfoldVerdict, unfoldingOf, unfoldAnswer, placementsEnd}
 use Rattle.layouts.specs.Demand3.{J, L, Listed, Unfolds}

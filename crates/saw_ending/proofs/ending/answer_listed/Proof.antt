@@ -5,7 +5,7 @@ use denote.Ref.{now}
 use Rattle.job.specs.Job.{jobOf}
 use Rattle.layouts.specs.Demand3.{J, L}
 use Rattle.tester.specs.PlanSays.{saysOf as planSays}
-use Rattle.tester.specs.PriceSays.{saysOf as priceSays}
+use Rattle.pricer.specs.PriceSays.{saysOf as priceSays}
 use Rattle.tester.proofs.CodeCall.{given-pass, refused-refuse}
 use Rattle.texts.specs.JobLines.{bodyLine}
 use Rattle.texts.specs.SawText.{priceLinesRow}

@@ -14,7 +14,7 @@ use Rattle.plan.specs.Plan.{boards, countsRow, planRow}
 use Rattle.tester.specs.PlanSays.{saysOf}
 use Rattle.tester.proofs.CodeCall.{zeros, first-refused, both-passed, second-refused}
 use Rattle.tester.proofs.CodeListed.{Ready, ready}
-use Rattle.tester.proofs.CodeCalls.{plan-not5}
+use Rattle.tester.proofs.CodePlanCall.{plan-not5}
 use borrow.Author.Needs.{needs}
 use Rattle.tester.proofs.plan_test.plan_into.Statement.{statement}
 use Rattle.tester.proofs.plan_test.plan_into.Tie as tie

@@ -4,7 +4,7 @@ use denote.Ref.{now}
 use Rattle.job.specs.Verdict.{pass, _then_}
 use Rattle.job.specs.Job.{jobOf, jobWords, admission}
 use Rattle.job.specs.Admission.{verdictOf}
-use Rattle.tester.proofs.CodeCalls.{plan-job-refused, plan-plates-short, plan-cuts-short, plan-counts-short, plan-full}
+use Rattle.tester.proofs.CodePlanCall.{plan-job-refused, plan-plates-short, plan-cuts-short, plan-counts-short, plan-full}
 use borrow.Author.Needs.{needs}
 use Rattle.tester.proofs.plan_test.test_plan.Statement.{statement}
 use Rattle.tester.proofs.plan_test.test_plan.Tie as tie

@@ -1,0 +1,103 @@
+-- `price_into` lists the job, tests the prices by the listing, and clears the buffers where they are refused.
+use mathlib.Core.Path.{_≡_, sym, ap, _∙_}
+use mathlib.Core.List.{[], _∷_}
+use native.Mathlib.Omega.{arith}
+use denote.Ref.{now}
+use lib.ListN.{length}
+use Rattle.job.specs.Verdict.{_then_}
+use Rattle.job.specs.Job.{jobOf, jobWords}
+use Rattle.job.proofs.CodeAdmission.{passed-length}
+use Rattle.job.proofs.Verdicts.{then-first, then-second}
+use Rattle.listing.specs.Listing.{modelRow, listingOf, residualTypes}
+use Rattle.lister.specs.Listed.{saysOf as listSays}
+use Rattle.plan.specs.Prices.{pricesOf, priceWords, pricesSized, pricesRow}
+use Rattle.pricer.specs.PriceSays.{saysOf, sumAndD}
+use Rattle.tester.proofs.CodeCall.{zeros, first-refused, both-passed, second-refused}
+use Rattle.tester.proofs.CodeListed.{Ready, ready}
+use Rattle.pricer.proofs.CodePriceCall.{prices-not5}
+use borrow.Author.Needs.{needs}
+use Rattle.pricer.proofs.price_test.price_into.Statement.{statement}
+use Rattle.pricer.proofs.price_test.price_into.Tie as tie
+
+-- once the job is listed, the cuts that are read are those of its listing
+listed : (c : tie.After-struct-known) → Ready (now (c .before .before .before .before .before .before .before .before .before .before .before .before .before .before .before .before .args .job)) (c .before .before .before .before .before .before .before .before .before .list-into .last .1 .1 .0) (c .before .before .before .residuals .given .0 .0 .0) (c .before .before .before .residuals .given .0 .1 .0 .0)
+listed c =
+    let s = c .before .before .before .before .before .before .before .before .before .before .before .before .before .before .before .before in
+    let x = c .before .before .before .before .before .before .before .before .before .list-into in
+    let ws = now (s .args .job) in
+    ready ws (now (s .args .cuts)) _ _ _ (then-first (jobWords ws) _ (s .pre .0)) (then-second (priceWords (now (s .args .prices))) _ (then-second (jobWords ws) _ (s .pre .0))) (sym (ap listSays (c .before .before .before .residuals .given .1)) ∙ x .ensures .0) (x .ensures .1 .1) (x .kept .1 .1 .0) (s .pre .1 .1)
+
+list-into-requires : tie.Need-list-into-requires
+list-into-requires c κs = let s = c .before .before .before .before .before .before in (then-first (jobWords (now (s .args .job))) _ (s .pre .0), s .pre .1)
+
+shared-slice-read-t23 : tie.Need-shared-slice-read-t23
+shared-slice-read-t23 c = let s = c .before .before .before .before .before .before .before .before .before .before .before .before .before .before .before in omega (arith, passed-length (now (s .args .job)) (then-first (jobWords (now (s .args .job))) _ (s .pre .0)))
+
+add-t23 : tie.Need-add-t23
+add-t23 c = omega (arith, listed c .few-types)
+
+price-rows-requires : tie.Need-price-rows-requires
+price-rows-requires c κs =
+    let s = c .before .before .before .before .before .before .before .before .before .before .before .before .before .before .before .before .before in
+    let ws = now (s .args .job) in
+    (listed (c .before) .lent, (omega arith, (then-first (jobWords ws) _ (s .pre .0), then-first (priceWords (now (s .args .prices))) _ (then-second (jobWords ws) _ (s .pre .0)))))
+
+returns : tie.Need-returns
+returns c =
+    let s = c .before .before .before .before .before .before .before .before .before .before .before .before .before .before in
+    let ws = now (s .args .job) in
+    let ps = now (s .args .prices) in
+    let job = jobOf ws in
+    let listing = listingOf job in
+    let x = c .before .before .before .before .before .before .before .list-into in
+    let results = residualTypes listing ∷ length (listing .cuts) ∷ [] in
+    first-refused ws (now (s .args .plates)) (now (s .args .cuts)) _ _ (modelRow job) (pricesSized job listing ps then pricesRow listing (pricesOf job ps)) results (sumAndD job ps) (sym (ap listSays (c .before .number .given .1)) ∙ x .ensures .0) (x .ensures .1 .0) (x .ensures .1 .1)
+
+returns-2 : tie.Need-returns-2
+returns-2 c =
+    let s = c .before .before .before .before .before .before .before .before .before .before .before .before .before .before .before .before .before .before .before .before .before in
+    let ws = now (s .args .job) in
+    let ps = now (s .args .prices) in
+    let job = jobOf ws in
+    let listing = listingOf job in
+    let x = c .before .before .before .before .before .before .before .before .before .before .before .before .before .before .list-into in
+    let results = residualTypes listing ∷ length (listing .cuts) ∷ [] in
+    let r = listed (c .before .before .before .before .before) in
+    both-passed ws (now (s .args .plates)) (now (s .args .cuts)) _ _ (modelRow job) (pricesSized job listing ps then pricesRow listing (pricesOf job ps)) results (sumAndD job ps) (sym (ap listSays (c .before .before .before .before .before .before .before .before .residuals .given .1)) ∙ x .ensures .0) (sym (ap saysOf (c .before .sum .given .1)) ∙ c .before .before .before .price-rows .ensures listing (r .types) (r .listed)) (x .ensures .1 .0) (x .ensures .1 .1)
+
+returns-3 : tie.Need-returns-3
+returns-3 c =
+    let s = c .before .before .before .before .before .before .before .before .before .before .before .before .before .before .before .before .before .before .before .before .before .before .before .before .before .before .before .before .before in
+    let ws = now (s .args .job) in
+    let ps = now (s .args .prices) in
+    let job = jobOf ws in
+    let listing = listingOf job in
+    let x = c .before .before .before .before .before .before .before .before .before .before .before .before .before .before .before .before .before .before .before .before .before .before .list-into in
+    let results = residualTypes listing ∷ length (listing .cuts) ∷ [] in
+    let r = listed (c .before .before .before .before .before .before .before .before .before .before .before .before .before) in
+    second-refused ws (now (s .args .plates)) (now (s .args .cuts)) _ _ (modelRow job) (pricesSized job listing ps then pricesRow listing (pricesOf job ps)) results (sumAndD job ps) (sym (ap listSays (c .before .before .before .before .before .before .before .before .before .before .before .before .before .before .before .before .residuals .given .1)) ∙ x .ensures .0) (sym (ap saysOf (c .before .before .before .before .before .before .before .before .before .number2 .given .1)) ∙ c .before .before .before .before .before .before .before .before .before .before .before .price-rows .ensures listing (r .types) (r .listed)) (prices-not5 job listing ps (pricesOf job ps)) (c .before .before .before .before .before .before .clear .ensures ∙ ap zeros (x .kept .1 .0)) (c .before .before .clear2 .ensures ∙ ap zeros (x .kept .1 .1 .0))
+
+pub price-into-spec : {M : Type 1} → statement M
+price-into-spec =
+    tie.close
+    (tie.spec
+    list-into-requires
+    (λ c. search needs)
+    (λ c. search needs)
+    (λ c. search needs)
+    shared-slice-read-t23
+    add-t23
+    price-rows-requires
+    (λ c. search needs)
+    (λ c. search needs)
+    (λ c κs. search needs)
+    (λ c κs. search needs)
+    (λ c. search needs)
+    (λ c. search needs)
+    returns
+    (λ c. search needs)
+    (λ c. search needs)
+    returns-2
+    (λ c. search needs)
+    (λ c. search needs)
+    returns-3)

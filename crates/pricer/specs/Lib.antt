@@ -1,0 +1,3 @@
+-- The definitions of this crate: what the answer of the price test says, and what it promises.
+pub mod PriceSays
+pub mod PriceBound

@@ -1,0 +1,3 @@
+// The price test.
+pub mod price_test;
+pub mod prices;
