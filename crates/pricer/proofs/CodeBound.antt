@@ -4,7 +4,7 @@ use Prim.Native.Nat.{ℕ}
 use mathlib.Core.Path.{_≡_}
 use mathlib.Core.List.{List, [], _∷_}
 use Rattle.job.specs.Verdict.{pass, _then_}
-use Rattle.job.specs.Buffers.{given, answer, sized, platesSize, cutsSize}
+use Rattle.job.specs.Buffers.{given, sized, platesSize, cutsSize}
 use Rattle.job.specs.Job.{jobOf, jobWords, admission}
 use Rattle.job.proofs.Verdicts.{then-first, then-second, then-both}
 use Rattle.listing.specs.Listing.{modelRow}

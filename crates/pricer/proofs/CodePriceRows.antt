@@ -1,14 +1,12 @@
 -- The prices row that the code decides is that of the definitions.
 -- Assumes nothing.
-use mathlib.Core.Path.{_≡_, sym, _∙_}
-use Prim.Native.Nat.{ℕ, _+_, _-_, _≤_, _<_}
-use mathlib.Core.Bool.{not}
+use mathlib.Core.Path.{_≡_}
+use Prim.Native.Nat.{ℕ, _+_, _≤_}
 use mathlib.Core.List.{List, [], _∷_}
 use native.Mathlib.Omega.{arith}
 use borrow.Author.Tests.{eq-eqb, ne-eqb}
-use lib.Dec.{eqb}
 use lib.ListN.{length, getD}
-use Rattle.job.specs.Verdict.{_then_, refuseIf, lowest}
+use Rattle.job.specs.Verdict.{_then_, lowest}
 use Rattle.job.specs.Buffers.{given, refused, answer}
 use Rattle.job.specs.Job.{Job}
 use Rattle.listing.specs.Listing.{Listing, residualTypes}

@@ -1,6 +1,6 @@
 -- The price words that the code reads are the prices of the definitions; 2 and 14 as the code decides them; the sum of price times demand.
 -- Assumes nothing.
-use mathlib.Core.Path.{_≡_, refl, sym, ap, _∙_}
+use mathlib.Core.Path.{_≡_, refl, sym, _∙_}
 use Prim.Native.Nat.{ℕ, zero, suc, _+_, _*_, _-_, _≤_, _<_, min}
 use mathlib.Core.Bool.{Bool, true, false, not}
 use mathlib.Core.List.{List, [], _∷_}
@@ -18,7 +18,7 @@ use Rattle.job.proofs.Tests.{within-high, within-limits, above-limits}
 use Rattle.job.proofs.Verdicts.{lowest-good}
 use Rattle.job.proofs.Admission.{words-right}
 use Rattle.listing.specs.Listing.{Cut}
-use Rattle.plan.specs.Prices.{Prices, maxPrice, lowestPrice, priceWords, itemPrice, residualPrice, priceLimit, worth, overLimit, priced, priceSum}
+use Rattle.plan.specs.Prices.{Prices, maxPrice, lowestPrice, priceWords, itemPrice, residualPrice, priceLimit, worth, overLimit, priced}
 use Rattle.pricer.specs.PriceSays.{pricesAt}
 
 -- prices by their words

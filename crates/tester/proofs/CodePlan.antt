@@ -1,20 +1,16 @@
 -- The plan row that the code decides by its sums is that of the definitions.
 -- Assumes nothing.
-use mathlib.Core.Path.{_≡_, refl, sym, ap, _∙_}
-use Prim.Native.Nat.{ℕ, zero, suc, _+_, _*_, _-_, _≤_, _<_}
-use mathlib.Core.Bool.{Bool, true, false, not}
+use mathlib.Core.Path.{_≡_, sym, ap, _∙_}
+use Prim.Native.Nat.{ℕ, suc, _-_, _≤_, _<_}
+use mathlib.Core.Bool.{Bool, not}
 use mathlib.Core.List.{List, [], _∷_}
 use native.Mathlib.Omega.{arith}
-use borrow.Author.Tests.{lt-ltb, le-ltb, eqb-true, not-false}
-use lib.Dec.{ltb, eqb, lit<, lit≤}
+use borrow.Author.Tests.{lt-ltb, le-ltb}
+use lib.Dec.{ltb, eqb}
 use lib.ListN.{length, getD, take, drop, replicate, length-drop, length-replicate, getD-replicate}
-use lib.Seq.{getD-drop}
-use Rattle.job.specs.declared.item.Item.{Item}
-use Rattle.job.specs.Lists.{sumOf}
-use Rattle.job.specs.Verdict.{Verdict, pass, refuse, _then_, refuseIf, lowest}
+use Rattle.job.specs.Verdict.{pass, _then_, lowest}
 use Rattle.job.specs.Buffers.{Answer, given, refused, answer}
-use Rattle.job.specs.Job.{Job, jobOf, maxTypes, maxPieces}
-use Rattle.job.proofs.CodeItems.{items-length}
+use Rattle.job.specs.Job.{Job, maxTypes, maxPieces}
 use Rattle.listing.specs.Listing.{Cut, Listing, maxPlates}
 use Rattle.plan.specs.Plan.{countOf, ofItem, onPlate, leavesPlate, boards, total, short, overdrawn, countsRow, planRow}
 use Rattle.tester.specs.declared.row.Row.{Row}

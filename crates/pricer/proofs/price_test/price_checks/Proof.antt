@@ -1,5 +1,5 @@
 -- `price_checks` takes the job's words, the price words and the job row in turn.
-use mathlib.Core.Path.{_≡_, sym, ap, _∙_}
+use mathlib.Core.Path.{sym, ap, _∙_}
 use denote.Ref.{now}
 use Rattle.job.specs.Verdict.{_then_}
 use Rattle.job.specs.Job.{jobOf, jobWords, admission}

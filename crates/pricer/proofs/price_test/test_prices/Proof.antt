@@ -4,7 +4,7 @@ use denote.Ref.{now}
 use Rattle.job.specs.Verdict.{pass}
 use Rattle.tester.specs.RowSays.{rowVerdict}
 use Rattle.pricer.proofs.CodePriceCall.{priceChecks, price-job-refused, price-plates-short, price-cuts-short, price-full}
-use Rattle.pricer.specs.declared.prices.PriceAnswer.the-variants.{Accepted, Refused}
+use Rattle.pricer.specs.declared.prices.PriceAnswer.the-variants.{Refused}
 use Rattle.pricer.proofs.CodeBound.{with-bound}
 use borrow.Author.Needs.{needs}
 use Rattle.pricer.proofs.price_test.test_prices.Statement.{statement}

@@ -1,13 +1,12 @@
 -- `cuts_over` looks at the cuts in rising number: those from c on decide as all of them do.
-use mathlib.Core.Path.{_≡_, refl, sym, _∙_}
-use Prim.Native.Nat.{_+_, _-_, _≤_, _<_}
-use native.Mathlib.Omega.{arith}
+use mathlib.Core.Path.{_≡_}
+use Prim.Native.Nat.{_+_, _-_, _<_}
 use denote.Ref.{now}
 use lib.ListN.{length, drop}
 use Rattle.job.specs.Verdict.{lowest}
 use Rattle.listing.specs.Listing.{noCut}
 use Rattle.plan.specs.Prices.{overLimit}
-use Rattle.tester.specs.CutRead.{cutIn, cutsRead}
+use Rattle.tester.specs.CutRead.{cutsRead}
 use Rattle.pricer.specs.PriceSays.{pricesAt}
 use Rattle.tester.proofs.CodeLowest.{lowest-end, lowest-found, lowest-next}
 use Rattle.tester.proofs.CodeCuts.{length-cutsFrom, cut-read, cut-sound}

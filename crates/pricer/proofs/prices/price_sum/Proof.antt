@@ -1,5 +1,5 @@
 -- `price_sum` adds up price times demand in rising number: after the types below i the rest is that of the types from i on.
-use mathlib.Core.Path.{_≡_, refl}
+use mathlib.Core.Path.{_≡_}
 use Prim.Native.Nat.{_+_, _*_, _-_, _≤_}
 use native.Mathlib.Omega.{arith}
 use denote.Ref.{now}

@@ -1,5 +1,4 @@
 -- `balance` adds up the counts, and then compares the sums with the demands and with each other.
-use mathlib.Core.Path.{_≡_}
 use Prim.Native.Nat.{_≤_}
 use denote.Ref.{now}
 use lib.Dec.{lit<, lit≤}

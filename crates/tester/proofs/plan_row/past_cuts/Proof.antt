@@ -1,5 +1,5 @@
 -- `past_cuts` looks at the words past the last cut in rising order: those from c on decide as all of them do.
-use mathlib.Core.Path.{_≡_, refl}
+use mathlib.Core.Path.{_≡_}
 use mathlib.Core.Bool.{not}
 use Prim.Native.Nat.{suc, _+_, _-_}
 use native.Mathlib.Numerals.{add-one}

@@ -1,5 +1,5 @@
 -- `plan_into` lists the job, tests the plan by the listing, and clears the buffers where it is refused.
-use mathlib.Core.Path.{_≡_, sym, ap, _∙_}
+use mathlib.Core.Path.{sym, ap, _∙_}
 use mathlib.Core.List.{[], _∷_}
 use native.Mathlib.Omega.{arith}
 use denote.Ref.{now}

@@ -1,5 +1,4 @@
 -- `add_cut` adds the count to three or four words: right and top may be one type, 0 among them.
-use mathlib.Core.Path.{_≡_}
 use denote.Ref.{now}
 use borrow.Author.Needs.{needs}
 use Rattle.tester.specs.CutRead.{cutIn}
