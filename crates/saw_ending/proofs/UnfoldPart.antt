@@ -19,7 +19,7 @@ use Rattle.layouts.specs.Lines.{rowsOf}
 use Rattle.layouts.specs.UnfoldCall.{unfoldingOf}
 use Rattle.layouts.specs.Demand3.{J, L}
 use Rattle.layouts.proofs.machine.MachineEnds.{unfolds}
-use Rattle.unfolding.specs.Ready.{ModelLent}
+use Rattle.cutting.specs.Ready.{ModelLent}
 use Rattle.unfolding.specs.Ending.{results}
 use Rattle.texts.specs.SawText.{placementLine}
 use Rattle.writing.specs.Wrote.{Wrote, summaryLine}

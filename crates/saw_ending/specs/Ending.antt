@@ -13,7 +13,7 @@ use Rattle.listing.specs.Listing.{modelRow, listingOf}
 use Rattle.listing.specs.Holds.{Holds}
 use Rattle.tester.specs.CutRead.{cutsRead, Lent}
 use Rattle.layouts.specs.Placement.{placementWords}
-use Rattle.unfolding.specs.Ready.{ModelLent}
+use Rattle.cutting.specs.Ready.{ModelLent}
 use Rattle.texts.specs.JobLines.{bodyLine}
 use Rattle.texts.specs.Reader.{Reader, maxLines, textRow, written}
 use Rattle.texts.specs.SawText.{Saw, sawGrammar, sawLines}

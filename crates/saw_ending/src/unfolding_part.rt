@@ -11,7 +11,7 @@ ghost use Rattle.plan.specs.Plan.{boards as boardsOf};
 ghost use Rattle.layouts.specs.Placement.{placementWords};
 ghost use Rattle.layouts.specs.UnfoldCall.{unfoldingOf};
 ghost use Rattle.layouts.specs.Demand3.{J, L};
-ghost use Rattle.unfolding.specs.Ready.{ModelLent};
+ghost use Rattle.cutting.specs.Ready.{ModelLent};
 ghost use Rattle.texts.specs.SawText.{placementLine};
 ghost use Rattle.writing.specs.Wrote.{Wrote, summaryLine, longestSaw};
 use job::counters::CutNumber;

@@ -29,7 +29,8 @@ use Rattle.layouts.specs.Unfold.{Run, run, unfolded}
 use Rattle.layouts.specs.UnfoldCall.{unfoldingOf}
 use Rattle.layouts.specs.Demand3.{J, L}
 use Rattle.layouts.proofs.machine.MachineEnds.{start, steps-enough, unfolds}
-use Rattle.unfolding.specs.Ready.{ModelLent, maxSteps}
+use Rattle.waiting.specs.Turns.{maxSteps}
+use Rattle.cutting.specs.Ready.{ModelLent}
 use Rattle.unfolding.specs.declared.run.Ran.{Ran}
 use Rattle.unfolding.specs.Going.{Gives, started}
 use Rattle.unfolding.specs.Ending.{results}

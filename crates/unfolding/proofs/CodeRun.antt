@@ -15,10 +15,11 @@ use Rattle.plan.specs.Plan.{boards}
 use Rattle.layouts.specs.Placement.{Turn, turn, Placement, placementWords}
 use Rattle.layouts.specs.Unfold.{Piece, nothingWaits, State, placed, leftOver, idle, step, openBoard, Run, placing, run}
 use Rattle.layouts.proofs.machine.MachineSteps.{step-ends}
-use Rattle.unfolding.specs.Ready.{TurnTo, Ready, maxSteps}
+use Rattle.waiting.specs.Turns.{TurnTo, maxSteps}
+use Rattle.cutting.specs.Ready.{Ready}
+use Rattle.cutting.proofs.Steps.{step-length, run-placed, run-over, run-open}
+use Rattle.cutting.proofs.Inside.{Kept, StepKeeps, step-keeps}
 use Rattle.unfolding.specs.Going.{Going, started}
-use Rattle.unfolding.proofs.Steps.{step-length, run-placed, run-over, run-open}
-use Rattle.unfolding.proofs.Inside.{Kept, StepKeeps, step-keeps}
 
 module _ (job : Job) (l : Listing) (m : Model job l) (whole : Run) where
   -- a run of some counts begins with nothing written

@@ -18,7 +18,7 @@ use Rattle.plan.proofs.PlanExact.{countOf-take}
 use Rattle.layouts.specs.Unfold.{State, search, spent, Step, placed, leftOver, idle, done, step, openBoard, Run, placing, run}
 use Rattle.layouts.proofs.machine.Search.{found-cut}
 use Rattle.layouts.proofs.machine.MachineSteps.{step-ends}
-use Rattle.unfolding.proofs.Steps.{step-idle, step-over, step-cut, step-by, step-length, run-placed, run-over, run-open}
+use Rattle.cutting.proofs.Steps.{step-idle, step-over, step-cut, step-by, step-length, run-placed, run-over, run-open}
 
 search-longer : (j k : ℕ) (cs : List Cut) (ns zs : List ℕ) → length cs ≤ length ns → search j k cs (ns ++ zs) ≡ search j k cs ns
 unfolding search

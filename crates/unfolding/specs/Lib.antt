@@ -1,6 +1,3 @@
--- The definitions of this crate: what the code's structs and enums mean, what it knows of the words that it is lent, and how far a run has come.
-pub mod Meaning
-pub mod Without
-pub mod Ready
+-- The definitions of this crate: how far a run has come, and what the call's answer says.
 pub mod Going
 pub mod Ending

@@ -14,9 +14,8 @@ ghost use Rattle.tester.specs.PlanSays.{planTail};
 ghost use Rattle.layouts.specs.Placement.{placementWords};
 ghost use Rattle.layouts.specs.UnfoldCall.{unfoldVerdict, unfoldingOf, unfoldAnswer, placementsEnd};
 ghost use Rattle.layouts.specs.Demand3.{J, L, Unfolds};
-ghost use Rattle.unfolding.specs.Ready.{ModelLent};
+ghost use Rattle.cutting.specs.Ready.{ModelLent};
 ghost use Rattle.unfolding.specs.Ending.{saysOf, results, OnSuccess, Ended};
-use crate::counts::copy_counts;
 use crate::run::run;
 use job::admit::Admission;
 use job::admit::check_job;
@@ -28,6 +27,7 @@ use lister::list::Listed;
 use lister::list::list_into;
 use tester::plan_row::PlanAnswer;
 use tester::plan_row::plan_rows;
+use waiting::counts::copy_counts;
 
 // The boards used and the pieces placed; or the number of a refusal and the place that it names.
 pub enum Unfolded {

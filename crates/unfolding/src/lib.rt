@@ -1,9 +1,3 @@
-// The unfolding of an accepted plan: board after board, at most three pieces waiting.
+// The unfolding of an accepted plan: step after step, board after board; and its call.
 pub mod call;
-pub mod counts;
-pub mod placements;
 pub mod run;
-pub mod search;
-pub mod state;
-pub mod turn;
-pub mod waiting;

@@ -9,12 +9,12 @@ ghost use Rattle.job.specs.Job.{maxPieces};
 ghost use Rattle.plan.specs.Plan.{boards as boardsOf};
 ghost use Rattle.layouts.specs.Unfold.{Run, run};
 ghost use Rattle.layouts.specs.Demand3.{J, L};
-ghost use Rattle.unfolding.specs.Meaning.{spends};
-ghost use Rattle.unfolding.specs.Ready.{ModelLent};
+ghost use Rattle.cutting.specs.Meaning.{spends};
+ghost use Rattle.cutting.specs.Ready.{ModelLent};
 ghost use Rattle.unfolding.specs.Going.{GoingAt, GoesOn, Advanced, Gives, started};
-use crate::placements::put_item;
-use crate::state::State;
-use crate::state::Step;
+use cutting::placements::put_item;
+use cutting::state::State;
+use cutting::state::Step;
 use job::counters::CutNumber;
 use job::counters::PlateType;
 

@@ -11,9 +11,9 @@ use Rattle.listing.specs.Listing.{Listing}
 use Rattle.listing.specs.Model.{Model}
 use Rattle.layouts.specs.Unfold.{State, Run}
 use Rattle.layouts.specs.Demand3.{J, L}
+use Rattle.cutting.specs.Meaning.{stateOf}
 use Rattle.unfolding.specs.declared.run.Progress.{Progress}
 use Rattle.unfolding.specs.declared.run.Advance.{Advance}
-use Rattle.unfolding.specs.Meaning.{stateOf}
 use Rattle.unfolding.specs.Going.{GoingAt, Advanced, Gives, started}
 use Rattle.unfolding.proofs.CodeRun.{going-start, going-next, end-words, end-pieces, end-last}
 use Rattle.unfolding.proofs.run.run.Statement.{statement}

@@ -5,8 +5,8 @@ use Prim.Native.Nat.{ℕ}
 use native.Mathlib.Omega.{arith}
 use borrow.Author.Needs.{needs}
 use Rattle.layouts.specs.Unfold.{Step, idle, openBoard, step}
-use Rattle.unfolding.specs.declared.state.Step.{Step as CodeStep}
-use Rattle.unfolding.specs.Meaning.{stateOf, stepMeans, spends, stepSpends, countsAfter}
+use Rattle.cutting.specs.declared.state.Step.{Step as CodeStep}
+use Rattle.cutting.specs.Meaning.{stateOf, stepMeans, spends, stepSpends, countsAfter}
 use Rattle.unfolding.proofs.CodeRun.{going-ready, placed-room, going-placed, going-over, going-open, going-ended}
 use Rattle.unfolding.proofs.run.Progress.advance.Statement.{statement}
 use Rattle.unfolding.proofs.run.Progress.advance.Tie as tie

@@ -1,0 +1,6 @@
+-- The laws of this crate's code, on plain values.
+pub mod CodePlacements
+pub mod Steps
+pub mod Inside
+pub mod CodeCut
+pub mod CodeStep

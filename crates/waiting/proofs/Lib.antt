@@ -1,0 +1,3 @@
+-- The laws of this crate's code, on plain values.
+pub mod CodeSearch
+pub mod CodeWaiting

@@ -1,0 +1,4 @@
+-- The definitions of this crate: what the code's structs and enums mean, which pieces wait on, and how large the numbers of a turn are.
+pub mod Meaning
+pub mod Without
+pub mod Turns
