@@ -31,8 +31,8 @@ use Rattle.layouts.specs.Demand3.{J, L}
 use Rattle.layouts.proofs.machine.MachineEnds.{start, steps-enough, unfolds}
 use Rattle.waiting.specs.Turns.{maxSteps}
 use Rattle.cutting.specs.Ready.{ModelLent}
-use Rattle.unfolding.specs.declared.run.Ran.{Ran}
-use Rattle.unfolding.specs.Going.{Gives, started}
+use Rattle.running.specs.declared.run.Ran.{Ran}
+use Rattle.running.specs.Going.{Gives, started}
 use Rattle.unfolding.specs.Ending.{results}
 use Rattle.unfolding.proofs.Longer.{longerRun, boards-longer, run-longer}
 

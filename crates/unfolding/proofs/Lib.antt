@@ -1,5 +1,4 @@
 -- The laws of this crate's code, on plain values.
-pub mod CodeRun
 pub mod Longer
 pub mod CodeAccepted
 pub mod CodeEnding

@@ -1,3 +1,2 @@
--- The definitions of this crate: how far a run has come, and what the call's answer says.
-pub mod Going
+-- The definitions of this crate: what the call's answer says, and how a call ends.
 pub mod Ending

@@ -16,7 +16,6 @@ ghost use Rattle.layouts.specs.UnfoldCall.{unfoldVerdict, unfoldingOf, unfoldAn
 ghost use Rattle.layouts.specs.Demand3.{J, L, Unfolds};
 ghost use Rattle.cutting.specs.Ready.{ModelLent};
 ghost use Rattle.unfolding.specs.Ending.{saysOf, results, OnSuccess, Ended};
-use crate::run::run;
 use job::admit::Admission;
 use job::admit::check_job;
 use job::counters::CutNumber;
@@ -25,6 +24,7 @@ use job::counters::PlateType;
 use job::words::clear;
 use lister::list::Listed;
 use lister::list::list_into;
+use running::run::run;
 use tester::plan_row::PlanAnswer;
 use tester::plan_row::plan_rows;
 use waiting::counts::copy_counts;

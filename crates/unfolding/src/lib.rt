@@ -1,3 +1,2 @@
-// The unfolding of an accepted plan: step after step, board after board; and its call.
+// The unfolding of an accepted plan, and its call.
 pub mod call;
-pub mod run;

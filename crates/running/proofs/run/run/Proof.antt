@@ -12,12 +12,12 @@ use Rattle.listing.specs.Model.{Model}
 use Rattle.layouts.specs.Unfold.{State, Run}
 use Rattle.layouts.specs.Demand3.{J, L}
 use Rattle.cutting.specs.Meaning.{stateOf}
-use Rattle.unfolding.specs.declared.run.Progress.{Progress}
-use Rattle.unfolding.specs.declared.run.Advance.{Advance}
-use Rattle.unfolding.specs.Going.{GoingAt, Advanced, Gives, started}
-use Rattle.unfolding.proofs.CodeRun.{going-start, going-next, end-words, end-pieces, end-last}
-use Rattle.unfolding.proofs.run.run.Statement.{statement}
-use Rattle.unfolding.proofs.run.run.Tie as tie
+use Rattle.running.specs.declared.run.Progress.{Progress}
+use Rattle.running.specs.declared.run.Advance.{Advance}
+use Rattle.running.specs.Going.{GoingAt, Advanced, Gives, started}
+use Rattle.running.proofs.CodeRun.{going-start, going-next, end-words, end-pieces, end-last}
+use Rattle.running.proofs.run.run.Statement.{statement}
+use Rattle.running.proofs.run.run.Tie as tie
 
 abbrev Inv-loop : tie.InvT-loop
 Inv-loop job plates cuts k counts₀ boards placements₀ at₀ fuel₀ counts placements at fuel =

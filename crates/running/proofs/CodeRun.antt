@@ -19,7 +19,7 @@ use Rattle.waiting.specs.Turns.{TurnTo, maxSteps}
 use Rattle.cutting.specs.Ready.{Ready}
 use Rattle.cutting.proofs.Steps.{step-length, run-placed, run-over, run-open}
 use Rattle.cutting.proofs.Inside.{Kept, StepKeeps, step-keeps}
-use Rattle.unfolding.specs.Going.{Going, started}
+use Rattle.running.specs.Going.{Going, started}
 
 module _ (job : Job) (l : Listing) (m : Model job l) (whole : Run) where
   -- a run of some counts begins with nothing written

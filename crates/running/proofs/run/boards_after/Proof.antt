@@ -1,8 +1,8 @@
 -- `boards_after` takes one away for a cut on type 0.
 use native.Mathlib.Omega.{arith}
 use borrow.Author.Tests.{eq-eqb, ne-eqb}
-use Rattle.unfolding.proofs.run.boards_after.Statement.{statement}
-use Rattle.unfolding.proofs.run.boards_after.Tie as tie
+use Rattle.running.proofs.run.boards_after.Statement.{statement}
+use Rattle.running.proofs.run.boards_after.Tie as tie
 
 sub-result : tie.Need-sub-result
 sub-result c = omega (arith, rw (eq-eqb _ _ (c .if1 .taken)) at (c .before .before .pre))

@@ -11,7 +11,7 @@ ghost use Rattle.layouts.specs.Unfold.{Run, run};
 ghost use Rattle.layouts.specs.Demand3.{J, L};
 ghost use Rattle.cutting.specs.Meaning.{spends};
 ghost use Rattle.cutting.specs.Ready.{ModelLent};
-ghost use Rattle.unfolding.specs.Going.{GoingAt, GoesOn, Advanced, Gives, started};
+ghost use Rattle.running.specs.Going.{GoingAt, GoesOn, Advanced, Gives, started};
 use cutting::placements::put_item;
 use cutting::state::State;
 use cutting::state::Step;

@@ -14,10 +14,10 @@ use Rattle.layouts.specs.Unfold.{nothingWaits, State, Run, run}
 use Rattle.waiting.specs.Turns.{TurnTo, maxSteps}
 use Rattle.cutting.specs.Meaning.{stateOf}
 use Rattle.cutting.specs.Ready.{Within}
-use Rattle.unfolding.specs.declared.run.Progress.{Progress}
-use Rattle.unfolding.specs.declared.run.Advance.{Advance}
-use Rattle.unfolding.specs.declared.run.Advance.the-variants.{On, Ended}
-use Rattle.unfolding.specs.declared.run.Ran.{Ran}
+use Rattle.running.specs.declared.run.Progress.{Progress}
+use Rattle.running.specs.declared.run.Advance.{Advance}
+use Rattle.running.specs.declared.run.Advance.the-variants.{On, Ended}
+use Rattle.running.specs.declared.run.Ran.{Ran}
 
 -- `whole` is the whole unfolding, `st` the state that it has come to, from which `fuel` steps are left; `left` boards are left to be opened,
 -- and `pieces` items are written to the buffer

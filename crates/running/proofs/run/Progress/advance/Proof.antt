@@ -7,9 +7,9 @@ use borrow.Author.Needs.{needs}
 use Rattle.layouts.specs.Unfold.{Step, idle, openBoard, step}
 use Rattle.cutting.specs.declared.state.Step.{Step as CodeStep}
 use Rattle.cutting.specs.Meaning.{stateOf, stepMeans, spends, stepSpends, countsAfter}
-use Rattle.unfolding.proofs.CodeRun.{going-ready, placed-room, going-placed, going-over, going-open, going-ended}
-use Rattle.unfolding.proofs.run.Progress.advance.Statement.{statement}
-use Rattle.unfolding.proofs.run.Progress.advance.Tie as tie
+use Rattle.running.proofs.CodeRun.{going-ready, placed-room, going-placed, going-over, going-open, going-ended}
+use Rattle.running.proofs.run.Progress.advance.Statement.{statement}
+use Rattle.running.proofs.run.Progress.advance.Tie as tie
 
 -- what the answer of `step` says once its case is known
 told : {s : Step} {r r′ : CodeStep} (ns : List ℕ) → stepMeans r ns ≡ s → r ≡ r′ → s ≡ stepMeans r′ ns

@@ -1,0 +1,2 @@
+-- The laws of this crate's code, on plain values.
+pub mod CodeRun

@@ -1,0 +1,2 @@
+-- The definitions of this crate: how far a run has come, and what it gives.
+pub mod Going

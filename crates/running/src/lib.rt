@@ -1,0 +1,2 @@
+// The run of an unfolding: step after step, board after board.
+pub mod run;
