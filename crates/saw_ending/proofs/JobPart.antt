@@ -24,11 +24,11 @@ use Rattle.tester.proofs.CodeCall.{given-pass, refused-refuse}
 use Rattle.unfolding.proofs.CodeAccepted.{listed-lent}
 use Rattle.texts.specs.JobLines.{Place, bodyLine}
 use Rattle.texts.specs.SawText.{Counted, PriceLines, Saw, sawRows}
-use Rattle.saw_reader.specs.declared.plan_lines.PlanLines.{PlanLines}
-use Rattle.saw_reader.specs.declared.price_lines.PriceLines.{PriceLines as CodePrices}
-use Rattle.saw_reader.specs.PlanRead.{PlanKept}
-use Rattle.saw_reader.specs.ModelRead.{ModelKept}
-use Rattle.saw_reader.proofs.ModelLaws.{model-kept, held-take, Modelled, kept-modelled}
+use Rattle.saw_body.specs.declared.plan_lines.PlanLines.{PlanLines}
+use Rattle.saw_body.specs.declared.price_lines.PriceLines.{PriceLines as CodePrices}
+use Rattle.saw_body.specs.PlanRead.{PlanKept}
+use Rattle.saw_body.specs.ModelRead.{ModelKept}
+use Rattle.saw_body.proofs.ModelLaws.{model-kept, held-take, Modelled, kept-modelled}
 use Rattle.saw_ending.specs.Tail.{PricesEnd, sawOf, listedRows}
 use Rattle.saw_ending.specs.Ending.{ListedLent, WholeKept, Answered}
 

@@ -20,13 +20,13 @@ use Rattle.texts.specs.SawText.{Counted, PriceLines, Saw, sawGrammar, sawRows, 
 use Rattle.texts.specs.Held.{PricesHeld as PricesWhole}
 use Rattle.texts.specs.Held.{SawHeld as TextHolds}
 use Rattle.texts.proofs.SawTexts.{saw-both-ways}
-use Rattle.saw_reader.specs.declared.plan_lines.PlanLines.{PlanLines}
-use Rattle.saw_reader.specs.declared.price_lines.PriceLines.{PriceLines as CodePrices}
-use Rattle.saw_reader.specs.declared.held.SawHeld.{SawHeld}
+use Rattle.saw_body.specs.declared.plan_lines.PlanLines.{PlanLines}
+use Rattle.saw_body.specs.declared.price_lines.PriceLines.{PriceLines as CodePrices}
+use Rattle.saw_lines.specs.declared.held.SawHeld.{SawHeld}
 use Rattle.saw_reader.specs.declared.saw.SawReader.{SawReader}
-use Rattle.saw_reader.specs.PlanRead.{PlanKept}
-use Rattle.saw_reader.specs.ModelRead.{ModelKept}
-use Rattle.saw_reader.specs.SawKept.{Lent, lent, Room, PlanHeld, ListedJob, JobHeld, PricesTo, PricesHeld}
+use Rattle.saw_body.specs.PlanRead.{PlanKept}
+use Rattle.saw_body.specs.ModelRead.{ModelKept}
+use Rattle.saw_lines.specs.SawKept.{Lent, lent, Room, PlanHeld, ListedJob, JobHeld, PricesTo, PricesHeld}
 use Rattle.saw_reader.specs.SawFed.{SawKept}
 use Rattle.saw_ending.specs.Tail.{PricesEnd}
 use Rattle.saw_ending.specs.Ending.{WholeKept, TextEnds, Answered}

@@ -18,9 +18,9 @@ use Rattle.tester.proofs.CodeCall.{given-pass}
 use Rattle.unfolding.proofs.CodeEnding.{given-one}
 use Rattle.texts.specs.SawText.{Counted, cutsNamed, cutsRising, planCounts}
 use Rattle.texts.proofs.CallRows.{counts-length, plan-filled, counts-filled}
-use Rattle.saw_reader.specs.declared.plan_lines.PlanLines.{PlanLines}
-use Rattle.saw_reader.specs.PlanRead.{atLine, PlanKept}
-use Rattle.saw_reader.proofs.PlanLaws.{risen-all}
+use Rattle.saw_body.specs.declared.plan_lines.PlanLines.{PlanLines}
+use Rattle.saw_body.specs.PlanRead.{atLine, PlanKept}
+use Rattle.saw_body.proofs.PlanLaws.{risen-all}
 use Rattle.saw_ending.specs.Tail.{linesRow, PlaceFits, Tested, PlanTold}
 use Rattle.saw_ending.proofs.Near.{near-plan, near-answer}
 use Rattle.saw_ending.proofs.Filled.{boards-filled}

@@ -20,8 +20,8 @@ use Rattle.pricer.specs.PriceSays.{sumAndD}
 use Rattle.texts.specs.SawText.{PriceLines, priceLinesRow}
 use Rattle.texts.proofs.CallRows.{model-sized}
 use Rattle.writing.specs.Wrote.{sumGiven, denominatorGiven}
-use Rattle.saw_reader.specs.declared.price_lines.PriceLines.{PriceLines as CodePrices}
-use Rattle.saw_reader.proofs.ModelLaws.{held-take}
+use Rattle.saw_body.specs.declared.price_lines.PriceLines.{PriceLines as CodePrices}
+use Rattle.saw_body.proofs.ModelLaws.{held-take}
 use Rattle.saw_ending.specs.Tail.{PricesGiven, PricesEnd}
 
 or-last : (t : Bool) → (t || true) ≡ true

@@ -12,7 +12,7 @@ use Rattle.job.specs.Verdict.{Verdict, pass, refuse}
 use Rattle.job.specs.Buffers.{countsSize, placementsSize}
 use Rattle.job.proofs.Tests.{and-left, and-right}
 use Rattle.texts.specs.SawText.{Saw}
-use Rattle.saw_reader.specs.SawKept.{jobSize, pricesSize}
+use Rattle.saw_lines.specs.SawKept.{jobSize, pricesSize}
 use Rattle.writing.specs.Wrote.{longestSaw}
 use Rattle.saw_ending.specs.Ending.{placedEnd, Answered, roomToEnd}
 

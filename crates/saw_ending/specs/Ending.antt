@@ -20,11 +20,11 @@ use Rattle.texts.specs.SawText.{Saw, sawGrammar, sawLines}
 use Rattle.texts.specs.Printed.{sawRun}
 use Rattle.reading.specs.declared.text.TextReader.{TextReader}
 use Rattle.reading.specs.Standing.{TextKept}
-use Rattle.saw_reader.specs.declared.plan_lines.PlanLines.{PlanLines}
-use Rattle.saw_reader.specs.declared.price_lines.PriceLines.{PriceLines}
-use Rattle.saw_reader.specs.declared.held.SawHeld.{SawHeld}
-use Rattle.saw_reader.specs.PlanRead.{PlanKept}
-use Rattle.saw_reader.specs.SawKept.{jobSize, pricesSize}
+use Rattle.saw_body.specs.declared.plan_lines.PlanLines.{PlanLines}
+use Rattle.saw_body.specs.declared.price_lines.PriceLines.{PriceLines}
+use Rattle.saw_lines.specs.declared.held.SawHeld.{SawHeld}
+use Rattle.saw_body.specs.PlanRead.{PlanKept}
+use Rattle.saw_lines.specs.SawKept.{jobSize, pricesSize}
 use Rattle.writing.specs.Wrote.{Wrote, longestSaw}
 use Rattle.saw_ending.specs.Tail.{PricesEnd}
 

@@ -18,9 +18,9 @@ use Rattle.tester.specs.declared.plan_row.PlanAnswer.the-variants.{Accepted, Re
 use Rattle.tester.specs.PlanSays.{saysOf}
 use Rattle.texts.specs.JobLines.{Place, bodyLine}
 use Rattle.texts.specs.SawText.{Counted, PriceLines, Saw, cutsNamed, cutsRising, planCounts, priceLinesRow}
-use Rattle.saw_reader.specs.declared.plan_lines.PlanLines.{PlanLines}
-use Rattle.saw_reader.specs.declared.price_lines.PriceLines.{PriceLines as CodePrices}
-use Rattle.saw_reader.specs.PlanRead.{PlanKept}
+use Rattle.saw_body.specs.declared.plan_lines.PlanLines.{PlanLines}
+use Rattle.saw_body.specs.declared.price_lines.PriceLines.{PriceLines as CodePrices}
+use Rattle.saw_body.specs.PlanRead.{PlanKept}
 
 -- the plan row of lines 3, the first of which is line `first`: 8, 9, then 10, 11 and 12 of their counts
 unfoldable pub linesRow : Job → Listing → ℕ → List Counted → Verdict

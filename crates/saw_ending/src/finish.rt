@@ -6,7 +6,7 @@ ghost use Prim.Native.Nat.{ℕ};
 ghost use lib.ListN.{length};
 ghost use Rattle.texts.specs.Reader.{Reader, started, fed};
 ghost use Rattle.texts.specs.SawText.{Saw, sawGrammar};
-ghost use Rattle.saw_reader.specs.SawKept.{lent};
+ghost use Rattle.saw_lines.specs.SawKept.{lent};
 ghost use Rattle.saw_reader.specs.SawFed.{SawKept};
 ghost use Rattle.saw_ending.specs.Ending.{roomToEnd, Unchanged};
 ghost use Rattle.saw_ending.specs.Finished.{Finished};

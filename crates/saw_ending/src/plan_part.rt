@@ -8,7 +8,7 @@ ghost use Rattle.saw_ending.specs.Tail.{PlanTold};
 use job::counters::CutNumber;
 use job::counters::ItemType;
 use job::counters::PlateType;
-use saw_reader::plan_lines::PlanLines;
+use saw_body::plan_lines::PlanLines;
 use tester::plan_row::PlanAnswer;
 use tester::plan_row::plan_rows;
 

@@ -13,7 +13,7 @@ ghost use Rattle.pricer.specs.PriceSays.{saysOf};
 ghost use Rattle.texts.specs.SawText.{priceLinesRow};
 ghost use Rattle.texts.specs.SawText.{PriceLines as Lines456};
 ghost use Rattle.writing.specs.Wrote.{sumGiven, denominatorGiven};
-ghost use Rattle.saw_reader.specs.SawKept.{pricesSize};
+ghost use Rattle.saw_lines.specs.SawKept.{pricesSize};
 ghost use Rattle.saw_ending.specs.Tail.{PricesGiven, PricesEnd};
 use job::counters::CutNumber;
 use job::counters::ItemType;
@@ -21,7 +21,7 @@ use job::counters::PlateType;
 use pricer::prices::PriceAnswer;
 use pricer::prices::price_rows;
 use pricer::prices::price_words;
-use saw_reader::price_lines::PriceLines;
+use saw_body::price_lines::PriceLines;
 use tester::row::Row;
 
 // The prices row of lines 4, 5 and 6: 13 where the n or the m of line 4 is not the model's; then 14 of the price words.

@@ -24,14 +24,14 @@ use Rattle.lister.specs.declared.list.Listed.the-variants.{Done, Refused}
 use Rattle.lister.specs.Listed.{saysOf}
 use Rattle.texts.specs.JobLines.{Place, first, types, body, itemPrices, platePrices, done}
 use Rattle.texts.specs.SawText.{Counted, PriceLines, Saw}
-use Rattle.saw_reader.specs.declared.plan_lines.PlanLines.{PlanLines}
-use Rattle.saw_reader.specs.declared.price_lines.PriceLines.{PriceLines as CodePrices}
-use Rattle.saw_reader.specs.declared.held.SawHeld.{SawHeld}
-use Rattle.saw_reader.specs.PlanRead.{atLine, PlanKept}
-use Rattle.saw_reader.specs.ModelRead.{ModelKept}
-use Rattle.saw_reader.specs.SawKept.{Lent, Room, NoPlan, Unlisted, PlanHeld, ListedJob, JobHeld, NoPrices, PricesTo, PricesHeld, HeldAs}
+use Rattle.saw_body.specs.declared.plan_lines.PlanLines.{PlanLines}
+use Rattle.saw_body.specs.declared.price_lines.PriceLines.{PriceLines as CodePrices}
+use Rattle.saw_body.specs.PlanRead.{atLine, PlanKept}
+use Rattle.saw_body.specs.ModelRead.{ModelKept}
+use Rattle.saw_body.proofs.ModelLaws.{verdict-again}
+use Rattle.saw_lines.specs.declared.held.SawHeld.{SawHeld}
+use Rattle.saw_lines.specs.SawKept.{Lent, Room, NoPlan, Unlisted, PlanHeld, ListedJob, JobHeld, NoPrices, PricesTo, PricesHeld, HeldAs}
 use Rattle.saw_reader.specs.Parts.{AsLong}
-use Rattle.saw_reader.proofs.ModelLaws.{verdict-again}
 
 -- words that are held
 pub held-same : (b b′ ws : List ℕ) → Holds b ws → Holds b′ ws → length b ≡ length b′ → b ≡ b′

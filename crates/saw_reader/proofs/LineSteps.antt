@@ -17,8 +17,8 @@ use Rattle.reading.specs.Begun.{Begun}
 use Rattle.reading.specs.Standing.{TextAt}
 use Rattle.reading.proofs.CodeLine.{line-not, line-numbers}
 use Rattle.reading.proofs.CodeText.{kept-refused, line-malformed, at-ready}
+use Rattle.saw_lines.specs.SawKept.{Lent, Room}
 use Rattle.saw_reader.specs.declared.saw.SawReader.{SawReader}
-use Rattle.saw_reader.specs.SawKept.{Lent, Room}
 use Rattle.saw_reader.specs.SawFed.{SawReady, SawKept, Step}
 
 -- a line that is not of the form

@@ -15,8 +15,8 @@ use Rattle.reading.specs.declared.text.TextReader.{TextReader}
 use Rattle.reading.specs.LineEnd.{LineEnd}
 use Rattle.reading.specs.Standing.{lineEnds, Rest}
 use Rattle.reading.proofs.CodeText.{whole, rest-kept, rest-same, line-fed}
+use Rattle.saw_lines.specs.SawKept.{Lent}
 use Rattle.saw_reader.specs.declared.saw.SawReader.{SawReader}
-use Rattle.saw_reader.specs.SawKept.{Lent}
 use Rattle.saw_reader.specs.SawFed.{SawReady, SawKept, Step, Fed}
 use Rattle.saw_reader.specs.Parts.{AsLong}
 

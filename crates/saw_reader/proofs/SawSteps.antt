@@ -3,63 +3,24 @@
 use Prim.Native.Nat.{ℕ, zero, suc, _≤_, _<_}
 use native.Mathlib.Omega.{arith}
 use mathlib.Core.Path.{_≡_, refl, sym, ap, _∙_}
-use mathlib.Core.Bool.{true}
 use mathlib.Core.List.{List, []}
 use mathlib.Core.Option.{some}
-use lib.Dec.{leb}
 use lib.ListN.{length, length-replicate}
-use borrow.Author.Tests.{le-leb}
 use Rattle.job.specs.Verdict.{refuse}
 use Rattle.listing.specs.Holds.{Holds}
 use Rattle.listing.proofs.CodeHolds.{cleared}
 use Rattle.texts.specs.Reader.{Reader, maxLines, started, lineRead}
 use Rattle.texts.specs.SawText.{Saw, sawGrammar, sawAfter}
-use Rattle.texts.proofs.Basics.{and-both, within-both}
-use Rattle.reading.specs.declared.text.Place.{Place}
-use Rattle.reading.specs.declared.text.Place.the-variants.{First, Types, Body, ItemPrices, PlatePrices, Done}
+use Rattle.reading.specs.declared.text.Place.the-variants.{First}
 use Rattle.reading.specs.declared.text.TextReader.{TextReader}
 use Rattle.reading.specs.Standing.{placeOf, TextAt}
 use Rattle.reading.proofs.CodeText.{kept-refused, kept-admitted, line-refused, line-admitted, at-ready}
-use Rattle.saw_reader.specs.declared.held.SawHeld.{SawHeld}
-use Rattle.saw_reader.specs.declared.held.Taken.{Taken}
+use Rattle.saw_lines.specs.declared.held.SawHeld.{SawHeld}
+use Rattle.saw_lines.specs.declared.held.Taken.{Taken}
+use Rattle.saw_lines.specs.SawKept.{Lent, lent, Room, TakenAs}
+use Rattle.saw_lines.proofs.KeptSound.{room-again}
 use Rattle.saw_reader.specs.declared.saw.SawReader.{SawReader}
-use Rattle.saw_reader.specs.SawKept.{Lent, lent, Room, HeldAs, placeSound, TakenAs}
 use Rattle.saw_reader.specs.SawFed.{NoneHeld, SawReady, SawKept, Step, zeros, Started}
-
--- buffers as long as they were have their full size
-pub room-again :
-    {job plates cuts counts prices job′ plates′ cuts′ counts′ prices′ : List ℕ}
-    → Room (lent job plates cuts counts prices)
-    → length job′ ≡ length job
-    → length plates′ ≡ length plates
-    → length cuts′ ≡ length cuts
-    → length counts′ ≡ length counts
-    → length prices′ ≡ length prices
-    → Room (lent job′ plates′ cuts′ counts′ prices′)
-room-again r a b c d e =
-    record {
-      for-job = omega (arith, r .for-job, a);
-      for-plates = omega (arith, r .for-plates, b);
-      for-cuts = omega (arith, r .for-cuts, c);
-      for-counts = omega (arith, r .for-counts, d);
-      for-prices = omega (arith, r .for-prices, e);
-    }
-
--- a state that keeps a text has a sound running number
-pub kept-sound : (p : Place) (s : Saw) (lines : ℕ) (h : SawHeld) (b : Lent) → placeOf p ≡ s .place → HeldAs s lines h b → placeSound p (h .prices .types) ≡ true
-kept-sound First s lines h b e k = refl
-kept-sound (Types i) s lines h b e k =
-    let to = (rw (← e) at (k .of-job)) .0 in
-    within-both 1 40 i (to .from) (omega (arith, to .to, to .few-types))
-kept-sound Body s lines h b e k = refl
-kept-sound (ItemPrices i) s lines h b e k =
-    let held = rw (← e) at (k .of-prices) in
-    le-leb i 40 (omega (arith, held .1 .0, held .1 .1 .types, held .1 .1 .few-types))
-kept-sound (PlatePrices j) s lines h b e k =
-    let held = rw (← e) at (k .of-prices) in
-    and-both (leb j 2047) (leb (h .prices .types) 40) (le-leb j 2047 (omega (arith, held .1 .0, held .1 .1 .residuals, held .1 .1 .few-residuals)))
-    (le-leb (h .prices .types) 40 (omega (arith, held .1 .1 .types, held .1 .1 .few-types)))
-kept-sound Done s lines h b e k = refl
 
 module _ (r : Reader Saw) (f : SawReader) (b b′ : Lent) (ns : List ℕ) (t : Taken) (t′ : TextReader) (k : SawKept r f b) (took : TakenAs (r .state) (r .lines) ns t b′) (ready : SawReady (record { text = t′; held = t .held }) b′) where
   -- the numbers of a line are refused

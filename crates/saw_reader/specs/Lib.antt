@@ -1,6 +1,3 @@
--- The definitions of this crate: what is kept of a saw text so far, in a state and in lent buffers.
-pub mod PlanRead
-pub mod ModelRead
-pub mod SawKept
+-- The definitions of this crate: the reader of a saw text in its state and lent buffers, and a text in parts.
 pub mod SawFed
 pub mod Parts

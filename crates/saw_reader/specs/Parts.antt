@@ -6,8 +6,8 @@ use mathlib.Core.List.{List, _++_}
 use lib.ListN.{length}
 use Rattle.texts.specs.Reader.{Reader, started, fed}
 use Rattle.texts.specs.SawText.{Saw, sawGrammar}
+use Rattle.saw_lines.specs.SawKept.{Lent}
 use Rattle.saw_reader.specs.declared.saw.SawReader.{SawReader}
-use Rattle.saw_reader.specs.SawKept.{Lent}
 use Rattle.saw_reader.specs.SawFed.{SawKept, Fed}
 
 -- the state and the lent buffers are those of the definition after the bytes bs

@@ -9,9 +9,9 @@ use Rattle.lister.specs.declared.list.Listed.the-variants.{Refused}
 use Rattle.texts.specs.Reader.{Reader, started, fed}
 use Rattle.texts.specs.SawText.{Saw, sawGrammar}
 use Rattle.reading.specs.Standing.{TextKept, TextReady}
-use Rattle.saw_reader.specs.declared.held.SawHeld.{SawHeld}
+use Rattle.saw_lines.specs.declared.held.SawHeld.{SawHeld}
+use Rattle.saw_lines.specs.SawKept.{Lent, lent, Room, NoPlan, HeldAs}
 use Rattle.saw_reader.specs.declared.saw.SawReader.{SawReader}
-use Rattle.saw_reader.specs.SawKept.{Lent, lent, Room, NoPlan, HeldAs}
 
 -- nothing is kept yet
 pub record NoneHeld (h : SawHeld) : Type 0 where

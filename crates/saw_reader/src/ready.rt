@@ -1,7 +1,7 @@
 // Whether a state's own numbers are sound, and lent buffers of full size.
 ghost use mathlib.Core.Path.{_≡_};
 ghost use mathlib.Core.Bool.{true, false};
-ghost use Rattle.saw_reader.specs.SawKept.{lent, Room};
+ghost use Rattle.saw_lines.specs.SawKept.{lent, Room};
 ghost use Rattle.saw_reader.specs.SawFed.{SawReady};
 use crate::saw::SawReader;
 

@@ -10,17 +10,17 @@ ghost use Rattle.texts.specs.Reader.{maxLines, longestLine, lineRead};
 ghost use Rattle.texts.specs.SawText.{sawGrammar};
 ghost use Rattle.reading.specs.LineEnd.{LineEnd};
 ghost use Rattle.reading.specs.Standing.{lineEnds};
-ghost use Rattle.saw_reader.specs.SawKept.{lent};
+ghost use Rattle.saw_lines.specs.SawKept.{lent};
 ghost use Rattle.saw_reader.specs.SawFed.{NoneHeld, SawReady, Step, Started, Fed};
-use crate::held::SawHeld;
-use crate::numbers::sound;
-use crate::numbers::take_numbers;
-use crate::plan_lines::PlanLines;
-use crate::price_lines::no_prices;
 use job::words::clear;
 use lister::list::Listed;
 use reading::scan::line_end;
 use reading::text::TextReader;
+use saw_body::plan_lines::PlanLines;
+use saw_body::price_lines::no_prices;
+use saw_lines::held::SawHeld;
+use saw_lines::numbers::sound;
+use saw_lines::numbers::take_numbers;
 
 // A saw text so far: where it stands, and what is kept of it beside the lent buffers.
 pub struct SawReader {

@@ -6,7 +6,7 @@ use denote.Ref.{now}
 use lib.ListN.{length}
 use borrow.Author.Tests.{not-true, not-false}
 use Rattle.reading.proofs.CodeText.{whole}
-use Rattle.saw_reader.specs.SawKept.{lent}
+use Rattle.saw_lines.specs.SawKept.{lent}
 use Rattle.saw_reader.proofs.PartSteps.{Going, going-start, going-end, going-line, going-rest, fed-ready}
 use Rattle.saw_reader.proofs.saw.SawReader.feed_ready.Statement.{statement}
 use Rattle.saw_reader.proofs.saw.SawReader.feed_ready.Tie as tie

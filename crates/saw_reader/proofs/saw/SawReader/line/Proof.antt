@@ -9,7 +9,7 @@ use lib.Seq.{length-take-le}
 use borrow.Author.Tests.{not-true, not-false}
 use Rattle.columns.specs.declared.line.Line.{Line}
 use Rattle.reading.proofs.CodeText.{whole}
-use Rattle.saw_reader.specs.SawKept.{lent}
+use Rattle.saw_lines.specs.SawKept.{lent}
 use Rattle.saw_reader.proofs.LineSteps.{malformed-step, line-step, readable, whole-size}
 use borrow.Author.Needs.{needs}
 use Rattle.saw_reader.proofs.saw.SawReader.line.Statement.{statement}

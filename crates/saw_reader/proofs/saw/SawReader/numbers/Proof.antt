@@ -5,8 +5,9 @@ use denote.Ref.{now}
 use mathlib.Core.Path.{_≡_, sym, _∙_}
 use borrow.Author.Tests.{not-true, not-false}
 use Rattle.texts.proofs.Basics.{not-both}
-use Rattle.saw_reader.specs.SawKept.{lent}
-use Rattle.saw_reader.proofs.SawSteps.{room-again, kept-sound, refused-step, admitted-step}
+use Rattle.saw_lines.specs.SawKept.{lent}
+use Rattle.saw_lines.proofs.KeptSound.{room-again, kept-sound}
+use Rattle.saw_reader.proofs.SawSteps.{refused-step, admitted-step}
 use borrow.Author.Needs.{needs}
 use Rattle.saw_reader.proofs.saw.SawReader.numbers.Statement.{statement}
 use Rattle.saw_reader.proofs.saw.SawReader.numbers.Tie as tie
