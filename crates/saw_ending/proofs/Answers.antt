@@ -61,6 +61,20 @@ accepted-answer {v} s e w b h l =
       placed = rw (e, ← l) (h .words);
     }
 
+-- placements of the same length end the same
+placed-again : (v : Verdict) (s : Saw) (ps qs : List ℕ) → length ps ≡ length qs → placedEnd v s ps ≡ placedEnd v s qs
+placed-again pass s ps qs e = rw e
+placed-again (refuse number place) s ps qs e = rw e
+
+pub answered-again :
+    {v u : Verdict} {n : ℕ} {out out′ ps qs placements′ : List ℕ} (s : Saw)
+    → length ps ≡ length qs
+    → v ≡ u
+    → Answered v s out ps n out′ placements′
+    → Answered u s out qs n out′ placements′
+answered-again {v} {u} {ps = ps} {qs} s e f a =
+    rw (← f) (record { wrote = a .wrote; placed = a .placed ∙ placed-again v s ps qs e })
+
 -- the rows after the model: the plan row, then the prices row
 rows-parts :
     (s : Saw)

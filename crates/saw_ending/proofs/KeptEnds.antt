@@ -1,37 +1,26 @@
 -- What the reader of a saw text keeps, where the text ends: the job's words, the lines 3 and the prices that its last rows need.
 -- Assumes nothing.
-use Prim.Native.Nat.{ℕ, _+_, _≤_}
+use Prim.Native.Nat.{ℕ, _+_}
 use native.Mathlib.Omega.{arith}
-use mathlib.Core.Path.{_≡_, refl, sym, ap, _∙_, subst}
+use mathlib.Core.Path.{_≡_, ap, _∙_, subst}
 use mathlib.Core.List.{List}
 use mathlib.Core.Option.{Option, none, some}
 use lib.ListN.{length}
 use Rattle.job.specs.Verdict.{pass, _then_}
-use Rattle.job.specs.Buffers.{platesSize, cutsSize}
-use Rattle.job.specs.Job.{jobOf, jobWords}
-use Rattle.job.proofs.Verdicts.{pass-not-refuse}
-use Rattle.listing.specs.Listing.{listingOf}
 use Rattle.listing.specs.Holds.{Holds}
-use Rattle.lister.specs.declared.list.Listed.{Listed}
-use Rattle.lister.specs.declared.list.Listed.the-variants.{Done, Refused}
-use Rattle.texts.specs.JobLines.{Place, bodyLine}
+use Rattle.texts.specs.JobLines.{Place}
 use Rattle.texts.specs.Reader.{Reader, started, fed, textRow}
 use Rattle.texts.specs.SawText.{Counted, PriceLines, Saw, sawGrammar, sawRows, sawWritten}
 use Rattle.texts.specs.Held.{PricesHeld as PricesWhole}
-use Rattle.texts.specs.Held.{SawHeld as TextHolds}
 use Rattle.texts.proofs.SawTexts.{saw-both-ways}
-use Rattle.saw_body.specs.declared.plan_lines.PlanLines.{PlanLines}
 use Rattle.saw_body.specs.declared.price_lines.PriceLines.{PriceLines as CodePrices}
 use Rattle.saw_lines.specs.declared.held.SawHeld.{SawHeld}
 use Rattle.saw_reader.specs.declared.saw.SawReader.{SawReader}
-use Rattle.saw_body.specs.PlanRead.{PlanKept}
-use Rattle.saw_body.specs.ModelRead.{ModelKept}
-use Rattle.saw_lines.specs.SawKept.{Lent, lent, Room, PlanHeld, ListedJob, JobHeld, PricesTo, PricesHeld}
-use Rattle.saw_reader.specs.SawFed.{SawKept}
+use Rattle.saw_lines.specs.SawKept.{Lent, ListedJob, JobHeld, PricesTo, PricesHeld}
+use Rattle.saw_reader.specs.Parts.{After}
 use Rattle.saw_ending.specs.Tail.{PricesEnd}
 use Rattle.saw_ending.specs.Ending.{WholeKept, TextEnds, Answered}
 use Rattle.saw_ending.specs.Finished.{Finished}
-use Rattle.saw_ending.proofs.JobPart.{jobRows, rows-refused}
 
 -- a text ends in its body or after its prices, where the job is listed
 job-listed :
@@ -63,45 +52,27 @@ prices-end place (some ps) p buffer e h =
       },
     )
 
--- its lines 3 are kept where the job is listed
-plan-held :
-    (ws plates cuts : List ℕ) (rs : List Counted) (p : PlanLines) (counts : List ℕ) (a : Listed)
-    → platesSize ≤ length plates
-    → cutsSize ≤ length cuts
-    → jobWords ws ≡ pass
-    → ModelKept ws a plates cuts
-    → PlanHeld ws a rs p counts
-    → jobRows ws ≡ pass
-    → PlanKept (listingOf (jobOf ws)) (bodyLine ws) rs p counts
-plan-held ws plates cuts rs p counts (Done m k) ps cs w kept h ok = h
-plan-held ws plates cuts rs p counts (Refused number place) ps cs w kept h ok =
-    absurd
-    (pass-not-refuse ok
-    (rows-refused ws plates cuts plates cuts refl refl ps cs (Refused number place) (kept .says) (kept .plates-are) (kept .cuts-are) number place refl w))
+module _ (f : SawReader) (b : Lent) (bs : List ℕ) (k : After bs f b) where
+  abbrev r : Reader Saw
+  r = fed sawGrammar (started sawGrammar) bs
 
-module _ {r : Reader Saw} {f : SawReader} (job plates cuts counts prices bs : List ℕ) (is : r ≡ fed sawGrammar (started sawGrammar) bs) (k : SawKept r f (lent job plates cuts counts prices)) where
   -- a text that passes the line row holds words that pass their own rows
-  text-holds : textRow sawGrammar r ≡ pass → TextHolds (r .state)
-  text-holds h =
-      subst (λ (q : Reader Saw). TextHolds (q .state)) (sym is)
-      (saw-both-ways .read bs (subst (λ (q : Reader Saw). textRow sawGrammar q ≡ pass) is h) .0)
-
-  whole : textRow sawGrammar r ≡ pass → WholeKept (r .state) (f .held .plan) (f .held .prices) job counts prices
+  whole : textRow sawGrammar r ≡ pass → WholeKept (r .state) (f .held) b
   whole h =
       let s : Saw = r .state in
-      let t = text-holds h in
-      let j = job-listed (s .place) (s .prices) (f .held) (s .job) (s .plan) (lent job plates cuts counts prices) (t .prices) (k .held .of-job) in
-      let room = k .ready .room in
+      let t = saw-both-ways .read bs h .0 in
+      let j = job-listed (s .place) (s .prices) (f .held) (s .job) (s .plan) b (t .prices) (k .held .of-job) in
       record {
         words = k .held .words;
         passed = t .job;
-        of-plan =
-            plan-held (s .job) plates cuts (s .plan) (f .held .plan) counts (f .held .model) (room .for-plates) (room .for-cuts) (t .job) (j .model) (j .plan);
-        of-prices = prices-end (s .place) (s .prices) (f .held .prices) prices (t .prices) (k .held .of-prices);
+        model = j .model;
+        plan = j .plan;
+        prices = prices-end (s .place) (s .prices) (f .held .prices) (b .prices) (t .prices) (k .held .of-prices);
       }
 
-  pub text-ends : TextEnds r (f .text) (f .held) job counts prices
-  text-ends = record { stands = k .text; few = omega (arith, k .text .lines, k .ready .text .few); whole = whole }
+  pub text-ends : TextEnds r (f .text) (f .held) b
+  text-ends =
+      record { room = k .ready .room; stands = k .text; few = omega (arith, k .text .lines, k .ready .text .few); whole = whole }
 
 -- the answer is what the definition writes
 pub finished :

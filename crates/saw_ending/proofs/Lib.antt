@@ -8,5 +8,4 @@ pub mod PricePart
 pub mod UnfoldPart
 pub mod Answers
 pub mod JobPart
-pub mod Room
 pub mod KeptEnds

@@ -2,36 +2,32 @@
 -- Assumes nothing.
 use Prim.Native.Nat.{ℕ, _+_, _≤_}
 use mathlib.Core.Path.{_≡_}
-use mathlib.Core.Bool.{Bool, _&&_}
 use mathlib.Core.List.{List, []}
-use lib.Dec.{leb}
 use lib.ListN.{length, getD, replicate}
-use Rattle.job.specs.Verdict.{Verdict, pass, refuse, _then_}
+use Rattle.job.specs.Verdict.{Verdict, pass, refuse}
 use Rattle.job.specs.Buffers.{filled, countsSize, placementsSize}
-use Rattle.job.specs.Job.{jobOf, jobWords, admission}
-use Rattle.listing.specs.Listing.{modelRow, listingOf}
+use Rattle.job.specs.Job.{jobOf, jobWords}
+use Rattle.listing.specs.Listing.{listingOf}
 use Rattle.listing.specs.Holds.{Holds}
-use Rattle.tester.specs.CutRead.{cutsRead, Lent}
+use Rattle.tester.specs.CutRead.{cutsRead}
+use Rattle.tester.specs.CutRead.{Lent as CutsLent}
 use Rattle.layouts.specs.Placement.{placementWords}
 use Rattle.cutting.specs.Ready.{ModelLent}
-use Rattle.texts.specs.JobLines.{bodyLine}
 use Rattle.texts.specs.Reader.{Reader, maxLines, textRow, written}
 use Rattle.texts.specs.SawText.{Saw, sawGrammar, sawLines}
 use Rattle.texts.specs.Printed.{sawRun}
 use Rattle.reading.specs.declared.text.TextReader.{TextReader}
 use Rattle.reading.specs.Standing.{TextKept}
-use Rattle.saw_body.specs.declared.plan_lines.PlanLines.{PlanLines}
-use Rattle.saw_body.specs.declared.price_lines.PriceLines.{PriceLines}
 use Rattle.saw_lines.specs.declared.held.SawHeld.{SawHeld}
-use Rattle.saw_body.specs.PlanRead.{PlanKept}
-use Rattle.saw_lines.specs.SawKept.{jobSize, pricesSize}
+use Rattle.saw_body.specs.ModelRead.{ModelKept}
+use Rattle.saw_lines.specs.SawKept.{pricesSize, Lent, Room, PlanHeld}
 use Rattle.writing.specs.Wrote.{Wrote, longestSaw}
 use Rattle.saw_ending.specs.Tail.{PricesEnd}
 
 -- `ws` are the words of an admitted job, and the buffers hold its listing, of m residual types and k cuts
 pub record ListedLent (ws plates cuts : List ℕ) (m k : ℕ) : Type 0 where
   pub words : jobWords ws ≡ pass
-  pub lent : Lent ws cuts (getD ws 4 0) (m + 1) k
+  pub lent : CutsLent ws cuts (getD ws 4 0) (m + 1) k
   pub types : length (listingOf (jobOf ws) .plates) ≡ m + 1
   pub listed : listingOf (jobOf ws) .cuts ≡ cutsRead k cuts
   pub model : ModelLent ws plates cuts k
@@ -44,20 +40,20 @@ pub record Ready (counts prices placements out : List ℕ) : Type 0 where
   pub for-placements : placementsSize ≤ length placements
   pub for-out : longestSaw ≤ length out
 
--- what is kept of a saw text that passes the line row: the job's words, the lines 3 where the job is listed, the prices
-pub record WholeKept (s : Saw) (plan : PlanLines) (lines : PriceLines) (job counts prices : List ℕ) : Type 0 where
-  pub words : Holds job (s .job)
+-- what is kept of a saw text that passes the line row: the job's words, the model as the listing call left it, the lines 3, the prices
+pub record WholeKept (s : Saw) (h : SawHeld) (b : Lent) : Type 0 where
+  pub words : Holds (b .job) (s .job)
   pub passed : jobWords (s .job) ≡ pass
-  pub of-plan :
-      (admission (jobOf (s .job)) then modelRow (jobOf (s .job))) ≡ pass
-      → PlanKept (listingOf (jobOf (s .job))) (bodyLine (s .job)) (s .plan) plan counts
-  pub of-prices : PricesEnd (s .prices) lines prices
+  pub model : ModelKept (s .job) (h .model) (b .plates) (b .cuts)
+  pub plan : PlanHeld (s .job) (h .model) (s .plan) (h .plan) (b .counts)
+  pub prices : PricesEnd (s .prices) (h .prices) (b .prices)
 
 -- what is kept of a saw text that ends: where it stands, and, if it passes the line row, what it holds
-pub record TextEnds (r : Reader Saw) (text : TextReader) (held : SawHeld) (job counts prices : List ℕ) : Type 0 where
+pub record TextEnds (r : Reader Saw) (text : TextReader) (h : SawHeld) (b : Lent) : Type 0 where
+  pub room : Room b
   pub stands : TextKept (λ s. s .place) r text
   pub few : r .lines ≤ maxLines
-  pub whole : textRow sawGrammar r ≡ pass → WholeKept (r .state) (held .plan) (held .prices) job counts prices
+  pub whole : textRow sawGrammar r ≡ pass → WholeKept (r .state) h b
 
 -- lent placements, by the verdict: the words of each piece and then zeros, or, refused, zeros
 abbrev pub placedEnd : Verdict → Saw → List ℕ → List ℕ
@@ -69,14 +65,11 @@ pub record Answered (v : Verdict) (s : Saw) (out placements : List ℕ) (n : ℕ
   pub wrote : Wrote out 0 (written v (sawLines s)) n out′
   pub placed : placements′ ≡ placedEnd v s placements
 
--- every buffer has its full size, and the output room for the longest: lengths of the job's words, counts, prices, placements, output
-unfoldable pub roomToEnd : ℕ → ℕ → ℕ → ℕ → ℕ → Bool
-roomToEnd job counts prices placements out =
-    leb jobSize job
-    && leb countsSize counts
-    && leb pricesSize prices
-    && leb placementsSize placements
-    && leb longestSaw out
+-- every buffer has its full size, and the output room for the longest
+pub record RoomToEnd (b : Lent) (placements out : List ℕ) : Type 0 where
+  pub lent : Room b
+  pub for-placements : placementsSize ≤ length placements
+  pub for-out : longestSaw ≤ length out
 
 -- nothing is written
 pub record Unchanged (out placements : List ℕ) (n : ℕ) (out′ placements′ : List ℕ) : Type 0 where

@@ -6,20 +6,19 @@ ghost use mathlib.Core.Option.{Option};
 ghost use Prim.Native.Nat.{_≤_, _<_};
 ghost use lib.ListN.{length};
 ghost use Rattle.job.specs.Verdict.{_then_};
-ghost use Rattle.job.specs.Buffers.{countsSize, placementsSize};
+ghost use Rattle.job.specs.Buffers.{placementsSize};
 ghost use Rattle.job.specs.Job.{jobOf};
 ghost use Rattle.listing.specs.Listing.{listingOf};
-ghost use Rattle.listing.specs.Holds.{Holds};
 ghost use Rattle.columns.specs.Line.{lineOf};
 ghost use Rattle.texts.specs.JobLines.{Place, bodyLine};
 ghost use Rattle.texts.specs.Reader.{Reader, textRow};
 ghost use Rattle.texts.specs.SawText.{Counted, Saw, sawGrammar, sawRows};
 ghost use Rattle.texts.specs.SawText.{PriceLines as Lines456};
 ghost use Rattle.saw_body.specs.PlanRead.{PlanKept};
-ghost use Rattle.saw_lines.specs.SawKept.{jobSize, pricesSize};
+ghost use Rattle.saw_lines.specs.SawKept.{lent, Room};
 ghost use Rattle.writing.specs.Wrote.{Wrote, longestSaw};
 ghost use Rattle.saw_ending.specs.Tail.{PricesEnd, sawOf, listedRows};
-ghost use Rattle.saw_ending.specs.Ending.{ListedLent, Ready, WholeKept, TextEnds, Answered, roomToEnd, Unchanged};
+ghost use Rattle.saw_ending.specs.Ending.{ListedLent, Ready, WholeKept, TextEnds, Answered};
 use crate::line_row::text_row;
 use crate::plan_part::plan_row_of_text;
 use crate::price_part::prices_of_text;
@@ -29,13 +28,12 @@ use job::counters::ItemType;
 use job::counters::PlateType;
 use job::words::clear;
 use lister::list::Listed;
-use lister::list::list;
-use pricer::prices::PriceAnswer;
 use reading::text::TextReader;
+use saw_lines::held::SawHeld;
 use saw_body::plan_lines::PlanLines;
 use saw_body::price_lines::PriceLines;
-use saw_lines::held::SawHeld;
 use tester::plan_row::PlanAnswer;
+use pricer::prices::PriceAnswer;
 use tester::row::Row;
 use writing::refusal::write_refusal;
 
@@ -94,62 +92,44 @@ pub fn answer_listed(
     }
 }
 
-// The rows after the line row, over a model that is built afresh from the job: lines 7 and line 8, or line 9.
+// The rows after the line row, by the model that is kept: lines 7 and line 8, or line 9.
 fn answer_job(
-    plan: PlanLines,
-    lines: PriceLines,
+    held: SawHeld,
     job: &[u16],
+    plates: &[u16],
+    cuts: &[u16],
     counts: &[u16],
     prices: &[u16],
     placements: &mut [u16],
     out: &mut [u8],
 ) -> usize
-    requires { ⌜ jobSize ≤ length (now job) ⌝ }
+    requires { ⌜ Room (lent (now job) (now plates) (now cuts) (now counts) (now prices)) ⌝ }
+    requires { ⌜ ((s : Saw) × WholeKept s held (lent (now job) (now plates) (now cuts) (now counts) (now prices))) ⌝ }
     requires { ⌜ Ready (now counts) (now prices) (now placements) (now out) ⌝ }
-    ensures { λ r. ⌜ ((s : Saw) → WholeKept s plan lines (now (job .entry)) (now (counts .entry)) (now (prices .entry)) → Answered (sawRows s) s (now (out .entry)) (now (placements .entry)) r (now (out .exit)) (now (placements .exit))) ⌝ }
+    ensures { λ r. ⌜ ((s : Saw) → WholeKept s held (lent (now (job .entry)) (now (plates .entry)) (now (cuts .entry)) (now (counts .entry)) (now (prices .entry))) → Answered (sawRows s) s (now (out .entry)) (now (placements .entry)) r (now (out .exit)) (now (placements .exit))) ⌝ }
 {
-    let n = job[4];
-    if n > 40 {
-        return 0;
-    }
-    let words = 5 + 3 * (n as usize);
-    let mut plates = [0u16; 6144];
-    let mut cuts = [0u16; 32768];
-    match list(&job[..words], &mut plates, &mut cuts) {
+    let plan = held.plan;
+    let lines = held.prices;
+    let model = held.model;
+    match model {
         Listed::Refused(number, place) => refuse(out, number, place as usize),
-        Listed::Done(m, k) => answer_listed(
-            plan,
-            lines,
-            &job[..words],
-            &plates,
-            &cuts,
-            m,
-            k,
-            counts,
-            prices,
-            placements,
-            out,
-        ),
+        Listed::Done(m, k) => {
+            let words = 5 + 3 * (job[4] as usize);
+            answer_listed(
+                plan,
+                lines,
+                &job[..words],
+                plates,
+                cuts,
+                m,
+                k,
+                counts,
+                prices,
+                placements,
+                out,
+            )
+        }
     }
-}
-
-// Whether each lent buffer has its full size, and the output room for the longest.
-fn has_room(job: usize, counts: usize, prices: usize, placements: usize, out: usize) -> bool
-    ensures { λ r. ⌜ r ≡ roomToEnd job counts prices placements out ⌝ }
-{
-    if job < 125 {
-        return false;
-    }
-    if counts < 8192 {
-        return false;
-    }
-    if prices < 2088 {
-        return false;
-    }
-    if placements < 28000 {
-        return false;
-    }
-    292046 <= out
 }
 
 // What is written where a saw text ends, from where it stands and what is kept of it; the number of bytes is handed back.
@@ -157,30 +137,20 @@ pub fn end_text(
     text: TextReader,
     held: SawHeld,
     job: &[u16],
+    plates: &[u16],
+    cuts: &[u16],
     counts: &[u16],
     prices: &[u16],
     placements: &mut [u16],
     out: &mut [u8],
 ) -> usize
-    ensures { λ r. ⌜ (roomToEnd (length (now (job .entry))) (length (now (counts .entry))) (length (now (prices .entry))) (length (now (placements .entry))) (length (now (out .entry))) ≡ false → Unchanged (now (out .entry)) (now (placements .entry)) r (now (out .exit)) (now (placements .exit))) ⌝ }
-    ensures { λ n. ⌜ (roomToEnd (length (now (job .entry))) (length (now (counts .entry))) (length (now (prices .entry))) (length (now (placements .entry))) (length (now (out .entry))) ≡ true → (r : Reader Saw) → TextEnds r text held (now (job .entry)) (now (counts .entry)) (now (prices .entry)) → Answered (textRow sawGrammar r then sawRows (r .state)) (r .state) (now (out .entry)) (now (placements .entry)) n (now (out .exit)) (now (placements .exit))) ⌝ }
+    requires { ⌜ ((r : Reader Saw) × TextEnds r text held (lent (now job) (now plates) (now cuts) (now counts) (now prices))) ⌝ }
+    requires { ⌜ (placementsSize ≤ length (now placements)) × (longestSaw ≤ length (now out)) ⌝ }
+    ensures { λ n. ⌜ ((r : Reader Saw) → TextEnds r text held (lent (now (job .entry)) (now (plates .entry)) (now (cuts .entry)) (now (counts .entry)) (now (prices .entry))) → Answered (textRow sawGrammar r then sawRows (r .state)) (r .state) (now (out .entry)) (now (placements .entry)) n (now (out .exit)) (now (placements .exit))) ⌝ }
 {
-    if has_room(
-        job.len(),
-        counts.len(),
-        prices.len(),
-        placements.len(),
-        out.len(),
-    ) {
-        clear(placements);
-        return match text_row(text) {
-            Row::Refuses(number, place) => refuse(out, number, place),
-            Row::Passes => {
-                let plan = held.plan;
-                let lines = held.prices;
-                answer_job(plan, lines, job, counts, prices, placements, out)
-            }
-        };
+    clear(placements);
+    match text_row(text) {
+        Row::Refuses(number, place) => refuse(out, number, place),
+        Row::Passes => answer_job(held, job, plates, cuts, counts, prices, placements, out),
     }
-    0
 }

@@ -3,32 +3,84 @@ ghost use mathlib.Core.Path.{_≡_};
 ghost use mathlib.Core.Bool.{true, false};
 ghost use mathlib.Core.List.{List};
 ghost use Prim.Native.Nat.{ℕ};
-ghost use lib.ListN.{length};
-ghost use Rattle.texts.specs.Reader.{Reader, started, fed};
-ghost use Rattle.texts.specs.SawText.{Saw, sawGrammar};
+ghost use Rattle.texts.specs.Reader.{started, fed};
+ghost use Rattle.texts.specs.SawText.{sawGrammar};
 ghost use Rattle.saw_lines.specs.SawKept.{lent};
-ghost use Rattle.saw_reader.specs.SawFed.{SawKept};
-ghost use Rattle.saw_ending.specs.Ending.{roomToEnd, Unchanged};
+ghost use Rattle.saw_reader.specs.Parts.{After};
+ghost use Rattle.saw_ending.specs.Ending.{RoomToEnd, Unchanged};
 ghost use Rattle.saw_ending.specs.Finished.{Finished};
 use crate::ending::end_text;
 use saw_reader::saw::SawReader;
 
+// Whether each lent buffer has its full size, and the output room for the longest.
+pub fn has_room(
+    job: &[u16],
+    plates: &[u16],
+    cuts: &[u16],
+    counts: &[u16],
+    prices: &[u16],
+    placements: &[u16],
+    out: &[u8],
+) -> bool
+    ensures { λ r. ⌜ (r ≡ true → RoomToEnd (lent (now (job .entry)) (now (plates .entry)) (now (cuts .entry)) (now (counts .entry)) (now (prices .entry))) (now (placements .entry)) (now (out .entry))) × (r ≡ false → RoomToEnd (lent (now (job .entry)) (now (plates .entry)) (now (cuts .entry)) (now (counts .entry)) (now (prices .entry))) (now (placements .entry)) (now (out .entry)) → ⊥) ⌝ }
+{
+    if job.len() < 125 {
+        return false;
+    }
+    if plates.len() < 6144 {
+        return false;
+    }
+    if cuts.len() < 32768 {
+        return false;
+    }
+    if counts.len() < 8192 {
+        return false;
+    }
+    if prices.len() < 2088 {
+        return false;
+    }
+    if placements.len() < 28000 {
+        return false;
+    }
+    if out.len() < 292046 {
+        return false;
+    }
+    true
+}
+
 // What the saw program writes where its text ends: lines 7 and line 8, or one line 9 alone. The number of bytes is handed back, and the bytes behind
-// them stay. Placements end as the seven words of each piece and then zeros; where the text is refused every word of them is 0. The model is built
-// afresh from the job. Where a lent buffer is shorter than its full size, 125 words of the job, 8,192 counts, 2,088 prices, 28,000 words of placements, or
-// the output than 292,046 bytes, nothing is written, and 0 is handed back.
+// them stay. Placements end as the seven words of each piece and then zeros; where the text is refused every word of them is 0. The model is the one
+// that the reader listed when the job's lines were complete: state and lent buffers are those that `start` and `feed` left. Where a lent buffer is
+// shorter than its full size, 125 words of the job, 6,144 of plates, 32,768 of cuts, 8,192 counts, 2,088 prices, 28,000 words of placements, or the
+// output than 292,046 bytes, nothing is written, and 0 is handed back.
 pub fn finish(
     reader: SawReader,
     job: &[u16],
+    plates: &[u16],
+    cuts: &[u16],
     counts: &[u16],
     prices: &[u16],
     placements: &mut [u16],
     out: &mut [u8],
 ) -> usize
-    ensures { λ n. ⌜ (roomToEnd (length (now (job .entry))) (length (now (counts .entry))) (length (now (prices .entry))) (length (now (placements .entry))) (length (now (out .entry))) ≡ false → Unchanged (now (out .entry)) (now (placements .entry)) n (now (out .exit)) (now (placements .exit))) ⌝ }
-    ensures { λ n. ⌜ (roomToEnd (length (now (job .entry))) (length (now (counts .entry))) (length (now (prices .entry))) (length (now (placements .entry))) (length (now (out .entry))) ≡ true → (r : Reader Saw) (bs plates cuts : List ℕ) → r ≡ fed sawGrammar (started sawGrammar) bs → SawKept r reader (lent (now (job .entry)) plates cuts (now (counts .entry)) (now (prices .entry))) → Finished r (now (out .entry)) (now (placements .entry)) n (now (out .exit)) (now (placements .exit))) ⌝ }
+    requires { ⌜ (RoomToEnd (lent (now job) (now plates) (now cuts) (now counts) (now prices)) (now placements) (now out) → (bs : List ℕ) × After bs reader (lent (now job) (now plates) (now cuts) (now counts) (now prices))) ⌝ }
+    ensures { λ n. ⌜ ((RoomToEnd (lent (now (job .entry)) (now (plates .entry)) (now (cuts .entry)) (now (counts .entry)) (now (prices .entry))) (now (placements .entry)) (now (out .entry)) → ⊥) → Unchanged (now (out .entry)) (now (placements .entry)) n (now (out .exit)) (now (placements .exit))) ⌝ }
+    ensures { λ n. ⌜ (RoomToEnd (lent (now (job .entry)) (now (plates .entry)) (now (cuts .entry)) (now (counts .entry)) (now (prices .entry))) (now (placements .entry)) (now (out .entry)) → (bs : List ℕ) → After bs reader (lent (now (job .entry)) (now (plates .entry)) (now (cuts .entry)) (now (counts .entry)) (now (prices .entry))) → Finished (fed sawGrammar (started sawGrammar) bs) (now (out .entry)) (now (placements .entry)) n (now (out .exit)) (now (placements .exit))) ⌝ }
 {
-    let text = reader.text;
-    let held = reader.held;
-    end_text(text, held, job, counts, prices, placements, out)
+    if has_room(job, plates, cuts, counts, prices, placements, out) {
+        let text = reader.text;
+        let held = reader.held;
+        return end_text(
+            text,
+            held,
+            job,
+            plates,
+            cuts,
+            counts,
+            prices,
+            placements,
+            out,
+        );
+    }
+    0
 }

@@ -1,97 +1,70 @@
--- `answer_job` lists the job afresh, and answers by the listing. Assumes nothing.
+-- `answer_job` answers by the model that is kept. Assumes nothing.
 use Prim.Native.Nat.{ℕ, _+_, _*_, _≤_}
 use native.Mathlib.Omega.{arith}
-use mathlib.Core.Path.{_≡_, refl, sym, ap, _∙_, subst}
-use mathlib.Core.List.{List}
+use mathlib.Core.Path.{_≡_, refl, sym}
 use denote.Ref.{now}
-use lib.ListN.{length, getD, take, replicate, length-replicate}
+use lib.ListN.{length, getD}
 use lib.Seq.{length-take-le}
-use Rattle.job.specs.Buffers.{platesSize, cutsSize}
+use Rattle.saw_lines.specs.SawKept.{lent}
 use Rattle.saw_ending.proofs.Answers.{refused-answer}
-use Rattle.saw_ending.proofs.JobPart.{listed-so, rows-passed, rows-refused, few-types, words-are, words-pass, job-refused, job-passed}
+use Rattle.saw_ending.proofs.JobPart.{few-types, job-refused, job-listed, job-passed}
 use borrow.Author.Needs.{needs}
 use Rattle.saw_ending.proofs.ending.answer_job.Statement.{statement}
 use Rattle.saw_ending.proofs.ending.answer_job.Tie as tie
 
--- the arrays' lengths
-plates-size : platesSize ≡ length (replicate {A = ℕ} 6144 0)
-plates-size = sym {0} (length-replicate {0} {A = ℕ} 6144 0)
+cast-words : tie.Need-cast-words
+cast-words c = omega (arith, c .shared-slice-known6 .given 4)
 
-cuts-size : cutsSize ≡ length (replicate {A = ℕ} 32768 0)
-cuts-size = sym {0} (length-replicate {0} {A = ℕ} 32768 0)
+mul-words : tie.Need-mul-words
+mul-words c = omega (arith, c .shared-slice-known6 .given 4)
 
-plates-full : platesSize ≤ length (replicate {A = ℕ} 6144 0)
-plates-full = subst (λ (n : ℕ). platesSize ≤ n) plates-size (omega arith)
-
-cuts-full : cutsSize ≤ length (replicate {A = ℕ} 32768 0)
-cuts-full = subst (λ (n : ℕ). cutsSize ≤ n) cuts-size (omega arith)
-
--- the job's words are there
-words-there : (job : List ℕ) → 125 ≤ length job → getD job 4 0 ≤ 40 → 5 + 3 * getD job 4 0 ≡ length (take (5 + 3 * getD job 4 0) job)
-words-there job h n = sym (length-take-le (5 + 3 * getD job 4 0) job (omega arith))
-
-returns : tie.Need-returns
-returns c s w =
-    let a = c .before .before .before .before .before .before .before .args in
-    absurd (omega (arith, few-types s (a .plan) (a .lines) (now (a .job)) (now (a .counts)) (now (a .prices)) w, c .if1 .taken))
-
-slice-aggregate-list : tie.Need-slice-aggregate-list
-slice-aggregate-list c = let s = c .before .before .before .before .before .before .before .before in words-there (now (s .args .job)) (s .pre .0) (c .before .if1 .left)
+add-words : tie.Need-add-words
+add-words c = omega (arith, c .shared-slice-known6 .given 4)
 
 slice-aggregate-answer-listed : tie.Need-slice-aggregate-answer-listed
-slice-aggregate-answer-listed c = let s = c .before .before .before .before .before .before .before .before .before .before .before .before .before .before .before .before .before in words-there (now (s .args .job)) (s .pre .0) (c .before .before .before .before .before .before .before .before .before .before .if1 .left)
-
-refuse-requires : tie.Need-refuse-requires
-refuse-requires c κs = c .before .before .before .before .before .before .before .before .before .before .before .before .before .before .before .before .before .pre .1 .for-out
+slice-aggregate-answer-listed c =
+    let s = c .before .before .before .before .before .before .before .before .before .before .before .before .before .before in
+    let a = s .args in
+    let b = lent (now (a .job)) (now (a .plates)) (now (a .cuts)) (now (a .counts)) (now (a .prices)) in
+    sym (length-take-le (5 + 3 * getD (now (a .job)) 4 0) (now (a .job)) (omega (arith, few-types (s .pre .1 .0 .0) (a .held) b (s .pre .0) (s .pre .1 .0 .1), s .pre .0 .for-job)))
 
 answer-listed-requires : tie.Need-answer-listed-requires
 answer-listed-requires c κs =
-    let a = c .before .before .before .before .before .before .before .before .before .before .before .before .before .before .before .before .before .before .before .before .before .args in
-    let x = c .before .before .before .before .before .before .before .before .before .before .list in
-    (listed-so (take (5 + 3 * getD (now (a .job)) 4 0) (now (a .job))) (replicate 6144 0) (replicate 32768 0) _ _ (x .kept .1 .0) (x .kept .1 .1 .0) plates-full cuts-full (x .result) (x .ensures .0) (x .ensures .1 .0) (x .ensures .1 .1) _ _ (c .before .before .before .before .before .before .m .given .1), c .before .before .before .before .before .before .before .before .before .before .before .before .before .before .before .before .before .before .before .before .before .pre .1)
+    let s = c .before .before .before .before .before .before .before .before .before .before .before .before .before .before .before .before in
+    let a = s .args in
+    let b = lent (now (a .job)) (now (a .plates)) (now (a .cuts)) (now (a .counts)) (now (a .prices)) in
+    (job-listed (s .pre .1 .0 .0) (a .held) b (s .pre .0) (s .pre .1 .0 .1) (c .before .before .before .before .before .model2 .given .1), s .pre .1 .1)
+
+returns : tie.Need-returns
+returns c q w =
+    let s = c .before .before .before .before .before .before .before .before .before .before .before .before .before .before .before .before in
+    let a = s .args in
+    let b = lent (now (a .job)) (now (a .plates)) (now (a .cuts)) (now (a .counts)) (now (a .prices)) in
+    refused-answer q (job-refused q (a .held) b (s .pre .0) w (c .before .before .before .before .before .model .given .1)) (c .before .before .refuse .ensures (omega arith)) (s .pre .1 .1 .cleared) refl
 
 returns-2 : tie.Need-returns-2
-returns-2 c s w =
-    let a = c .before .before .before .before .before .before .before .before .before .before .before .before .before .before .before .before .before .before .before .before .args in
-    let x = c .before .before .before .before .before .before .before .before .before .list in
-    refused-answer s
-    (job-refused s (a .plan) (a .lines) (now (a .job)) (now (a .counts)) (now (a .prices)) w (take (5 + 3 * getD (now (a .job)) 4 0) (now (a .job))) (words-are s (a .plan) (a .lines) (now (a .job)) (now (a .counts)) (now (a .prices)) w)
-    (rows-refused (take (5 + 3 * getD (now (a .job)) 4 0) (now (a .job))) (replicate 6144 0) (replicate 32768 0) _ _ (x .kept .1 .0) (x .kept .1 .1 .0) plates-full cuts-full (x .result) (x .ensures .0) (x .ensures .1 .0) (x .ensures .1 .1) _ _ (c .before .before .before .before .before .number .given .1) (words-pass s (a .plan) (a .lines) (now (a .job)) (now (a .counts)) (now (a .prices)) w)))
-    (c .before .before .refuse .ensures (omega arith))
-    (c .before .before .before .before .before .before .before .before .before .before .before .before .before .before .before .before .before .before .before .before .pre .1 .cleared)
-    refl
-
-returns-3 : tie.Need-returns-3
-returns-3 c s w =
-    let a = c .before .before .before .before .before .before .before .before .before .before .before .before .before .before .before .before .before .before .before .before .before .before .before .before .before .before .args in
-    let x = c .before .before .before .before .before .before .before .before .before .before .before .before .before .before .before .list in
-    job-passed s (a .plan) (a .lines) (now (a .job)) (now (a .counts)) (now (a .prices)) w (take (5 + 3 * getD (now (a .job)) 4 0) (now (a .job))) (words-are s (a .plan) (a .lines) (now (a .job)) (now (a .counts)) (now (a .prices)) w) _ _ _ _ _
-    (rows-passed (take (5 + 3 * getD (now (a .job)) 4 0) (now (a .job))) (replicate 6144 0) (replicate 32768 0) _ _ (x .kept .1 .0) (x .kept .1 .1 .0) plates-full cuts-full (x .result) (x .ensures .0) (x .ensures .1 .0) (x .ensures .1 .1) _ _ (c .before .before .before .before .before .before .before .before .before .before .before .m .given .1))
-    (c .before .before .before .before .answer-listed .ensures)
+returns-2 c q w =
+    let s = c .before .before .before .before .before .before .before .before .before .before .before .before .before .before .before .before .before .before .before .before .before in
+    let a = s .args in
+    let b = lent (now (a .job)) (now (a .plates)) (now (a .cuts)) (now (a .counts)) (now (a .prices)) in
+    job-passed q (a .held) b (s .pre .0) w (c .before .before .before .before .before .before .before .before .before .before .model2 .given .1) _ _ _ _ _ (c .before .before .before .before .answer-listed .ensures)
 
 pub answer-job-spec : {M : Type 1} → statement M
 answer-job-spec =
     tie.close
     (tie.spec
-    (λ c. omega (arith, c .before .before .before .before .before .before .pre .0))
-    returns
     (λ c. search needs)
     (λ c. search needs)
-    (λ c. search needs)
-    slice-aggregate-list
-    (λ c. plates-size)
-    (λ c. cuts-size)
     (λ c κs. search needs)
     (λ c. search needs)
     (λ c. search needs)
-    refuse-requires
-    (λ c. search needs)
+    cast-words
+    mul-words
+    add-words
     slice-aggregate-answer-listed
-    (λ c. plates-size ∙ sym (c .before .before .before .before .before .before .before .list .kept .1 .0))
-    (λ c. cuts-size ∙ sym (c .before .before .before .before .before .before .before .before .list .kept .1 .1 .0))
     answer-listed-requires
     (λ c. search needs)
-    returns-2
+    returns
     (λ c. search needs)
     (λ c. search needs)
-    returns-3)
+    returns-2)
