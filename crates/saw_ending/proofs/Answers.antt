@@ -1,11 +1,10 @@
 -- The answer to a saw text, by its rows: what is written and what is left in the placements.
 -- Assumes nothing.
-use Prim.Native.Nat.{ℕ, _+_, _≤_, _<_}
-use native.Mathlib.Omega.{arith}
-use mathlib.Core.Path.{_≡_, refl, sym, ap, _∙_}
+use Prim.Native.Nat.{ℕ, _+_}
+use mathlib.Core.Path.{_≡_, sym, ap, _∙_}
 use mathlib.Core.List.{List, [], _∷_, _++_, flatMap}
 use mathlib.Core.Option.{Option}
-use lib.ListN.{length, replicate}
+use lib.ListN.{length}
 use Rattle.job.specs.Verdict.{Verdict, pass, refuse, _then_}
 use Rattle.job.specs.Buffers.{given, refused, answer, filled}
 use Rattle.job.specs.Job.{jobOf}
@@ -27,10 +26,10 @@ use Rattle.texts.proofs.CallRows.{counts-length}
 use Rattle.writing.specs.Wrote.{Wrote, summaryLine, sumGiven, denominatorGiven}
 use Rattle.writing.proofs.WroteLaws.{written-passed, written-refused}
 use Rattle.writing.proofs.SawOutput.{saw-output}
-use Rattle.saw_ending.specs.Tail.{linesRow, sawOf, listedRows}
+use Rattle.saw_rows.specs.Tail.{linesRow, sawOf, listedRows}
 use Rattle.saw_ending.specs.Ending.{placedEnd, Answered}
-use Rattle.saw_ending.proofs.Filled.{placements-filled, board-filled}
-use Rattle.saw_ending.proofs.PricePart.{results}
+use Rattle.saw_rows.proofs.Filled.{placements-filled, board-filled}
+use Rattle.saw_rows.proofs.PricePart.{results}
 
 -- refused: line 9, and the cleared placements as they are
 pub refused-answer :

@@ -3,7 +3,7 @@
 use Prim.Native.Nat.{ℕ, _+_, _*_, _≤_}
 use native.Mathlib.Omega.{arith}
 use mathlib.Core.Path.{_≡_, refl, sym, ap, _∙_, subst}
-use mathlib.Core.List.{List, [], _∷_}
+use mathlib.Core.List.{List}
 use mathlib.Core.Option.{Option}
 use lib.ListN.{length, getD, take}
 use borrow.Author.Tests.{le-ltb}
@@ -29,7 +29,7 @@ use Rattle.saw_body.specs.PlanRead.{PlanKept}
 use Rattle.saw_body.specs.ModelRead.{ModelKept}
 use Rattle.saw_lines.specs.SawKept.{Lent, Room, PlanHeld}
 use Rattle.saw_body.proofs.ModelLaws.{held-take, Modelled, kept-modelled}
-use Rattle.saw_ending.specs.Tail.{PricesEnd, sawOf, listedRows}
+use Rattle.saw_rows.specs.Tail.{PricesEnd, sawOf, listedRows}
 use Rattle.saw_ending.specs.Ending.{ListedLent, WholeKept, Answered}
 
 -- a buffer of full size

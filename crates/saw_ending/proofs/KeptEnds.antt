@@ -5,7 +5,6 @@ use native.Mathlib.Omega.{arith}
 use mathlib.Core.Path.{_≡_, ap, _∙_, subst}
 use mathlib.Core.List.{List}
 use mathlib.Core.Option.{Option, none, some}
-use lib.ListN.{length}
 use Rattle.job.specs.Verdict.{pass, _then_}
 use Rattle.listing.specs.Holds.{Holds}
 use Rattle.texts.specs.JobLines.{Place}
@@ -18,7 +17,7 @@ use Rattle.saw_lines.specs.declared.held.SawHeld.{SawHeld}
 use Rattle.saw_reader.specs.declared.saw.SawReader.{SawReader}
 use Rattle.saw_lines.specs.SawKept.{Lent, ListedJob, JobHeld, PricesTo, PricesHeld}
 use Rattle.saw_reader.specs.Parts.{After}
-use Rattle.saw_ending.specs.Tail.{PricesEnd}
+use Rattle.saw_rows.specs.Tail.{PricesEnd}
 use Rattle.saw_ending.specs.Ending.{WholeKept, TextEnds, Answered}
 use Rattle.saw_ending.specs.Finished.{Finished}
 

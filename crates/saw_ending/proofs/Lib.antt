@@ -1,11 +1,4 @@
--- The laws of this crate: the line row of a text that ends, the places that rows name, counts with zeros behind them, the plan row, the prices row, the
--- unfolding, the answer.
-pub mod TextRow
-pub mod Near
-pub mod Filled
-pub mod PlanPart
-pub mod PricePart
-pub mod UnfoldPart
+-- The laws of this crate: the answer by the rows, the model that is kept, what is kept where a text ends.
 pub mod Answers
 pub mod JobPart
 pub mod KeptEnds

@@ -22,7 +22,7 @@ use Rattle.saw_lines.specs.declared.held.SawHeld.{SawHeld}
 use Rattle.saw_body.specs.ModelRead.{ModelKept}
 use Rattle.saw_lines.specs.SawKept.{pricesSize, Lent, Room, PlanHeld}
 use Rattle.writing.specs.Wrote.{Wrote, longestSaw}
-use Rattle.saw_ending.specs.Tail.{PricesEnd}
+use Rattle.saw_rows.specs.Tail.{PricesEnd}
 
 -- `ws` are the words of an admitted job, and the buffers hold its listing, of m residual types and k cuts
 pub record ListedLent (ws plates cuts : List ℕ) (m k : ℕ) : Type 0 where

@@ -1,9 +1,9 @@
 -- `answer_job` answers by the model that is kept. Assumes nothing.
-use Prim.Native.Nat.{ℕ, _+_, _*_, _≤_}
+use Prim.Native.Nat.{_+_, _*_}
 use native.Mathlib.Omega.{arith}
-use mathlib.Core.Path.{_≡_, refl, sym}
+use mathlib.Core.Path.{refl, sym}
 use denote.Ref.{now}
-use lib.ListN.{length, getD}
+use lib.ListN.{getD}
 use lib.Seq.{length-take-le}
 use Rattle.saw_lines.specs.SawKept.{lent}
 use Rattle.saw_ending.proofs.Answers.{refused-answer}

@@ -1,17 +1,16 @@
 -- `answer_listed` answers by the plan row, the prices row and the unfolding. Assumes nothing.
 use native.Mathlib.Omega.{arith}
-use mathlib.Core.Path.{_≡_, refl, sym, ap, _∙_}
+use mathlib.Core.Path.{refl, sym, ap, _∙_}
 use denote.Ref.{now}
-use Rattle.job.specs.Job.{jobOf}
 use Rattle.layouts.specs.Demand3.{J, L}
 use Rattle.tester.specs.PlanSays.{saysOf as planSays}
 use Rattle.pricer.specs.PriceSays.{saysOf as priceSays}
 use Rattle.tester.proofs.CodeCall.{given-pass, refused-refuse}
 use Rattle.texts.specs.JobLines.{bodyLine}
 use Rattle.texts.specs.SawText.{priceLinesRow}
-use Rattle.saw_ending.specs.Tail.{linesRow, sawOf}
-use Rattle.saw_ending.proofs.Near.{near-prices}
-use Rattle.saw_ending.proofs.PlanPart.{counts-whole, tested-accepted, fits-refused}
+use Rattle.saw_rows.specs.Tail.{linesRow, sawOf}
+use Rattle.saw_rows.proofs.Near.{near-prices}
+use Rattle.saw_rows.proofs.PlanPart.{counts-whole, tested-accepted, fits-refused}
 use Rattle.saw_ending.proofs.Answers.{refused-answer, accepted-answer, plan-refused, prices-refused, rows-pass, placements-are, bytes-are}
 use borrow.Author.Needs.{needs}
 use Rattle.saw_ending.proofs.ending.answer_listed.Statement.{statement}

@@ -1,6 +1,6 @@
 -- `end_text` answers by the line row, then by the rows after it. Assumes nothing.
 use native.Mathlib.Omega.{arith}
-use mathlib.Core.Path.{_≡_, refl, sym, ap, _∙_}
+use mathlib.Core.Path.{refl, sym, ap, _∙_}
 use denote.Ref.{now}
 use lib.ListN.{length}
 use Rattle.job.proofs.Verdicts.{then-passed, then-refused}
@@ -8,7 +8,7 @@ use Rattle.listing.proofs.CodeHolds.{cleared}
 use Rattle.tester.specs.RowSays.{rowVerdict}
 use Rattle.texts.specs.Reader.{textRow}
 use Rattle.texts.specs.SawText.{sawGrammar, sawRows}
-use Rattle.saw_ending.proofs.TextRow.{line-named}
+use Rattle.saw_rows.proofs.TextRow.{line-named}
 use Rattle.saw_ending.proofs.Answers.{refused-answer, answered-again}
 use borrow.Author.Needs.{needs}
 use Rattle.saw_ending.proofs.ending.end_text.Statement.{statement}

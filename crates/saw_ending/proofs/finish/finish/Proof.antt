@@ -1,5 +1,5 @@
 -- `finish` is the end of the text that the reader keeps. Assumes nothing.
-use mathlib.Core.Path.{_≡_, refl}
+use mathlib.Core.Path.{refl}
 use denote.Ref.{now}
 use Rattle.texts.specs.Reader.{started, fed}
 use Rattle.texts.specs.SawText.{sawGrammar}

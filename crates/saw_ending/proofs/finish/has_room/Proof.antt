@@ -1,6 +1,5 @@
 -- `has_room` asks for each buffer's full size. Assumes nothing.
 use native.Mathlib.Omega.{arith}
-use mathlib.Core.Path.{_≡_}
 use Rattle.saw_reader.proofs.PartSteps.{true-only, false-only}
 use Rattle.saw_ending.proofs.finish.has_room.Statement.{statement}
 use Rattle.saw_ending.proofs.finish.has_room.Tie as tie
