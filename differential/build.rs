@@ -1,14 +1,9 @@
-//! Links target/staticlib/libengine.a, which `rt staticlib engine` writes.
+//! Where the static libraries are that `rt staticlib` writes.
 
 use std::path::Path;
 
 fn main() {
-    let top = Path::new(env!("CARGO_MANIFEST_DIR")).join("..");
-    let folder = top.join("target/staticlib");
+    let folder = Path::new(env!("CARGO_MANIFEST_DIR")).join("../target/staticlib");
     println!("cargo::rustc-link-search=native={}", folder.display());
-    println!("cargo::rustc-link-lib=static=engine");
-    println!(
-        "cargo::rerun-if-changed={}",
-        folder.join("libengine.a").display()
-    );
+    println!("cargo::rerun-if-changed={}", folder.display());
 }

@@ -6,6 +6,7 @@ pub type Answer = [u32; 3];
 /// What `answer` holds before a call.
 const OLD: Answer = [0xDEAD_BEEF; 3];
 
+#[link(name = "engine", kind = "static")]
 extern "C" {
     fn saw_list(
         job: *const u16,

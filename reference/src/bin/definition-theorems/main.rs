@@ -9,6 +9,7 @@ mod calls;
 mod damage;
 mod inputs;
 mod random;
+mod random_texts;
 mod structures;
 mod texts;
 

@@ -1,0 +1,107 @@
+//! Texts at the limits of document 01 and past them: of most lines, of most pieces on one board and on
+//! most boards, of most cuts counted, of the greatest listings.
+
+use crate::text::Text;
+use reference::columns::write_line;
+use reference::instances::inputs::Inputs;
+use reference::instances::limit_jobs::limit_jobs;
+use reference::instances::texts;
+
+/// A text, and what is large in it.
+pub struct Long {
+    pub name: String,
+    pub text: Vec<u8>,
+}
+
+/// One board of 4,000 pieces: 50 strips of 80.
+const ONE_BOARD: [u16; 8] = [2, 0, 80, 50, 1, 1, 1, 4_000];
+/// 4,000 boards of one piece.
+const BOARDS: [u16; 8] = [3, 0, 10_000, 10_000, 1, 10_000, 10_000, 4_000];
+/// Two equal types: a board of 2,000 of each, and so 4,000 cuts that are counted once.
+const CUTS: [u16; 11] = [2, 0, 10_000, 9, 2, 5, 9, 2_000, 5, 9, 2_000];
+
+/// The long texts of a kind.
+pub fn long_texts(kind: Text) -> Vec<Long> {
+    let mut all = of_most_lines(kind);
+    let jobs = [
+        ("4,000 pieces on one board", &ONE_BOARD[..]),
+        ("4,000 boards", &BOARDS),
+        ("4,000 cuts counted", &CUTS),
+    ];
+    all.extend(jobs.map(|(name, words)| of_job(kind, name, words)));
+    for limit in limit_jobs() {
+        if limit.listed.is_ok() && limit.job.name.starts_with("limits both") {
+            all.push(of_job(kind, &limit.job.name, &limit.job.words));
+        }
+    }
+    all
+}
+
+/// The text of a job and of the inputs that the reference finds for it.
+pub fn of_job(kind: Text, name: &str, words: &[u16]) -> Long {
+    let inputs = Inputs::of(words).expect("the listing is not refused");
+    let text = match kind {
+        Text::Saw => texts::saw_text(words, &inputs).expect("the listing is not refused"),
+        Text::Fold => texts::fold_text(words, &inputs),
+    };
+    Long {
+        name: name.to_string(),
+        text,
+    }
+}
+
+/// Texts of 99,999 lines, of a line more, of a byte more, and two whose line 99,999 is not the last of
+/// its kind.
+fn of_most_lines(kind: Text) -> Vec<Long> {
+    let full = longest(kind);
+    let with = |name: &str, more: &[u8]| Long {
+        name: name.to_string(),
+        text: [&full, more].concat(),
+    };
+    let body = line_of(kind);
+    let cut_short = full.len() - body.len();
+    let instead = |name: &str, last: &[u8]| Long {
+        name: name.to_string(),
+        text: [&full[..cut_short], last].concat(),
+    };
+    let past_limit = match kind {
+        Text::Saw => line(&[3, 0, 1, 4_001]),
+        Text::Fold => line(&[7, 1, 1, 1, 1, 1, 0, 10_001]),
+    };
+    vec![
+        with("99,999 lines", b""),
+        with("100,000 lines", &body),
+        with("99,999 lines and a byte", b"\n"),
+        with("110,000 lines", &body.repeat(10_001)),
+        instead("line 99,999 past a limit", &past_limit),
+        instead("line 99,999 of kind 4", &line(&[4, 1, 40, 0])),
+    ]
+}
+
+/// The longest text that no line refuses: 3,700,341 bytes of a saw text, 7,299,882 of a fold text.
+pub fn longest(kind: Text) -> Vec<u8> {
+    let types = match kind {
+        Text::Saw => 40,
+        Text::Fold => 1,
+    };
+    let mut text = line(&[1, 2, 0, 2, 1, types]);
+    for number in 1..=types {
+        text.extend(line(&[2, number, 1, 1, 1]));
+    }
+    text.extend(line_of(kind).repeat(99_998 - types as usize));
+    text
+}
+
+/// A line of kind 3 or of kind 7.
+pub fn line_of(kind: Text) -> Vec<u8> {
+    match kind {
+        Text::Saw => line(&[3, 0, 1, 1]),
+        Text::Fold => line(&[7, 1, 1, 1, 1, 1, 0, 0]),
+    }
+}
+
+fn line(numbers: &[u32]) -> Vec<u8> {
+    let mut text = Vec::new();
+    write_line(&mut text, numbers);
+    text
+}
