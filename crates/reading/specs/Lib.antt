@@ -4,3 +4,4 @@ pub mod Begun
 pub mod LineEnd
 pub mod Standing
 pub mod JobRead
+pub mod Parts
