@@ -86,7 +86,7 @@ fn answer_job(
 }
 
 // Whether each lent buffer has its full size, and the output room for the longest.
-fn has_room(
+pub fn has_room(
     job: usize,
     layouts: usize,
     plates: usize,
