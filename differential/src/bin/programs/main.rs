@@ -33,6 +33,9 @@ mod subjects;
 #[allow(dead_code)]
 #[path = "../../text.rs"]
 mod text;
+#[allow(dead_code)]
+#[path = "../../text_inputs.rs"]
+mod text_inputs;
 
 use text::Text;
 use trials::Trials;

@@ -33,6 +33,8 @@ mod random_texts;
 mod subjects;
 #[path = "../../text.rs"]
 mod text;
+#[path = "../../text_inputs.rs"]
+mod text_inputs;
 
 use compare::{compare, Room};
 use longest::long_texts;

@@ -1,0 +1,137 @@
+//! The report: a table of all calls on the greatest inputs, and one of how they grow.
+
+use crate::count::{instructions, Counted};
+use crate::subjects::{by_cuts, input, CUTS, GREATEST, LINES, PIECES};
+use crate::task::{Call, Side};
+use crate::time::{seconds, ROUNDS};
+
+/// Numbers of cuts at which growth is looked at.
+const GROWTH: [usize; 8] = [100, 200, 400, 800, 1_600, 3_200, 5_000, 8_192];
+
+/// What a call costs, by the engine and by the reference.
+struct Cost {
+    seconds: [f64; 2],
+    counted: [Option<Counted>; 2],
+}
+
+impl Cost {
+    fn of(call: Call, name: &str) -> Cost {
+        eprintln!("{}, {name}", call.name());
+        Cost {
+            seconds: seconds(call, &input(call, name)),
+            counted: [Side::Engine, Side::Reference].map(|side| instructions(side, call, name)),
+        }
+    }
+
+    /// Engine to reference, in time.
+    fn of_times(&self) -> f64 {
+        self.seconds[0] / self.seconds[1]
+    }
+
+    /// Engine to reference, in instructions.
+    fn of_instructions(&self) -> Option<f64> {
+        let [Some(engine), Some(reference)] = &self.counted else {
+            return None;
+        };
+        Some(engine.all as f64 / reference.all as f64)
+    }
+
+    /// Whether the goal is met, at most 1.0 in both; if not, where most of the engine's instructions are.
+    fn remark(&self) -> String {
+        let instructions = self.of_instructions().unwrap_or(0.0);
+        if self.of_times() <= 1.0 && instructions <= 1.0 {
+            return "met".to_string();
+        }
+        match &self.counted[0] {
+            None => "**above**".to_string(),
+            Some(counted) => format!(
+                "**above**: {} % in `{}`",
+                100 * counted.in_function / counted.all.max(1),
+                counted.function
+            ),
+        }
+    }
+}
+
+/// The calls and the names of their inputs.
+fn rows() -> Vec<(Call, &'static str)> {
+    let mut rows = Vec::new();
+    for call in Call::ALL {
+        let more: &[&str] = match call {
+            Call::List | Call::TestPlan | Call::TestPrices => &[],
+            Call::Unfold | Call::Fold => &PIECES,
+            Call::SawText | Call::FoldText => &[LINES, CUTS],
+        };
+        rows.extend(GREATEST.iter().chain(more).map(|&name| (call, name)));
+    }
+    rows
+}
+
+/// Writes the report to standard output.
+pub fn write(date: &str) {
+    println!("# The engine beside the reference\n");
+    println!(
+        "{date}, x86-64. Both are built for release and run in one process, in turn; a time is that of the \
+         processor, the best of {ROUNDS} rounds. Instructions are those of one call, counted by callgrind. A ratio \
+         is the engine's by the reference's; the goal is at most 1.0 in both.\n"
+    );
+    write_largest();
+    write_growth();
+}
+
+fn write_largest() {
+    println!("## The greatest inputs\n");
+    println!(
+        "`limits ..` are jobs of [data/limits](../data/limits/README.md): `both` the greatest listings, of 2,047 \
+         residual types and 8,192 cuts, with plans of 4,000 pieces.\n"
+    );
+    println!(
+        "| call | input | engine, µs | reference, µs | ratio | engine, 1,000 instr. | reference, 1,000 instr. | ratio | goal: at most 1.0 |"
+    );
+    println!("|---|---|--:|--:|--:|--:|--:|--:|---|");
+    for (call, name) in rows() {
+        let cost = Cost::of(call, name);
+        let [engine, reference] = cost.seconds.map(|seconds| seconds * 1e6);
+        let thousands = (cost.counted.each_ref())
+            .map(|counted| shown(counted.as_ref().map(|counted| counted.all as f64 / 1e3), 0));
+        println!(
+            "| {} | {name} | {engine:.0} | {reference:.0} | {:.2} | {} | {} | {} | {} |",
+            call.name(),
+            cost.of_times(),
+            thousands[0],
+            thousands[1],
+            shown(cost.of_instructions(), 2),
+            cost.remark(),
+        );
+    }
+}
+
+fn write_growth() {
+    println!("\n## Growth\n");
+    println!("Jobs of `data/` with about {GROWTH:?} cuts: the engine's time in ns for each cut, and in brackets the ratio.\n");
+    let calls = &Call::ALL[..5];
+    let names: Vec<&str> = calls.iter().map(|call| call.name()).collect();
+    println!("| job | plate types | cuts | {} |", names.join(" | "));
+    println!("|---|--:|--:|{}", "--:|".repeat(calls.len()));
+    for job in by_cuts(&GROWTH) {
+        let cells = calls.iter().map(|&call| {
+            eprintln!("{}, {}", call.name(), job.name);
+            let [engine, reference] = seconds(call, &input(call, &job.name));
+            let each = engine * 1e9 / job.cuts as f64;
+            format!("{each:.0} ({:.2})", engine / reference)
+        });
+        let cells: Vec<String> = cells.collect();
+        println!(
+            "| {} | {} | {} | {} |",
+            job.name,
+            job.plate_types,
+            job.cuts,
+            cells.join(" | ")
+        );
+    }
+}
+
+/// A number with so many digits after the point, or a dash.
+fn shown(number: Option<f64>, digits: usize) -> String {
+    number.map_or("-".to_string(), |number| format!("{number:.digits$}"))
+}

@@ -1,0 +1,104 @@
+//! The inputs of the measurements, by name: jobs of `data/`, and texts at the limits.
+
+use crate::longest::{long_texts, longest, of_job};
+use crate::task::{Call, Input};
+use crate::text::Text;
+use reference::instances::all_jobs;
+use reference::instances::inputs::Inputs;
+use reference::instances::limit_jobs::limit_jobs;
+use reference::job::Job;
+use reference::listing::{Listing, FULL};
+
+/// The greatest listings, in each mode: 2,047 residual types and 8,192 cuts.
+pub const GREATEST: [&str; 4] = [
+    "limits both 2E",
+    "limits both 2N",
+    "limits both 3E",
+    "limits both 3N",
+];
+
+/// 4,000 pieces: on boards of their own, in strips of 2,000 stacks, in boards of 2,000 strips, in stacks of 999.
+pub const PIECES: [&str; 4] = [
+    "limits numbers 2N largest item",
+    "limits numbers 2N stacks",
+    "limits numbers 3N strips",
+    "limits numbers 3N places",
+];
+
+/// The longest texts.
+pub const LINES: &str = "99,999 lines";
+/// Texts of 4,000 lines of kind 3.
+pub const CUTS: &str = "4,000 cuts counted";
+
+/// The input of a call, by the input's name.
+pub fn input(call: Call, name: &str) -> Input {
+    let kind = match call {
+        Call::SawText => Text::Saw,
+        Call::FoldText => Text::Fold,
+        _ => return words(call, &job(name)),
+    };
+    let text = match name {
+        LINES => longest(kind),
+        CUTS => {
+            let mut long = long_texts(kind).into_iter();
+            long.find(|long| long.name == name)
+                .expect("a long text")
+                .text
+        }
+        _ => of_job(kind, name, &job(name)).text,
+    };
+    Input {
+        text,
+        ..Input::default()
+    }
+}
+
+/// The words of a call on a job.
+fn words(call: Call, job: &[u16]) -> Input {
+    let inputs = Inputs::of(job).expect("the listing is not refused");
+    Input {
+        job: job.to_vec(),
+        own: match call {
+            Call::TestPlan | Call::Unfold => inputs.counts,
+            Call::TestPrices => inputs.prices,
+            Call::Fold => inputs.layouts,
+            _ => Vec::new(),
+        },
+        text: Vec::new(),
+    }
+}
+
+/// The words of a job of `data/`.
+fn job(name: &str) -> Vec<u16> {
+    let limits = limit_jobs().into_iter().map(|limit| limit.job);
+    let found = limits.chain(all_jobs()).find(|job| job.name == name);
+    found.expect("a job of data/").words
+}
+
+/// A job with the size of its listing.
+pub struct Sized {
+    pub name: String,
+    pub plate_types: usize,
+    pub cuts: usize,
+}
+
+/// For each number of cuts the job of `data/` whose listing has nearest to so many.
+pub fn by_cuts(numbers: &[usize]) -> Vec<Sized> {
+    let listed = all_jobs().into_iter().filter_map(|named| {
+        let job = Job::from_words(&named.words).ok()?;
+        job.admit().ok()?;
+        let listing = Listing::walk(&job, FULL).ok()?;
+        Some(Sized {
+            name: named.name,
+            plate_types: listing.plates.len(),
+            cuts: listing.cuts.len(),
+        })
+    });
+    let mut listed: Vec<Sized> = listed.collect();
+    let mut nearest = |&number: &usize| {
+        let distance = |at: &usize| listed[*at].cuts.abs_diff(number);
+        let at = (0..listed.len()).min_by_key(distance).expect("some job");
+        listed.swap_remove(at)
+    };
+    numbers.iter().map(&mut nearest).collect()
+}
