@@ -1,16 +1,17 @@
 /* A host of the engine: job A of document 01, listed, its plan and prices tested, its plan unfolded and folded again; then three
- * refusals.
+ * refusals; then the same job as texts.
  * Build and run: tools/test-hosts. */
 #include <stdio.h>
 #include <string.h>
 
 #include "saw_engine.h"
 
-/* The lent buffers, at their full sizes, and the counts passed in. They are static: together they are 150 KB. */
+/* The lent buffers, at their full sizes, and the counts passed in; room for the answer to a text. They are static: together they are 450 KB. */
 static uint16_t plates[SAW_PLATES];
 static uint16_t cuts[SAW_CUTS];
 static uint16_t counts[SAW_COUNTS];
 static uint16_t placements[SAW_PLACEMENTS];
+static uint8_t out[SAW_TEXT_OUT];
 
 /* Mode 2N, board 9 by 7, item 1 of 5 by 4 (demand 2), item 2 of 3 by 3 (demand 3). */
 static const uint16_t job_a[] = {2, 0, 9, 7, 2, 5, 4, 2, 3, 3, 3};
@@ -18,6 +19,24 @@ static const uint16_t job_a[] = {2, 0, 9, 7, 2, 5, 4, 2, 3, 3, 3};
 static const uint16_t plan_a[] = {2, 0, 1, 1, 0, 0, 1, 0};
 /* D 1; item types 1 and 2; residual types 1 to 5. */
 static const uint16_t prices_a[] = {1, 1, 0, 0, 0, 1, 0, 0};
+
+/* The same as a saw text, of lines 1, 2 and 3, and its two boards as a fold text, of lines 1, 2 and 7. */
+static const char job_text[] =
+    "        1        2        0        9        7        2\n"
+    "        2        1        5        4        2\n"
+    "        2        2        3        3        3\n";
+static const char plan_text[] =
+    "        3        0        1        2\n"
+    "        3        1        2        1\n"
+    "        3        2        2        1\n"
+    "        3        4        2        1\n";
+static const char layout_text[] =
+    "        7        1        1        1        1        1        0        0\n"
+    "        7        1        1        2        1        2        5        0\n"
+    "        7        1        2        1        1        2        0        4\n"
+    "        7        1        2        2        1        2        3        4\n";
+static const char second_board[] =
+    "        7        2        1        1        1        1        0        0\n";
 
 #define LENGTH(array) (sizeof(array) / sizeof((array)[0]))
 
@@ -37,6 +56,35 @@ static void print_records(const uint16_t *words, size_t records, size_t width)
             printf(" %5u", (unsigned)words[record * width + word]);
         printf("\n");
     }
+}
+
+/* A text of two or three parts, which are joined in `text`. */
+static size_t joined(uint8_t *text, const char *first, const char *second, const char *third)
+{
+    size_t a = strlen(first), b = strlen(second), c = strlen(third);
+    memcpy(text, first, a);
+    memcpy(text + a, second, b);
+    memcpy(text + a + b, third, c);
+    return a + b + c;
+}
+
+static void print_text(const char *call, size_t bytes)
+{
+    printf("%s: %u bytes\n%.*s", call, (unsigned)bytes, (int)bytes, (const char *)out);
+}
+
+static void print_texts(void)
+{
+    uint8_t text[1024];
+
+    size_t length = joined(text, job_text, plan_text, "");
+    print_text("saw text", saw_text(text, length, out, LENGTH(out)));
+    print_text("saw text, its last byte missing", saw_text(text, length - 1, out, LENGTH(out)));
+    print_text("saw text, too little room", saw_text(text, length, out, LENGTH(out) - 1));
+    length = joined(text, job_text, layout_text, second_board);
+    print_text("fold text", saw_fold_text(text, length, out, SAW_FOLD_TEXT_OUT));
+    length = joined(text, job_text, layout_text, "");
+    print_text("fold text without its second board", saw_fold_text(text, length, out, SAW_FOLD_TEXT_OUT));
 }
 
 int main(void)
@@ -72,5 +120,7 @@ int main(void)
     counts[3] = 3;
     saw_test_plan(job_a, LENGTH(job_a), counts, LENGTH(counts), plates, LENGTH(plates), cuts, LENGTH(cuts), answer);
     print_answer("cut 4 at 3", answer);
+
+    print_texts();
     return 0;
 }

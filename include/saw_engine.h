@@ -1,15 +1,15 @@
 /* The beam saw plan engine as a static library: the calls of document 01, for a host in C.
  *
  * Link target/staticlib/libengine.a, which `rt staticlib engine` writes for x86-64 Linux. Each function is proved to meet its contract in
- * crates/engine/src/calls.rt. It allocates nothing, keeps no state between calls and always returns; of the C library it uses memcpy and memset alone.
+ * crates/engine/src/calls.rt or, of the two texts, text_calls.rt. It allocates nothing, keeps no state between calls and always returns; of the C library it uses memcpy and memset alone.
  *
  * What a host must keep:
- *   - A pointer and the length after it name one array of so many words, aligned for its type; a length counts words and not bytes. It may be 0; the
- *     pointer is then still aligned and not null.
+ *   - A pointer and the length after it name one array of so many words, aligned for its type; a length counts words and not bytes, but of a text, whose
+ *     words are bytes. It may be 0; the pointer is then still aligned and not null.
  *   - `answer` points to three words.
  *   - No two arrays of one call overlap, unless neither is written. The arrays passed as `const` are read and never change; the others are written.
  *   - No other thread writes an array of a running call, or reads one that it writes.
- *   - SAW_STACK bytes of stack are free at the call.
+ *   - SAW_STACK bytes of stack are free at the call, SAW_TEXT_STACK at that of a text.
  * Nothing else is asked: the words may be any, and the lengths too. Old contents of a lent buffer have no influence.
  *
  * What a call leaves:
@@ -34,8 +34,13 @@ extern "C" {
 #define SAW_COUNTS 8192
 #define SAW_PLACEMENTS 28000
 
-/* Stack that a call may use, in bytes. */
+/* Stack that a call may use, in bytes, and that a text may use. */
 #define SAW_STACK 65536
+#define SAW_TEXT_STACK 262144
+
+/* The longest answer to a text, in bytes: to a saw text and to a fold text. */
+#define SAW_TEXT_OUT 292046
+#define SAW_FOLD_TEXT_OUT 148000
 
 /* Words. A job: stages, exact, W, H, n, then width, height, demand of each item type. A plate: width, height, stage. A cut: plate, item, top, right, where
  * 0 is a residual that is not kept. Counts: one for each cut, from cut 1. Prices: D, one for each item type, one for each residual type. A placement: board,
@@ -83,6 +88,16 @@ void saw_fold(const uint16_t *job, size_t job_len,
               uint16_t *cuts, size_t cuts_len,
               uint16_t *counts, size_t counts_len,
               uint32_t answer[3]);
+
+/* The saw text, from bytes to bytes: `out` ends with lines 7 and line 8, or one line 9, at its start. The number of bytes written is handed back; the bytes
+ * behind them stay. Where `out` is shorter than SAW_TEXT_OUT nothing is written, and 0 is handed back; any other answer has at least one line. The text
+ * may have any bytes; the rest of it is not looked at once a line is refused. */
+size_t saw_text(const uint8_t *text, size_t text_len,
+                uint8_t *out, size_t out_len);
+
+/* The fold text, from bytes to bytes: lines 3, or one line 9; as above, with SAW_FOLD_TEXT_OUT. */
+size_t saw_fold_text(const uint8_t *text, size_t text_len,
+                     uint8_t *out, size_t out_len);
 
 #ifdef __cplusplus
 }

@@ -1,2 +1,3 @@
--- The definitions of this crate: what a call leaves to a host.
+-- The definitions of this crate: what a call, and a text, leave to a host.
 pub mod AnswerWords
+pub mod TextAnswer

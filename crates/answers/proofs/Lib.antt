@@ -1,0 +1,2 @@
+-- The laws of this crate: buffers of full size.
+pub mod FullSize

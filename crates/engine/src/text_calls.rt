@@ -1,0 +1,26 @@
+// The two texts, as a host calls them: bytes in, bytes out. The answer stands at the start of `out`, its number of bytes is handed back, and the bytes behind
+// it stay. Where `out` is shorter than the longest answer nothing is written, and 0 is handed back.
+ghost use Rattle.texts.specs.FoldText.{foldText};
+ghost use Rattle.writing.specs.Wrote.{longestFold};
+ghost use Rattle.answers.specs.TextAnswer.{TextAnswer};
+
+// The fold text: lines 3, or line 9. The longest answer has 148,000 bytes.
+#[no_mangle]
+pub extern "C" fn saw_fold_text(text: &[u8], out: &mut [u8]) -> usize
+    ensures { λ n. ⌜ TextAnswer longestFold (foldText (now (text .entry))) (now (out .entry)) n (now (out .exit)) ⌝ }
+{
+    let mut job = [0u16; 125];
+    let mut layouts = [0u16; 28000];
+    let mut plates = [0u16; 6144];
+    let mut cuts = [0u16; 32768];
+    let mut counts = [0u16; 8192];
+    fold_call::call::fold_text(
+        text,
+        out,
+        &mut job,
+        &mut layouts,
+        &mut plates,
+        &mut cuts,
+        &mut counts,
+    )
+}
