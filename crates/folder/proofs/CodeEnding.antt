@@ -3,7 +3,6 @@
 use Prim.Native.Nat.{ℕ, suc, _/_, _%_, _≤_, _<_}
 use native.Mathlib.Omega.{arith}
 use mathlib.Core.Path.{_≡_, refl, sym, ap, _∙_}
-use mathlib.Core.Logic.{_⊎_, inl, inr}
 use mathlib.Core.Bool.{Bool, true, false, not, _&&_}
 use mathlib.Core.List.{List, [], _∷_}
 use borrow.Author.Tests.{lt-ltb, le-ltb, ltb-false}
@@ -18,7 +17,7 @@ use Rattle.job.proofs.CodeEnds.{Not5, not5-pass, not5-refuse, not5-if, not5-the
 use Rattle.job.proofs.CodeAdmission.{words-not5, admission-not5}
 use Rattle.listing.specs.Listing.{modelRow, listingOf, residualTypes}
 use Rattle.listing.specs.ListCall.{platesEnd, cutsEnd}
-use Rattle.listing.proofs.Limits.{row-cases}
+use Rattle.listing.proofs.Limits.{model-not5}
 use Rattle.tester.proofs.CodeCall.{given-pass, refused-refuse}
 use Rattle.layouts.specs.Placement.{Turn, Placement, linesOf}
 use Rattle.layouts.specs.Lines.{rowsOf, rowRight, layoutWords, sameTurn, follows, inTurn, turns, grouped, setOf}
@@ -33,16 +32,7 @@ use Rattle.folder.specs.Ending.{saysOf, OnSuccess, Promise, foldTail, En
 use Rattle.folder.proofs.Passed.{listed-model}
 use Rattle.folder.proofs.Filling.{filled-count, filled-boards, filled-accepted}
 
--- the model row does not refuse with 5
-model-not5 : (job : Job) → Not5 (modelRow job)
-model-not5 job = go (row-cases job)
-  where
-    go : (modelRow job ≡ pass) ⊎ ((modelRow job ≡ refuse 6 0) ⊎ (modelRow job ≡ refuse 7 0)) → Not5 (modelRow job)
-    go (inl e) = rw e not5-pass
-    go (inr (inl e)) = rw e (not5-refuse 6 0 (λ q. omega arith))
-    go (inr (inr e)) = rw e (not5-refuse 7 0 (λ q. omega arith))
-
--- nor do the checks of the layouts row
+-- the checks of the layouts row do not refuse with 5
 in-turn-not5 : (k : ℕ) (t : Turn) (rs : List Placement) → Not5 (inTurn k t rs)
 unfolding inTurn
 in-turn-not5 k t [] = not5-pass

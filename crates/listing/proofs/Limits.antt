@@ -10,6 +10,7 @@ use lib.ListN.{length, getD, drop}
 use Rattle.job.specs.Verdict.{pass, refuse}
 use Rattle.job.specs.Job.{Job, itemAt}
 use Rattle.job.proofs.Tests.{at-most-or-above}
+use Rattle.job.proofs.CodeEnds.{Not5, not5-pass, not5-refuse}
 use Rattle.listing.specs.declared.plate.Plate.{Plate}
 use Rattle.listing.specs.declared.plate.Residuals.{Residuals}
 use Rattle.listing.specs.Plate.{waste, leaves, kept}
@@ -74,6 +75,15 @@ row-cases job = go (walk-cases maxPlates maxCuts job (omega arith))
     go (inl r) = inl (row-going job (r .0) (walk-limits job ∙ r .1))
     go (inr (inl e)) = inr (inl (row-stopped job 6 (walk-limits job ∙ e)))
     go (inr (inr e)) = inr (inr (row-stopped job 7 (walk-limits job ∙ e)))
+
+-- the model row does not refuse with 5
+pub model-not5 : (job : Job) → Not5 (modelRow job)
+model-not5 job = go (row-cases job)
+  where
+    go : (modelRow job ≡ pass) ⊎ ((modelRow job ≡ refuse 6 0) ⊎ (modelRow job ≡ refuse 7 0)) → Not5 (modelRow job)
+    go (inl e) = rw e not5-pass
+    go (inr (inl e)) = rw e (not5-refuse 6 0 (λ q. omega arith))
+    go (inr (inr e)) = rw e (not5-refuse 7 0 (λ q. omega arith))
 
 -- a residual that is kept and is none of the plate types
 abbrev pub New : Job → Plate → List Plate → Type 0

@@ -3,21 +3,20 @@
 use Prim.Native.Nat.{ℕ, _≤_, _<_}
 use native.Mathlib.Omega.{arith}
 use mathlib.Core.Path.{_≡_, refl, sym, _∙_}
-use mathlib.Core.Logic.{_⊎_, inl, inr}
 use mathlib.Core.List.{List, [], _∷_}
 use borrow.Author.Tests.{lt-ltb, le-ltb, ltb-false}
 use lib.Dec.{ltb}
 use lib.ListN.{length, replicate}
 use Rattle.job.specs.Verdict.{Verdict, pass, refuse, _then_}
 use Rattle.job.specs.Buffers.{Answer, given, refused, answer, sized, platesSize, cutsSize, countsSize, placementsSize}
-use Rattle.job.specs.Job.{Job, jobOf, jobWords, admission}
+use Rattle.job.specs.Job.{jobOf, jobWords, admission}
 use Rattle.job.proofs.Verdicts.{then-assoc, then-first, then-second, then-both, refuseIf-pass}
-use Rattle.job.proofs.CodeEnds.{Not5, not5-pass, not5-refuse, ends-zeros}
+use Rattle.job.proofs.CodeEnds.{Not5, ends-zeros}
 use Rattle.job.proofs.CodeAdmission.{job-not5}
 use Rattle.listing.specs.Listing.{modelRow, listingOf, residualTypes}
 use Rattle.listing.specs.Holds.{Holds}
 use Rattle.listing.specs.ListCall.{platesEnd, cutsEnd}
-use Rattle.listing.proofs.Limits.{row-cases}
+use Rattle.listing.proofs.Limits.{model-not5}
 use Rattle.plan.specs.Plan.{countsRow, planRow}
 use Rattle.tester.specs.PlanSays.{planTail}
 use Rattle.tester.proofs.CodeCall.{given-pass, refused-refuse}
@@ -30,15 +29,6 @@ use Rattle.unfolding.specs.declared.call.Unfolded.{Unfolded}
 use Rattle.unfolding.specs.declared.call.Unfolded.the-variants.{Done, Refused}
 use Rattle.unfolding.proofs.CodeAccepted.{listed-model}
 use Rattle.unfolding.specs.Ending.{saysOf, results, OnSuccess, Ended}
-
--- the model row does not refuse with 5
-pub model-not5 : (job : Job) → Not5 (modelRow job)
-model-not5 job = go (row-cases job)
-  where
-    go : (modelRow job ≡ pass) ⊎ ((modelRow job ≡ refuse 6 0) ⊎ (modelRow job ≡ refuse 7 0)) → Not5 (modelRow job)
-    go (inl e) = rw e not5-pass
-    go (inr (inl e)) = rw e (not5-refuse 6 0 (λ q. omega arith))
-    go (inr (inr e)) = rw e (not5-refuse 7 0 (λ q. omega arith))
 
 -- one result that is given is the verdict's
 pub given-one : (v : Verdict) (b c : ℕ) → given (b ∷ []) ≡ answer v (c ∷ []) → b ≡ c
