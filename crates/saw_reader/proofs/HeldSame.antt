@@ -59,7 +59,7 @@ model-not5 job = go (row-cases job)
     go (inr (inr e)) = rw e (not5-refuse 7 0 (λ q. omega arith))
 
 -- with buffers of full size the listing call does not refuse with 5
-list-not5 : (ws plates cuts : List ℕ) → platesSize ≤ length plates → cutsSize ≤ length cuts → Not5 (listVerdict ws plates cuts)
+pub list-not5 : (ws plates cuts : List ℕ) → platesSize ≤ length plates → cutsSize ≤ length cuts → Not5 (listVerdict ws plates cuts)
 unfolding listVerdict sized
 list-not5 ws plates cuts p c =
     rw (le-ltb _ _ p, le-ltb _ _ c) (not5-then (jobWords ws) _ (words-not5 ws) (not5-then (admission (jobOf ws)) _ (admission-not5 (jobOf ws)) (model-not5 (jobOf ws))))

@@ -1,0 +1,76 @@
+-- `saw_text` reads the text and answers it, where there is room. Assumes nothing.
+use mathlib.Core.Path.{refl}
+use denote.Ref.{now}
+use Rattle.saw_call.proofs.TextParts.{room-kept, answered}
+use borrow.Author.Needs.{needs}
+use Rattle.saw_call.proofs.call.saw_text.Statement.{statement}
+use Rattle.saw_call.proofs.call.saw_text.Tie as tie
+
+read-whole-requires : tie.Need-read-whole-requires
+read-whole-requires c κs = c .before .before .before .before .before .before .has-room .ensures .0 (c .before .before .before .before .before .if1 .taken) .lent
+
+finish-requires : tie.Need-finish-requires
+finish-requires c κs room = (now (c .before .before .before .before .before .before .before .before .before .before .before .before .before .before .before .before .before .before .before .before .before .before .before .before .before .before .before .before .before .before .before .before .before .before .before .before .before .before .before .before .args .text), c .before .before .before .before .before .before .before .before .before .before .before .before .before .before .before .before .before .read-whole .ensures)
+
+same-length : tie.Need-same-length
+same-length c = c .before .before .before .before .finish .kept .1 .1 .1 .1 .1 .1 .1 .0
+
+same-length-2 : tie.Need-same-length-2
+same-length-2 c = c .before .before .before .before .before .before .before .before .before .before .before .before .before .before .before .before .before .before .before .before .before .before .read-whole .kept .1 .0
+
+same-length-3 : tie.Need-same-length-3
+same-length-3 c = c .before .before .before .before .before .before .before .before .before .before .before .before .before .before .before .before .before .before .before .before .before .before .read-whole .kept .1 .1 .0
+
+same-length-4 : tie.Need-same-length-4
+same-length-4 c = c .before .before .before .before .before .before .before .before .before .before .before .before .before .before .before .before .before .before .before .before .before .before .read-whole .kept .1 .1 .1 .0
+
+same-length-5 : tie.Need-same-length-5
+same-length-5 c = c .before .before .before .before .before .before .before .before .before .before .before .before .before .before .before .before .before .before .before .before .before .before .read-whole .kept .1 .1 .1 .1 .0
+
+same-length-6 : tie.Need-same-length-6
+same-length-6 c = c .before .before .before .before .before .before .before .before .before .before .before .before .before .before .before .before .before .before .before .before .before .before .read-whole .kept .1 .1 .1 .1 .1 .0
+
+same-length-7 : tie.Need-same-length-7
+same-length-7 c = c .before .before .before .before .finish .kept .1 .1 .1 .1 .1 .1 .0
+
+returns : tie.Need-returns
+returns c =
+    let x = c .before .before .before .before .before .before .before .before .before .before .before .before .before .before .before .before .before .before .before .before .before .before .read-whole in
+    let k = x .kept .1 in
+    record {
+      answered = λ room.
+          answered (now (c .before .before .before .before .before .before .before .before .before .before .before .before .before .before .before .before .before .before .before .before .before .before .before .before .before .before .before .before .before .before .before .before .before .before .before .before .before .before .before .before .before .before .before .before .before .args .text)) (record { job = k .0; plates = k .1 .0; cuts = k .1 .1 .0; counts = k .1 .1 .1 .0; prices = k .1 .1 .1 .1 .0 }) (x .ensures)
+          (c .before .before .before .before .finish .ensures .1 (room-kept room (x .ensures .ready .room)) (now (c .before .before .before .before .before .before .before .before .before .before .before .before .before .before .before .before .before .before .before .before .before .before .before .before .before .before .before .before .before .before .before .before .before .before .before .before .before .before .before .before .before .before .before .before .before .args .text)) (x .ensures));
+      unchanged = λ none. absurd (none (c .before .before .before .before .before .before .before .before .before .before .before .before .before .before .before .before .before .before .before .before .before .before .before .before .before .before .before .before .before .has-room .ensures .0 (c .before .before .before .before .before .before .before .before .before .before .before .before .before .before .before .before .before .before .before .before .before .before .before .before .before .before .before .before .if1 .taken)));
+    }
+
+returns-2 : tie.Need-returns-2
+returns-2 c =
+    record {
+      answered = λ room. absurd (c .before .has-room .ensures .1 (c .if1 .left) room);
+      unchanged = λ none. record { none-written = refl; output = refl; placed = refl; lent = refl };
+    }
+
+pub saw-text-spec : {M : Type 1} → statement M
+saw-text-spec =
+    tie.close
+    (tie.spec
+    (λ c κs. search needs)
+    read-whole-requires
+    finish-requires
+    same-length
+    same-length-2
+    same-length-3
+    same-length-4
+    same-length-5
+    same-length-6
+    same-length-7
+    returns
+    (λ c. search needs)
+    (λ c. search needs)
+    (λ c. search needs)
+    (λ c. search needs)
+    (λ c. search needs)
+    (λ c. search needs)
+    (λ c. search needs)
+    returns-2)

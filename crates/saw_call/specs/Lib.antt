@@ -1,0 +1,2 @@
+-- The definitions of this crate: what the saw text leaves as one call.
+pub mod TextCall
