@@ -1,0 +1,2 @@
+-- The definitions of this crate: what the fold program writes.
+pub mod Output
