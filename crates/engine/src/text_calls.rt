@@ -1,8 +1,32 @@
 // The two texts, as a host calls them: bytes in, bytes out. The answer stands at the start of `out`, its number of bytes is handed back, and the bytes behind
 // it stay. Where `out` is shorter than the longest answer nothing is written, and 0 is handed back.
+ghost use Rattle.texts.specs.SawText.{sawText};
 ghost use Rattle.texts.specs.FoldText.{foldText};
-ghost use Rattle.writing.specs.Wrote.{longestFold};
+ghost use Rattle.writing.specs.Wrote.{longestSaw, longestFold};
 ghost use Rattle.answers.specs.TextAnswer.{TextAnswer};
+
+// The saw text: lines 7 and line 8, or line 9. The longest answer has 292,046 bytes.
+#[no_mangle]
+pub extern "C" fn saw_text(text: &[u8], out: &mut [u8]) -> usize
+    ensures { λ n. ⌜ TextAnswer longestSaw (sawText (now (text .entry))) (now (out .entry)) n (now (out .exit)) ⌝ }
+{
+    let mut job = [0u16; 125];
+    let mut plates = [0u16; 6144];
+    let mut cuts = [0u16; 32768];
+    let mut counts = [0u16; 8192];
+    let mut prices = [0u16; 2088];
+    let mut placements = [0u16; 28000];
+    saw_call::call::saw_text(
+        text,
+        out,
+        &mut job,
+        &mut plates,
+        &mut cuts,
+        &mut counts,
+        &mut prices,
+        &mut placements,
+    )
+}
 
 // The fold text: lines 3, or line 9. The longest answer has 148,000 bytes.
 #[no_mangle]
