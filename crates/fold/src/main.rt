@@ -13,8 +13,8 @@ use fold_reader::fold::FoldReader;
 use fold_reader::fold::feed;
 use fold_reader::fold::start;
 
-// Reads a text, part after part, to its end. 112 parts of 65,536 bytes are more than the longest text that its lines do not refuse, 99,999 lines of at most
-// 73 bytes: what follows them cannot change the answer.
+// Reads a text, part after part, to its end. 112 parts of 65,536 bytes are more than the longest text that its lines do not refuse, 99,999 lines of at
+// most 73 bytes: what follows them cannot change the answer.
 fn read(part: &mut [u8], job: &mut [u16], layouts: &mut [u16]) -> FoldReader
     ensures { λ r. ⌜ (jobSize ≤ length (now (job .entry)) → layoutsSize ≤ length (now (layouts .entry)) → (text : List ℕ) × After text r (lent (now (job .exit)) (now (layouts .exit)))) ⌝ }
 {
@@ -31,8 +31,7 @@ fn read(part: &mut [u8], job: &mut [u16], layouts: &mut [u16]) -> FoldReader
     reader
 }
 
-// Reads a text and leaves its answer at the start of the output; the number of its bytes is handed back, 0 where a buffer is
-// too short.
+// Reads a text and leaves its answer at the start of the output; the number of its bytes is handed back, 0 where a buffer is too short.
 fn answer(
     part: &mut [u8],
     job: &mut [u16],

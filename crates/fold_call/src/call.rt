@@ -11,10 +11,11 @@ use fold_reader::fold::FoldReader;
 use fold_reader::fold::feed;
 use fold_reader::fold::start;
 
-// Answers a fold text as the fold program does: its lines 3, or one line 9 alone, at the start of the output. The number of bytes is handed back, and the
-// bytes behind them stay. The job ends as the text's words, the layouts as those of its first 4,000 lines 7, plates and cuts as the listing, counts as the
-// plan, with zeros behind; where the text is refused every word of the last three is 0. Where a lent buffer is shorter than its full size, 125 words of the
-// job, 28,000 of layouts, 6,144 of plates, 32,768 of cuts, 8,192 counts, or the output than 148,000 bytes, nothing changes, and 0 is handed back.
+// Answers a fold text as the fold program does: its lines 3, or one line 9 alone, at the start of the output. The number of bytes is handed back, and
+// the bytes behind them stay. The job ends as the text's words, the layouts as those of its first 4,000 lines 7, plates and cuts as the listing, counts
+// as the plan, with zeros behind; where the text is refused every word of the last three is 0. Where a lent buffer is shorter than its full size, 125
+// words of the job, 28,000 of layouts, 6,144 of plates, 32,768 of cuts, 8,192 counts, or the output than 148,000 bytes, nothing changes, and 0 is
+// handed back.
 pub fn fold_text(
     text: &[u8],
     out: &mut [u8],
@@ -64,8 +65,8 @@ fn read_in_parts(text: &[u8], ends: &[u32], job: &mut [u16], layouts: &mut [u16]
     feed(reader, &text[at..], job, layouts)
 }
 
-// Answers a fold text that comes in parts. They end at the given places of the text: one that is not after the last, or is past the text, is passed over,
-// and the rest of the text is the last part. Whatever the places are, the answer and every lent word are those of `fold_text`.
+// Answers a fold text that comes in parts. They end at the given places of the text: one that is not after the last, or is past the text, is passed
+// over, and the rest of the text is the last part. Whatever the places are, the answer and every lent word are those of `fold_text`.
 pub fn fold_in_parts(
     text: &[u8],
     ends: &[u32],
