@@ -3,7 +3,7 @@
 use Prim.Native.Nat.{ℕ, _+_, _-_, _≤_, zero-le}
 use native.Mathlib.Omega.{arith}
 use mathlib.Core.Path.{_≡_, refl, sym, ap, _∙_, subst}
-use mathlib.Core.List.{List, _++_}
+use mathlib.Core.List.{List, [], _++_}
 use lib.ListN.{length, take, drop}
 use lib.Seq.{take-add, take-length}
 use Rattle.texts.specs.Reader.{started, fed}
@@ -18,6 +18,25 @@ use Rattle.saw_ending.specs.Finished.{Finished}
 use Rattle.saw_call.specs.TextCall.{SawAnswered}
 use Rattle.saw_call.proofs.Left.{held-after}
 
+-- buffers as long as others that are as long as the first
+pub as-long : {b b′ b₀ : Lent} → AsLong b′ b → AsLong b b₀ → AsLong b′ b₀
+as-long l g =
+    record {
+      job = l .job ∙ g .job;
+      plates = l .plates ∙ g .plates;
+      cuts = l .cuts ∙ g .cuts;
+      counts = l .counts ∙ g .counts;
+      prices = l .prices ∙ g .prices;
+    }
+
+pub long-same : {b : Lent} → AsLong b b
+long-same = record { job = refl; plates = refl; cuts = refl; counts = refl; prices = refl }
+
+-- after no bytes
+pub after-none : {f : SawReader} {b₀ b : Lent} → Room b₀ → Started b₀ f b → After [] f b
+unfolding fed
+after-none room s = s .kept room
+
 -- up to `at` the text has been read
 pub record ReadTo (text : List ℕ) (at : ℕ) (f : SawReader) (b b₀ : Lent) : Type 0 where
   pub within : at ≤ length text
@@ -26,13 +45,7 @@ pub record ReadTo (text : List ℕ) (at : ℕ) (f : SawReader) (b b₀ : Lent) :
 
 -- nothing of it yet
 pub read-none : {text : List ℕ} {f : SawReader} {b₀ b : Lent} → Room b₀ → Started b₀ f b → ReadTo text 0 f b b
-unfolding fed
-read-none room s =
-    record {
-      within = zero-le;
-      long = record { job = refl; plates = refl; cuts = refl; counts = refl; prices = refl };
-      after = s .kept room;
-    }
+read-none room s = record { within = zero-le; long = long-same; after = after-none room s }
 
 -- a part more
 pub read-more :
@@ -46,17 +59,9 @@ pub read-more :
 read-more {text} {at} {end} {f} {f′} {b} {b′} r h e l x =
     let sum : at + (end - at) ≡ end = omega arith in
     let whole : take at text ++ take (end - at) (drop at text) ≡ take end text = sym (take-add at (end - at) text) ∙ ap (λ (n : ℕ). take n text) sum in
-    let g = r .long in
     record {
       within = e;
-      long =
-          record {
-            job = l .job ∙ g .job;
-            plates = l .plates ∙ g .plates;
-            cuts = l .cuts ∙ g .cuts;
-            counts = l .counts ∙ g .counts;
-            prices = l .prices ∙ g .prices;
-          };
+      long = as-long l (r .long);
       after = subst (λ (bs : List ℕ). After bs f′ b′) whole (in-parts .more (take at text) (take (end - at) (drop at text)) f f′ b b′ (r .after) x);
     }
 

@@ -42,8 +42,8 @@ pub fn saw_text(
     ensures { λ n. ⌜ SawCall (now (text .entry)) (lent (now (job .entry)) (now (plates .entry)) (now (cuts .entry)) (now (counts .entry)) (now (prices .entry))) (now (placements .entry)) (now (out .entry)) n (lent (now (job .exit)) (now (plates .exit)) (now (cuts .exit)) (now (counts .exit)) (now (prices .exit))) (now (placements .exit)) (now (out .exit)) ⌝ }
 {
     if has_room(job, plates, cuts, counts, prices, placements, out) {
-        let reader = read_whole(text, job, plates, cuts, counts, prices);
-        return finish(reader, job, plates, cuts, counts, prices, placements, out);
+        let whole = read_whole(text, job, plates, cuts, counts, prices);
+        return finish(whole, job, plates, cuts, counts, prices, placements, out);
     }
     0
 }
@@ -103,8 +103,8 @@ pub fn saw_in_parts(
     ensures { λ n. ⌜ SawCall (now (text .entry)) (lent (now (job .entry)) (now (plates .entry)) (now (cuts .entry)) (now (counts .entry)) (now (prices .entry))) (now (placements .entry)) (now (out .entry)) n (lent (now (job .exit)) (now (plates .exit)) (now (cuts .exit)) (now (counts .exit)) (now (prices .exit))) (now (placements .exit)) (now (out .exit)) ⌝ }
 {
     if has_room(job, plates, cuts, counts, prices, placements, out) {
-        let reader = read_parts(text, ends, job, plates, cuts, counts, prices);
-        return finish(reader, job, plates, cuts, counts, prices, placements, out);
+        let parts = read_parts(text, ends, job, plates, cuts, counts, prices);
+        return finish(parts, job, plates, cuts, counts, prices, placements, out);
     }
     0
 }

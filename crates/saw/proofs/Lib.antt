@@ -1,0 +1,2 @@
+-- The laws of this crate: some text has been read.
+pub mod SomeText
