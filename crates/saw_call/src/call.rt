@@ -87,8 +87,8 @@ fn read_parts(
     feed(reader, &text[at..], job, plates, cuts, counts, prices)
 }
 
-// The saw text of bytes that come in parts, which end at the given places: an end that is not after the last one, or is past the text, is passed over, and
-// the rest of the text is the last part. Whatever the parts are, answer and lent words are those of the whole.
+// The saw text of bytes that come in parts, which end at the given places: an end that is not after the last one, or is past the text, is passed over,
+// and the rest of the text is the last part. Whatever the parts are, answer and lent words are those of the whole.
 pub fn saw_in_parts(
     text: &[u8],
     ends: &[u32],
