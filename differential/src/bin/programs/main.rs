@@ -1,10 +1,10 @@
 //! The saw program and the fold program against those of the reference, byte for byte.
 //!
-//! usage: programs ENGINE REFERENCE EMPTY [TEXTS [SEED]]          (300 texts of each kind and seed 1, if not given)
+//! usage: programs ENGINE REFERENCE [TEXTS [SEED]]          (300 texts of each kind and seed 1, if not given)
 //!
-//! ENGINE is the folder of `saw` and `fold`, REFERENCE that of `reference-saw` and `reference-fold`, EMPTY a
-//! program that writes one byte. Ends with 1 at the first difference, which it prints, and also if a program
-//! has 1 MB of memory or more beyond the empty one, or cannot do with 1 MB of stack.
+//! ENGINE is the folder of `saw` and `fold`, REFERENCE that of `reference-saw` and `reference-fold`. Ends with 1
+//! at the first difference, which it prints, and also if a program has 1 MB of memory of its own or more, or
+//! cannot do with 1 MB of stack.
 
 use std::path::{Path, PathBuf};
 use std::process::ExitCode;
@@ -44,7 +44,6 @@ use trials::Trials;
 struct Folders {
     engine: PathBuf,
     reference: PathBuf,
-    empty: PathBuf,
 }
 
 /// Runs both programs on all inputs, and says what was seen.
@@ -63,7 +62,7 @@ fn run(folders: &Folders, texts: usize, seed: u64) -> Result<(), String> {
             file: file.clone(),
             inputs: 0,
         };
-        match trials.all(&folders.empty, texts, seed) {
+        match trials.all(texts, seed) {
             Ok(seen) => println!("{name}: {seen}"),
             Err(difference) => {
                 failed = Err(format!("{name}: {difference}"));
@@ -82,16 +81,15 @@ fn main() -> ExitCode {
         None => Some(default),
         Some(word) => word.parse().ok(),
     };
-    let ([engine, reference, empty, ..], Some(texts), Some(seed)) =
-        (&arguments[..], number(3, 300), number(4, 1))
+    let ([engine, reference, ..], Some(texts), Some(seed)) =
+        (&arguments[..], number(2, 300), number(3, 1))
     else {
-        eprintln!("usage: programs ENGINE REFERENCE EMPTY [TEXTS [SEED]]");
+        eprintln!("usage: programs ENGINE REFERENCE [TEXTS [SEED]]");
         return ExitCode::from(2);
     };
     let folders = Folders {
         engine: Path::new(engine).to_path_buf(),
         reference: Path::new(reference).to_path_buf(),
-        empty: Path::new(empty).to_path_buf(),
     };
     match run(&folders, texts as usize, seed) {
         Ok(()) => ExitCode::SUCCESS,

@@ -1,9 +1,8 @@
 //! The memory of a program when it has its answer.
 //!
 //! The program reads a file and writes into a pipe that is full, so that it stands still at its first
-//! write, with all done but the writing. What it holds then is read from the system's table of its
-//! pages (smaps_rollup), which counts each page; its peak (VmHWM), which the system may know only to
-//! some tens of pages, is read beside it. An empty program, which only writes, is measured in the same way.
+//! write, with all done but the writing. Its own pages, which no file backs (stack and data), are then
+//! read from the system's table (smaps_rollup); a page of the stack, once used, stays.
 
 use crate::feed::read_bytes;
 use std::fs::{self, File};
@@ -19,35 +18,8 @@ const PIPE: usize = 65_536;
 /// The longest time that a program may take to its first write.
 const PATIENCE: Duration = Duration::from_secs(60);
 
-/// Memory in kB.
-#[derive(Clone, Copy, Default)]
-pub struct Memory {
-    /// What it holds.
-    pub held: u64,
-    /// The most that it held, about.
-    pub peak: u64,
-}
-
-impl Memory {
-    /// What it has beyond another.
-    pub fn beyond(self, other: Memory) -> Memory {
-        Memory {
-            held: self.held.saturating_sub(other.held),
-            peak: self.peak.saturating_sub(other.peak),
-        }
-    }
-
-    /// The larger of each.
-    pub fn max(self, other: Memory) -> Memory {
-        Memory {
-            held: self.held.max(other.held),
-            peak: self.peak.max(other.peak),
-        }
-    }
-}
-
-/// The memory of a program on a file, and its output.
-pub fn measure(program: &Path, file: &Path) -> Result<(Memory, Vec<u8>), String> {
+/// The memory of a program on a file, in kB, and its output.
+pub fn measure(program: &Path, file: &Path) -> Result<(u64, Vec<u8>), String> {
     let failed = |error: io::Error| format!("{}: {error}", program.display());
     let (mut reader, mut writer) = pipe().map_err(failed)?;
     writer.write_all(&[0; PIPE]).map_err(failed)?;
@@ -89,11 +61,8 @@ fn wait_for_write(child: &mut Child) -> io::Result<()> {
     Err(io::Error::other("it wrote nothing for a minute"))
 }
 
-fn memory_of(process: u32) -> io::Result<Memory> {
-    Ok(Memory {
-        held: field(&format!("/proc/{process}/smaps_rollup"), "Rss:")?,
-        peak: field(&format!("/proc/{process}/status"), "VmHWM:")?,
-    })
+fn memory_of(process: u32) -> io::Result<u64> {
+    field(&format!("/proc/{process}/smaps_rollup"), "Anonymous:")
 }
 
 /// The kB of a field of one of the system's tables.

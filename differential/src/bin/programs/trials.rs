@@ -2,15 +2,19 @@
 
 use crate::feed::{from_file, in_packets, through_pipe, Input};
 use crate::longest::{line_of, long_texts, longest, Long};
-use crate::memory::{measure, Memory};
+use crate::memory::measure;
 use crate::random::Random;
 use crate::subjects::Known;
 use crate::text::Text;
 use std::fs;
-use std::path::{Path, PathBuf};
+use std::path::PathBuf;
 
 /// Bytes of an input that is far longer than any that can be admitted.
 const ENDLESS: usize = 100_000_000;
+
+/// The largest packet, and the length of texts below which a program's part has room for one at each read.
+const PACKET: u16 = 4_096;
+const SHORT: usize = 65_536 - PACKET as usize;
 
 /// Memory of its own that a program must stay below, in kB, and stack that it must do with.
 const MOST_MEMORY: u64 = 1_000;
@@ -26,16 +30,16 @@ pub struct Trials {
 
 impl Trials {
     /// All inputs of a program; says what was seen.
-    pub fn all(&mut self, empty: &Path, texts: usize, seed: u64) -> Result<String, String> {
+    pub fn all(&mut self, texts: usize, seed: u64) -> Result<String, String> {
         let long = long_texts(self.kind);
-        let memory = self.long(&long, empty)?;
+        let memory = self.long(&long)?;
         self.byte_by_byte(&long)?;
         self.endless()?;
         self.random(texts, seed)?;
         Ok(format!(
-            "{} inputs as the reference's program, {texts} of them random with seed {seed}; memory beyond an \
-             empty program: {} kB held at the end, about {} kB at the peak; {MOST_MEMORY} kB of stack do",
-            self.inputs, memory.held, memory.peak
+            "{} inputs as the reference's program, {texts} of them random with seed {seed}; at most {memory} kB \
+             of memory of its own; {MOST_MEMORY} kB of stack do",
+            self.inputs
         ))
     }
 
@@ -55,33 +59,32 @@ impl Trials {
     }
 
     /// The texts at the limits and the empty one: from a file, measured, and with little stack.
-    fn long(&mut self, long: &[Long], empty: &Path) -> Result<Memory, String> {
+    fn long(&mut self, long: &[Long]) -> Result<u64, String> {
         let nothing = Long {
             name: "empty".to_string(),
             text: Vec::new(),
         };
-        let mut most = Memory::default();
+        let mut most = 0;
         for Long { name, text } in long.iter().chain([&nothing]) {
             fs::write(&self.file, text).map_err(|error| error.to_string())?;
             let expected = from_file(&self.reference, &self.file, None)?;
-            let (alone, _) = measure(empty, &self.file)?;
             let (memory, output) = measure(&self.engine, &self.file)?;
             self.hold(name, &output, &expected)?;
-            let own = memory.beyond(alone);
-            if own.held >= MOST_MEMORY {
-                return Err(format!("{name}: {} kB of memory of its own", own.held));
+            if memory >= MOST_MEMORY {
+                return Err(format!("{name}: {memory} kB of memory of its own"));
             }
-            most = most.max(own);
+            most = most.max(memory);
             let output = from_file(&self.engine, &self.file, Some(MOST_MEMORY as usize))?;
             self.hold(&format!("{name}, with little stack"), &output, &expected)?;
         }
         Ok(most)
     }
 
-    /// Some texts in packets of one byte, others in packets of a few.
+    /// Some texts in packets of one byte, others in packets of a few. Their sizes divide that of the programs' parts: a read that asks for less
+    /// than a packet loses the rest of it, which no other pipe does.
     fn byte_by_byte(&mut self, long: &[Long]) -> Result<(), String> {
         let short = long.iter().filter(|long| long.text.len() < 400_000);
-        for (Long { name, text }, sizes) in short.zip([&[1][..], &[1], &[7, 1, 64], &[4_096]]) {
+        for (Long { name, text }, sizes) in short.zip([&[1][..], &[1], &[64], &[512]]) {
             let expected = through_pipe(&self.reference, &Input::text(text))?;
             let output = in_packets(&self.engine, text, sizes)?;
             self.hold(
@@ -122,7 +125,10 @@ impl Trials {
         let known = Known::new();
         for _ in 0..texts {
             let text = self.kind.any(&mut random, &known);
-            let sizes = [0; 3].map(|_| usize::from(random.between(1, 4_096)));
+            let sizes = match text.len() < SHORT {
+                true => [0; 3].map(|_| usize::from(random.between(1, PACKET))),
+                false => [512; 3],
+            };
             let expected = through_pipe(&self.reference, &Input::text(&text))?;
             let output = in_packets(&self.engine, &text, &sizes)?;
             let shown = text[..text.len().min(4_000)].escape_ascii();
