@@ -18,6 +18,8 @@ const LEFT: f64 = 30.0;
 const ABOVE: f64 = 30.0;
 const RIGHT: f64 = 60.0;
 const BELOW: f64 = 26.0;
+/// The width beside a board that holds one upright line of text, and no level one.
+const UPRIGHT: f64 = 24.0;
 
 /// The style and the hatching that every picture uses, once on a page.
 pub const STYLE: &str = "<style>
@@ -225,8 +227,8 @@ impl<'a> Drawing<'a> {
         };
         label::write(out, below, &[format!("{} mm", self.job.width)]);
         let left = Area {
-            x: 0.0,
-            width: LEFT,
+            x: LEFT - UPRIGHT,
+            width: UPRIGHT,
             ..board
         };
         label::write(out, left, &[format!("{} mm", self.job.height)]);
