@@ -1,9 +1,7 @@
 -- What is kept of a saw text beside where it stands is determined by the text: the model, the lines 3, the prices, and the lent buffers.
 -- Assumes nothing.
 use Prim.Native.Nat.{ℕ, zero, suc, _≤_}
-use native.Mathlib.Omega.{arith}
 use mathlib.Core.Path.{_≡_, refl, sym, ap, _∙_}
-use mathlib.Core.Logic.{_⊎_, inl, inr}
 use mathlib.Core.List.{List, [], _∷_}
 use mathlib.Core.Option.{Option, some, Option·some-injective}
 use lib.ListN.{length, replicate}
@@ -12,18 +10,18 @@ use Rattle.job.specs.declared.counters.PlateType.{PlateType}
 use Rattle.job.specs.declared.counters.CutNumber.{CutNumber}
 use Rattle.job.specs.Verdict.{Verdict, pass, refuse, _then_}
 use Rattle.job.specs.Buffers.{Answer, given, refused, filled, ends, sized, platesSize, cutsSize}
-use Rattle.job.specs.Job.{Job, jobOf, jobWords, admission}
-use Rattle.job.proofs.CodeEnds.{Not5, not5-pass, not5-refuse, not5-then, ends-zeros}
+use Rattle.job.specs.Job.{jobOf, jobWords, admission}
+use Rattle.job.proofs.CodeEnds.{Not5, not5-then, ends-zeros}
 use Rattle.job.proofs.CodeAdmission.{words-not5, admission-not5}
-use Rattle.listing.specs.Listing.{modelRow}
 use Rattle.listing.specs.Holds.{Holds}
 use Rattle.listing.specs.ListCall.{listVerdict, listAnswer, platesEnd, cutsEnd}
-use Rattle.listing.proofs.Limits.{row-cases}
+use Rattle.listing.proofs.Limits.{model-not5}
 use Rattle.lister.specs.declared.list.Listed.{Listed}
 use Rattle.lister.specs.declared.list.Listed.the-variants.{Done, Refused}
 use Rattle.lister.specs.Listed.{saysOf}
 use Rattle.texts.specs.JobLines.{Place, first, types, body, itemPrices, platePrices, done}
 use Rattle.texts.specs.SawText.{Counted, PriceLines, Saw}
+use Rattle.reading.proofs.CodeSplits.{held-same}
 use Rattle.saw_body.specs.declared.plan_lines.PlanLines.{PlanLines}
 use Rattle.saw_body.specs.declared.price_lines.PriceLines.{PriceLines as CodePrices}
 use Rattle.saw_body.specs.PlanRead.{atLine, PlanKept}
@@ -32,10 +30,6 @@ use Rattle.saw_body.proofs.ModelLaws.{verdict-again}
 use Rattle.saw_lines.specs.declared.held.SawHeld.{SawHeld}
 use Rattle.saw_lines.specs.SawKept.{Lent, Room, NoPlan, Unlisted, PlanHeld, ListedJob, JobHeld, NoPrices, PricesTo, PricesHeld, HeldAs}
 use Rattle.saw_reader.specs.Parts.{AsLong}
-
--- words that are held
-pub held-same : (b b′ ws : List ℕ) → Holds b ws → Holds b′ ws → length b ≡ length b′ → b ≡ b′
-held-same b b′ ws h k e = h .words ∙ ap (λ (n : ℕ). filled n ws) e ∙ sym (k .words)
 
 -- ---- the model
 
@@ -49,14 +43,6 @@ listedFrom (refused number place) = Refused number place
 listed-from : (a : Listed) → listedFrom (saysOf a) ≡ a
 listed-from (Done m k) = refl
 listed-from (Refused number place) = refl
-
-model-not5 : (job : Job) → Not5 (modelRow job)
-model-not5 job = go (row-cases job)
-  where
-    go : (modelRow job ≡ pass) ⊎ ((modelRow job ≡ refuse 6 0) ⊎ (modelRow job ≡ refuse 7 0)) → Not5 (modelRow job)
-    go (inl e) = rw e not5-pass
-    go (inr (inl e)) = rw e (not5-refuse 6 0 (λ q. omega arith))
-    go (inr (inr e)) = rw e (not5-refuse 7 0 (λ q. omega arith))
 
 -- with buffers of full size the listing call does not refuse with 5
 pub list-not5 : (ws plates cuts : List ℕ) → platesSize ≤ length plates → cutsSize ≤ length cuts → Not5 (listVerdict ws plates cuts)

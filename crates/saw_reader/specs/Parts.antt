@@ -2,17 +2,17 @@
 -- Assumes nothing.
 use Prim.Native.Nat.{ℕ}
 use mathlib.Core.Path.{_≡_}
-use mathlib.Core.List.{List, _++_}
+use mathlib.Core.List.{List}
 use lib.ListN.{length}
-use Rattle.texts.specs.Reader.{Reader, started, fed}
-use Rattle.texts.specs.SawText.{Saw, sawGrammar}
+use Rattle.texts.specs.SawText.{sawGrammar}
+use Rattle.reading.specs.Parts as parts
 use Rattle.saw_lines.specs.SawKept.{Lent}
 use Rattle.saw_reader.specs.declared.saw.SawReader.{SawReader}
 use Rattle.saw_reader.specs.SawFed.{SawKept, Fed}
 
 -- the state and the lent buffers are those of the definition after the bytes bs
 abbrev pub After : List ℕ → SawReader → Lent → Type 0
-After bs f b = SawKept (fed sawGrammar (started sawGrammar) bs) f b
+After = parts.After sawGrammar SawKept
 
 -- buffers as long as others
 pub record AsLong (b b₀ : Lent) : Type 0 where
@@ -23,8 +23,5 @@ pub record AsLong (b b₀ : Lent) : Type 0 where
   pub prices : length (b .prices) ≡ length (b₀ .prices)
 
 -- parts and splits
-pub record InParts : Type 0 where
-  -- one part more
-  pub more : (bs part : List ℕ) (f f′ : SawReader) (b b′ : Lent) → After bs f b → Fed part f b f′ b′ → After (bs ++ part) f′ b′
-  -- what is kept of a reader is one state and one content of lent buffers of their lengths, however the text was split
-  pub same : (r : Reader Saw) (f f′ : SawReader) (b b′ : Lent) → SawKept r f b → SawKept r f′ b′ → AsLong b b′ → (f ≡ f′) × (b ≡ b′)
+abbrev pub InParts : Type 0
+InParts = parts.InParts sawGrammar SawKept Fed AsLong
