@@ -7,7 +7,7 @@ ghost use Rattle.texts.specs.SawText.{sawText};
 ghost use Rattle.saw_lines.specs.SawKept.{lent, Room};
 ghost use Rattle.saw_reader.specs.Parts.{After};
 ghost use Rattle.saw_ending.specs.Ending.{RoomToEnd};
-use saw_ending::finish::finish;
+use saw_ending::finish::finish_listed;
 use saw_reader::saw::SawReader;
 use saw_reader::saw::feed;
 use saw_reader::saw::start;
@@ -52,7 +52,7 @@ fn run(
     ensures { λ _. ⌜ ((bs : List ℕ) × (now (out .exit) ≡ put (now (out .entry)) 0 (sawText bs))) ⌝ }
 {
     let reader = read(part, job, plates, cuts, counts, prices);
-    let n = finish(reader, job, plates, cuts, counts, prices, placements, out);
+    let n = finish_listed(reader, job, plates, cuts, counts, prices, placements, out);
     if n <= out.len() {
         io::write_all(1, &out[..n]);
     }

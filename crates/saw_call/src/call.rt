@@ -3,7 +3,7 @@ ghost use Prim.Native.Nat.{_≤_};
 ghost use Rattle.saw_lines.specs.SawKept.{lent, Room};
 ghost use Rattle.saw_reader.specs.Parts.{After};
 ghost use Rattle.saw_call.specs.TextCall.{SawCall};
-use saw_ending::finish::finish;
+use saw_ending::finish::finish_listed;
 use saw_ending::finish::has_room;
 use saw_reader::saw::SawReader;
 use saw_reader::saw::feed;
@@ -43,7 +43,7 @@ pub fn saw_text(
 {
     if has_room(job, plates, cuts, counts, prices, placements, out) {
         let whole = read_whole(text, job, plates, cuts, counts, prices);
-        return finish(whole, job, plates, cuts, counts, prices, placements, out);
+        return finish_listed(whole, job, plates, cuts, counts, prices, placements, out);
     }
     0
 }
@@ -104,7 +104,7 @@ pub fn saw_in_parts(
 {
     if has_room(job, plates, cuts, counts, prices, placements, out) {
         let parts = read_parts(text, ends, job, plates, cuts, counts, prices);
-        return finish(parts, job, plates, cuts, counts, prices, placements, out);
+        return finish_listed(parts, job, plates, cuts, counts, prices, placements, out);
     }
     0
 }

@@ -38,7 +38,7 @@ unfolding sized
 sized-full number size buffer h = rw (le-ltb (length buffer) size h)
 
 -- the job row and the model row
-abbrev jobRows : List ℕ → Verdict
+abbrev pub jobRows : List ℕ → Verdict
 jobRows ws = admission (jobOf ws) then modelRow (jobOf ws)
 
 -- the model that is kept, in lent buffers of full size
@@ -47,10 +47,10 @@ module _ (ws plates cuts : List ℕ) (ps : platesSize ≤ length plates) (cs : c
     known : Modelled ws cuts (m .0) (k .0)
     known = kept-modelled ws plates cuts a m k e cs kept
 
-    rows-passed : jobRows ws ≡ pass
+    pub rows-passed : jobRows ws ≡ pass
     rows-passed = then-both (admission (jobOf ws)) (modelRow (jobOf ws)) (known .admitted) (known .listed)
 
-    listed-so : ListedLent ws plates cuts (m .0) (k .0)
+    pub listed-so : ListedLent ws plates cuts (m .0) (k .0)
     unfolding listAnswer platesEnd cutsEnd
     listed-so =
         let s = sym (ap saysOf e) ∙ kept .says in
@@ -69,7 +69,7 @@ module _ (ws plates cuts : List ℕ) (ps : platesSize ≤ length plates) (cs : c
               refl refl;
         }
 
-  rows-refused : (number place : ℕ) → a ≡ Refused number place → jobWords ws ≡ pass → jobRows ws ≡ refuse number place
+  pub rows-refused : (number place : ℕ) → a ≡ Refused number place → jobWords ws ≡ pass → jobRows ws ≡ refuse number place
   unfolding listAnswer listVerdict
   rows-refused number place e w =
       let v : listVerdict ws plates cuts ≡ refuse number place = refused-refuse (listVerdict ws plates cuts) _ (sym (ap saysOf e) ∙ kept .says) in
@@ -88,7 +88,7 @@ module _ (s : Saw) (h : SawHeld) (b : Lent) (room : Room b) (w : WholeKept s h b
   pub few-types : getD (b .job) 4 0 ≤ 40
   few-types = omega (arith, fifth, passed-few (s .job) (w .passed))
 
-  words-are : take (5 + 3 * getD (b .job) 4 0) (b .job) ≡ s .job
+  pub words-are : take (5 + 3 * getD (b .job) 4 0) (b .job) ≡ s .job
   words-are = held-take (5 + 3 * getD (b .job) 4 0) (passed-length (s .job) (w .passed) ∙ ap (λ (n : ℕ). 5 + 3 * n) (sym fifth)) (w .words)
 
   -- refused by the job or the model

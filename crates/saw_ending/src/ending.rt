@@ -22,21 +22,21 @@ use job::counters::ItemType;
 use job::counters::PlateType;
 use job::words::clear;
 use lister::list::Listed;
+use pricer::prices::PriceAnswer;
 use reading::text::TextReader;
-use saw_lines::held::SawHeld;
 use saw_body::plan_lines::PlanLines;
 use saw_body::price_lines::PriceLines;
+use saw_lines::held::SawHeld;
 use saw_rows::line_row::text_row;
 use saw_rows::plan_part::plan_row_of_text;
 use saw_rows::price_part::prices_of_text;
 use saw_rows::unfolding_part::write_plan;
 use tester::plan_row::PlanAnswer;
-use pricer::prices::PriceAnswer;
 use tester::row::Row;
 use writing::refusal::write_refusal;
 
 // Writes line 9; its end is handed back. A place of more than 32 bits, which no text has, writes nothing.
-fn refuse(out: &mut [u8], number: u16, place: usize) -> usize
+pub fn refuse(out: &mut [u8], number: u16, place: usize) -> usize
     requires { ⌜ longestSaw ≤ length (now out) ⌝ }
     ensures { λ r. ⌜ (place < 4294967296 → Wrote (now (out .entry)) 0 (lineOf (9 ∷ number ∷ place ∷ [])) r (now (out .exit))) ⌝ }
 {

@@ -9,8 +9,8 @@ use Rattle.saw_call.proofs.call.saw_in_parts.Tie as tie
 read-parts-requires : tie.Need-read-parts-requires
 read-parts-requires c κs = c .before .before .before .before .before .before .has-room .ensures .0 (c .before .before .before .before .before .if1 .taken) .lent
 
-finish-requires : tie.Need-finish-requires
-finish-requires c κs room = (now (c .before .before .before .before .before .before .before .before .before .before .before .before .before .before .before .before .before .before .before .before .before .before .before .before .before .before .before .before .before .before .before .before .before .before .before .before .before .before .before .before .before .args .text), c .before .before .before .before .before .before .before .before .before .before .before .before .before .before .before .before .before .read-parts .ensures)
+finish-listed-requires : tie.Need-finish-listed-requires
+finish-listed-requires c κs room = (now (c .before .before .before .before .before .before .before .before .before .before .before .before .before .before .before .before .before .before .before .before .before .before .before .before .before .before .before .before .before .before .before .before .before .before .before .before .before .before .before .before .before .args .text), c .before .before .before .before .before .before .before .before .before .before .before .before .before .before .before .before .before .read-parts .ensures)
 
 returns : tie.Need-returns
 returns c =
@@ -19,7 +19,7 @@ returns c =
     record {
       answered = λ room.
           answered (now (c .before .before .before .before .before .before .before .before .before .before .before .before .before .before .before .before .before .before .before .before .before .before .before .before .before .before .before .before .before .before .before .before .before .before .before .before .before .before .before .before .before .before .before .before .before .before .args .text)) (record { job = k .0; plates = k .1 .0; cuts = k .1 .1 .0; counts = k .1 .1 .1 .0; prices = k .1 .1 .1 .1 .0 }) (x .ensures)
-          (c .before .before .before .before .finish .ensures .1 (room-kept room (x .ensures .ready .room)) (now (c .before .before .before .before .before .before .before .before .before .before .before .before .before .before .before .before .before .before .before .before .before .before .before .before .before .before .before .before .before .before .before .before .before .before .before .before .before .before .before .before .before .before .before .before .before .before .args .text)) (x .ensures));
+          (c .before .before .before .before .finish-listed .ensures .1 (room-kept room (x .ensures .ready .room)) (now (c .before .before .before .before .before .before .before .before .before .before .before .before .before .before .before .before .before .before .before .before .before .before .before .before .before .before .before .before .before .before .before .before .before .before .before .before .before .before .before .before .before .before .before .before .before .before .args .text)) (x .ensures));
       unchanged = λ none. absurd (none (c .before .before .before .before .before .before .before .before .before .before .before .before .before .before .before .before .before .before .before .before .before .before .before .before .before .before .before .before .before .has-room .ensures .0 (c .before .before .before .before .before .before .before .before .before .before .before .before .before .before .before .before .before .before .before .before .before .before .before .before .before .before .before .before .if1 .taken)));
     }
 
@@ -36,14 +36,14 @@ saw-in-parts-spec =
     (tie.spec
     (λ c κs. search needs)
     read-parts-requires
-    finish-requires
-    (λ c. c .before .before .before .before .finish .kept .1 .1 .1 .1 .1 .1 .1 .0)
+    finish-listed-requires
+    (λ c. c .before .before .before .before .finish-listed .kept .1 .1 .1 .1 .1 .1 .1 .0)
     (λ c. c .before .before .before .before .before .before .before .before .before .before .before .before .before .before .before .before .before .before .before .before .before .before .read-parts .kept .1 .1 .0)
     (λ c. c .before .before .before .before .before .before .before .before .before .before .before .before .before .before .before .before .before .before .before .before .before .before .read-parts .kept .1 .1 .1 .0)
     (λ c. c .before .before .before .before .before .before .before .before .before .before .before .before .before .before .before .before .before .before .before .before .before .before .read-parts .kept .1 .1 .1 .1 .0)
     (λ c. c .before .before .before .before .before .before .before .before .before .before .before .before .before .before .before .before .before .before .before .before .before .before .read-parts .kept .1 .1 .1 .1 .1 .0)
     (λ c. c .before .before .before .before .before .before .before .before .before .before .before .before .before .before .before .before .before .before .before .before .before .before .read-parts .kept .1 .1 .1 .1 .1 .1 .0)
-    (λ c. c .before .before .before .before .finish .kept .1 .1 .1 .1 .1 .1 .0)
+    (λ c. c .before .before .before .before .finish-listed .kept .1 .1 .1 .1 .1 .1 .0)
     returns
     (λ c. search needs)
     (λ c. search needs)

@@ -1,4 +1,4 @@
--- `finish` is the end of the text that the reader keeps. Assumes nothing.
+-- `finish_listed` is the end of the text that the reader keeps. Assumes nothing.
 use mathlib.Core.Path.{refl}
 use denote.Ref.{now}
 use Rattle.texts.specs.Reader.{started, fed}
@@ -6,8 +6,8 @@ use Rattle.texts.specs.SawText.{sawGrammar}
 use Rattle.saw_lines.specs.SawKept.{lent}
 use Rattle.saw_ending.proofs.KeptEnds.{text-ends, finished}
 use borrow.Author.Needs.{needs}
-use Rattle.saw_ending.proofs.finish.finish.Statement.{statement}
-use Rattle.saw_ending.proofs.finish.finish.Tie as tie
+use Rattle.saw_ending.proofs.finish.finish_listed.Statement.{statement}
+use Rattle.saw_ending.proofs.finish.finish_listed.Tie as tie
 
 end-text-requires : tie.Need-end-text-requires
 end-text-requires c κs =
@@ -31,8 +31,8 @@ returns-2 c = (
   (λ room bs kept. absurd (c .before .has-room .ensures .1 (c .if1 .left) room)),
 )
 
-pub finish-spec : {M : Type 1} → statement M
-finish-spec =
+pub finish-listed-spec : {M : Type 1} → statement M
+finish-listed-spec =
     tie.close
     (tie.spec
     (λ c κs. search needs)
