@@ -5,13 +5,13 @@ use mathlib.Core.Path.{_≡_, refl, sym, ap, _∙_, subst}
 use mathlib.Core.Bool.{Bool, true, false}
 use mathlib.Core.List.{List, [], _∷_, _++_, append-assoc, append-nil}
 use mathlib.Core.Option.{Option, none, some}
-use native.Mathlib.Nat.{add-zero, sub-zero, suc-sub-suc}
+use native.Mathlib.Nat.{zero-add, add-zero, sub-zero, suc-sub-suc}
 use native.Mathlib.Numerals.{add-one}
 use native.Mathlib.Omega.{arith}
 use lib.ListN.{length, take, drop, getD, set, replicate, length-append, length-take, length-drop}
-use lib.Seq.{take-nil, take-take, getD-take, length-take-le, take-suc, take-all, set-at, getD-drop, take-at, drop-at, take-add, drop-drop}
-use lib.Dec.{eqb}
-use borrow.Author.Tests.{eqb-true, eq-eqb, ne-eqb}
+use lib.Seq.{drop-cons, take-nil, take-take, getD-take, length-take-le, take-suc, take-all, set-at, getD-drop, take-at, drop-at, take-add, drop-drop}
+use lib.Dec.{eqb, ltb}
+use borrow.Author.Tests.{eqb-true, eq-eqb, ne-eqb, ltb-true, ltb-false}
 use Rattle.columns.specs.declared.group.Number.{Number}
 use Rattle.columns.specs.declared.group.Number.the-variants.{Value, Malformed}
 use Rattle.columns.specs.Group.{limit, group, numberOf, put}
@@ -24,12 +24,13 @@ abbrev pub before : List ℕ → Option (List ℕ) → Option (List ℕ)
 before xs (some ns) = some (xs ++ ns)
 before xs none = none
 
--- i of the k numbers of the line at `at` have been read, and stand in numbers
-pub record Reading (s : List ℕ) (at k i : ℕ) (numbers : List ℕ) : Type 0 where
+-- i numbers have been read at `at`, and stand in numbers before what was behind them; the line there has them and k more, if it is one, and no fewer
+pub record Reading (s : List ℕ) (at i : ℕ) (was numbers : List ℕ) : Type 0 where
   pub read : List ℕ
   pub size : length read ≡ i
-  pub here : numbersOf k (drop at s) ≡ before read (numbersOf (k - i) (drop (at + 9 * i) s))
-  pub held : numbers ≡ read ++ replicate (8 - i) 0
+  pub held : numbers ≡ read ++ drop i was
+  pub here : (k : ℕ) → numbersOf (i + k) (drop at s) ≡ before read (numbersOf k (drop (at + 9 * i) s))
+  pub fewer : (k : ℕ) → k < i → numbersOf k (drop at s) ≡ none
 
 pub drop-take : (m n : ℕ) (l : List ℕ) → m ≤ n → drop m (take n l) ≡ take (n - m) (drop m l)
 drop-take zero n l h = rw (sub-zero n)
@@ -123,38 +124,77 @@ before-nil : (o : Option (List ℕ)) → o ≡ before [] o
 before-nil none = refl
 before-nil (some ns) = refl
 
-pub reading-none : (s : List ℕ) (at k : ℕ) → Reading s at k 0 (replicate 8 0)
-reading-none s at k = record { read = []; size = refl; here = rw (sub-zero k, add-zero at) (before-nil _); held = refl }
+pub reading-none : (s : List ℕ) (at : ℕ) (was : List ℕ) → Reading s at 0 was was
+reading-none s at was =
+    record { read = []; size = refl; held = refl; here = λ k. rw (zero-add k, add-zero at) (before-nil _); fewer = λ k l. absurd (omega arith) }
 
-module _ (s : List ℕ) (at k i : ℕ) (numbers : List ℕ) (r : Reading s at k i numbers) where
-  next : i < k → numbersOf k (drop at s) ≡ before (r .read) (also (numberOf (take 9 (drop (at + 9 * i) s))) (numbersOf (k - (i + 1)) (drop (at + 9 * (i + 1)) s)))
-  next l =
-      let e : k - i ≡ suc (k - (i + 1)) = omega arith in
-      let f : at + 9 * i + 9 ≡ at + 9 * (i + 1) = omega arith in
-      r .here ∙ rw (e, numbers-next, f) refl
+module _ (s : List ℕ) (at i : ℕ) (was numbers : List ℕ) (r : Reading s at i was numbers) where
+  -- byte 10 ends the line, any other byte does not
+  pub reading-end : getD s (at + 9 * i) 0 ≡ 10 → numbersOf i (drop at s) ≡ some (r .read)
+  reading-end e = rw add-zero at (r .here 0) ∙ rw (numbers-end, eq-eqb _ _ e, append-nil)
 
-  pub reading-more : (n : ℕ) → k ≤ 8 → i < k → numberOf (take 9 (drop (at + 9 * i) s)) ≡ Value n → Reading s at k (i + 1) (set numbers i n)
-  reading-more n h l e =
-      let q : 8 - i ≡ suc (8 - (i + 1)) = omega arith in
+  reading-on : (getD s (at + 9 * i) 0 ≡ 10 → ⊥) → numbersOf i (drop at s) ≡ none
+  reading-on e = rw add-zero at (r .here 0) ∙ rw (numbers-end, ne-eqb _ _ e)
+
+  up-to : (getD s (at + 9 * i) 0 ≡ 10 → ⊥) → (k : ℕ) → k ≤ i → numbersOf k (drop at s) ≡ none
+  up-to e k h = go (ltb k i) refl
+    where
+      go : (t : Bool) → ltb k i ≡ t → numbersOf k (drop at s) ≡ none
+      go true p = r .fewer k (ltb-true k i p)
+      go false p = let q : k ≡ i = omega (arith, ltb-false k i p) in rw q (reading-on e)
+
+  -- eight numbers have been read, and the line goes on
+  pub reading-eight : i ≡ 8 → (getD s (at + 9 * i) 0 ≡ 10 → ⊥) → (k : ℕ) → k ≤ 8 → numbersOf k (drop at s) ≡ none
+  reading-eight n e k h = up-to e k (omega arith)
+
+  -- what comes is neither the end nor a number
+  pub reading-not :
+      (getD s (at + 9 * i) 0 ≡ 10 → ⊥)
+      → numberOf (take 9 (drop (at + 9 * i) s)) ≡ Malformed
+      → (k : ℕ)
+      → numbersOf k (drop at s) ≡ none
+  reading-not e m k = go (ltb i k) refl
+    where
+      go : (t : Bool) → ltb i k ≡ t → numbersOf k (drop at s) ≡ none
+      go false p = up-to e k (ltb-false i k p)
+      go true p =
+          let l = ltb-true i k p in
+          let q : k ≡ i + suc (k - (i + 1)) = omega arith in
+          rw (q, r .here (suc (k - (i + 1))), numbers-next, m)
+
+  -- one number more
+  pub reading-more :
+      (n : ℕ)
+      → i < length was
+      → (getD s (at + 9 * i) 0 ≡ 10 → ⊥)
+      → numberOf (take 9 (drop (at + 9 * i) s)) ≡ Value n
+      → Reading s at (i + 1) was (set numbers i n)
+  reading-more n l e v =
       record {
         read = r .read ++ (n ∷ []);
         size = simp length-append (omega arith);
-        here = next l ∙ rw (e, before-also);
-        held = rw (r .held, q) (set-at (r .read) 0 _ n i (r .size) ∙ rw append-assoc);
+        held = rw (r .held, drop-cons was i 0 l) (set-at (r .read) (getD was i 0) (drop (suc i) was) n i (r .size) ∙ rw (append-assoc, add-one));
+        here = λ k. next k;
+        fewer = λ k h. up-to e k (omega arith);
       }
+    where
+      next : (k : ℕ) → numbersOf (i + 1 + k) (drop at s) ≡ before (r .read ++ (n ∷ [])) (numbersOf k (drop (at + 9 * (i + 1)) s))
+      next k =
+          let q : i + 1 + k ≡ i + suc k = omega arith in
+          let f : at + 9 * i + 9 ≡ at + 9 * (i + 1) = omega arith in
+          let o : Option (List ℕ) = numbersOf k (drop (at + 9 * (i + 1)) s) in
+          rw q (r .here (suc k) ∙ rw (numbers-next, v, f) (before-also (r .read) n o))
 
-  pub reading-not : i < k → numberOf (take 9 (drop (at + 9 * i) s)) ≡ Malformed → malformedLine ≡ lineFrom (numbersOf k (drop at s))
-  reading-not l e = rw (next l, e)
+drop-zeros : (k n : ℕ) → drop {A = ℕ} k (replicate n 0) ≡ replicate (n - k) 0
+drop-zeros zero n = rw (sub-zero n)
+drop-zeros (suc k) zero = let z : 0 - suc k ≡ 0 = omega arith in rw z
+drop-zeros (suc k) (suc n) = drop-zeros k n ∙ rw suc-sub-suc refl
 
-  pub reading-all : i ≡ k → getD s (at + 9 * i) 0 ≡ 10 → record { good = true; numbers = numbers } ≡ lineFrom (numbersOf k (drop at s))
-  reading-all l e =
-      let q : k - i ≡ 0 = omega arith in
-      rw (r .here, q, numbers-end, eq-eqb _ _ e, append-nil, r .size, r .held)
-
-  pub reading-end : i ≡ k → (getD s (at + 9 * i) 0 ≡ 10 → ⊥) → malformedLine ≡ lineFrom (numbersOf k (drop at s))
-  reading-end l e =
-      let q : k - i ≡ 0 = omega arith in
-      rw (r .here, q, numbers-end, ne-eqb _ _ e)
+-- the numbers of a line before zeros are its answer
+pub line-complete : (k : ℕ) (bs ns numbers : List ℕ) → numbersOf k bs ≡ some ns → numbers ≡ ns ++ drop k (replicate 8 0) → record { good = true; numbers = numbers } ≡ lineFrom (numbersOf k bs)
+line-complete k bs ns numbers e h =
+    let n = line-numbers k bs ns e .0 in
+    rw (e, h, n, drop-zeros k 8)
 
 -- ---- writing
 

@@ -1,6 +1,7 @@
 -- Document 01, "Texts": "a line is the numbers of its kind, each right-justified in nine columns .., then byte 10".
 -- Assumes nothing.
-use Prim.Native.Nat.{ℕ, zero, suc, _+_, _-_, _*_, _/_, _<_}
+use Prim.Native.Nat.{ℕ, zero, suc, _+_, _-_, _*_, _/_, _≤_, _<_}
+use mathlib.Core.Path.{_≡_}
 use mathlib.Core.Bool.{Bool, true, false}
 use mathlib.Core.List.{List, [], _∷_, _++_}
 use mathlib.Core.Option.{Option, none, some}
@@ -9,6 +10,8 @@ use lib.Dec.{eqb}
 use Rattle.columns.specs.declared.group.Number.{Number}
 use Rattle.columns.specs.declared.group.Number.the-variants.{Value, Malformed}
 use Rattle.columns.specs.declared.line.Line.{Line}
+use Rattle.columns.specs.declared.line.Complete.{Complete}
+use Rattle.columns.specs.declared.line.Complete.the-variants.{Numbers, Nothing}
 use Rattle.columns.specs.Group.{limit, group, numberOf}
 
 -- the columns of some numbers
@@ -51,3 +54,10 @@ malformedLine = record { good = false; numbers = replicate 8 0 }
 abbrev pub lineFrom : Option (List ℕ) → Line
 lineFrom (some ns) = record { good = true; numbers = ns ++ replicate (8 - length ns) 0 }
 lineFrom none = malformedLine
+
+-- what `complete_line` says of bytes bs: the line that they begin with has k numbers, at most eight, which stand in an array before what was behind them; or
+-- they begin with the line of no number of numbers up to eight
+abbrev pub CompleteAs : List ℕ → List ℕ → List ℕ → Complete → Type 0
+CompleteAs bs before after (Numbers k) =
+    (k ≤ 8) × ((ns : List ℕ) × (numbersOf k bs ≡ some ns) × (after ≡ ns ++ drop k before))
+CompleteAs bs before after Nothing = (k : ℕ) → k ≤ 8 → numbersOf k bs ≡ none

@@ -1,5 +1,6 @@
 // One number in nine columns: right-justified with blanks, no leading zeros, zero is "0".
 ghost use mathlib.Core.Path.{_≡_};
+ghost use mathlib.Core.Bool.{true};
 ghost use Prim.Native.Nat.{_+_, _≤_};
 ghost use lib.ListN.{length, take, drop};
 ghost use Rattle.columns.specs.Group.{lead, group, numberOf, put};
@@ -44,6 +45,9 @@ fn lead_at(s: &[u8], at: usize) -> u32
     requires { ⌜ at + 8 ≤ length (now s) ⌝ }
     ensures { λ r. ⌜ Columns (take 8 (drop at (now (s .entry)))) 8 r ⌝ }
 {
+    if blank_at(s, at) {
+        return 0;
+    }
     let mut v: u32 = 0;
     let mut i: usize = 0;
     while i < 8 {
@@ -51,6 +55,24 @@ fn lead_at(s: &[u8], at: usize) -> u32
         i += 1;
     }
     v
+}
+
+// Whether the eight columns before the last are blank, as those of a digit alone are: the eighth is looked at first, since every greater number shows there.
+fn blank_at(s: &[u8], at: usize) -> bool
+    requires { ⌜ at + 8 ≤ length (now s) ⌝ }
+    ensures { λ r. ⌜ (r ≡ true → Columns (take 8 (drop at (now (s .entry)))) 8 0) ⌝ }
+{
+    if s[at + 7] != 32 {
+        return false;
+    }
+    let mut i: usize = 0;
+    while i < 7 {
+        if s[at + i] != 32 {
+            return false;
+        }
+        i += 1;
+    }
+    true
 }
 
 // The value after one more column before the last: v, then the byte b.

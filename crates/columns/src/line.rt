@@ -6,12 +6,41 @@ ghost use mathlib.Core.Path.{_≡_};
 ghost use Prim.Native.Nat.{_+_, _*_, _≤_};
 ghost use lib.ListN.{length, drop};
 ghost use Rattle.columns.specs.Group.{put};
-ghost use Rattle.columns.specs.Line.{lineOf, numbersOf, lineFrom, malformedLine};
+ghost use Rattle.columns.specs.Line.{lineOf, numbersOf, lineFrom, malformedLine, CompleteAs};
 
 // The numbers of a line, the kind first, then zeros; all zeros where it is not of the form.
 pub struct Line {
     pub good: bool,
     pub numbers: [u32; 8],
+}
+
+// How many numbers the line has that stands at a position; or no line of at most eight numbers stands there.
+pub enum Complete {
+    Numbers(usize),
+    Nothing,
+}
+
+// The line at a position, its end found as its numbers are read: they are written to the first places of a lent array, and what is behind them stays.
+pub fn complete_line(s: &[u8], at: usize, numbers: &mut [u32; 8]) -> Complete
+    ensures { λ r. ⌜ (length (now (numbers .entry)) ≡ 8 → CompleteAs (drop at (now (s .entry))) (now (numbers .entry)) (now (numbers .exit)) r) ⌝ }
+{
+    let mut p = at;
+    let mut i: usize = 0;
+    while p < s.len() {
+        if s[p] == 10 {
+            return Complete::Numbers(i);
+        }
+        if i == 8 {
+            return Complete::Nothing;
+        }
+        let Number::Value(n) = number_at(s, p) else {
+            return Complete::Nothing;
+        };
+        numbers[i] = n;
+        p += 9;
+        i += 1;
+    }
+    Complete::Nothing
 }
 
 // The line of k numbers at a position.
@@ -20,26 +49,16 @@ pub fn line_at(s: &[u8], at: usize, k: usize) -> Line
     ensures { λ r. ⌜ r ≡ lineFrom (numbersOf k (drop at (now (s .entry)))) ⌝ }
 {
     let mut numbers = [0u32; 8];
-    let mut p = at;
-    let mut i: usize = 0;
-    while i < k {
-        let Number::Value(n) = number_at(s, p) else {
-            return malformed();
-        };
-        numbers[i] = n;
-        p += 9;
-        i += 1;
-    }
-    if s.len() <= p {
+    let Complete::Numbers(found) = complete_line(s, at, &mut numbers) else {
+        return malformed();
+    };
+    if found != k {
         return malformed();
     }
-    if s[p] == 10 {
-        return Line {
-            good: true,
-            numbers,
-        };
+    Line {
+        good: true,
+        numbers,
     }
-    malformed()
 }
 
 fn malformed() -> Line
