@@ -4,4 +4,5 @@ pub mod CodeWords
 pub mod CodeLine
 pub mod CodeJobLines
 pub mod CodeText
+pub mod LineWithin
 pub mod CodeSplits

@@ -3,5 +3,6 @@ pub mod Judged
 pub mod Begun
 pub mod LineEnd
 pub mod Standing
+pub mod Within
 pub mod JobRead
 pub mod Parts

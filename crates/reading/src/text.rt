@@ -5,7 +5,10 @@ ghost use Prim.Native.Nat.{suc, _+_, _≤_, _<_};
 ghost use lib.ListN.{length};
 ghost use Rattle.texts.specs.Reader.{maxLines, longestLine};
 ghost use Rattle.reading.specs.Standing.{TextAt, TextReady, lineEnds, Rest};
+ghost use Rattle.reading.specs.Within.{Within};
 use crate::pending::Pending;
+use columns::line::Complete;
+use columns::line::complete_line;
 
 // What comes next: line 1, line 2 of a type, the body, line 5 of a type, line 6 of a plate type, or nothing more.
 pub enum Place {
@@ -62,6 +65,24 @@ impl TextReader {
             refusal: 0,
             pending: Pending::none(),
         }
+    }
+
+    // The line that begins at `at`, where the text goes on and none has begun before, if it is of the form and ends in the part: how many numbers it has,
+    // which are written to the first places of a lent array.
+    pub fn line_within(self, part: &[u8], at: usize, numbers: &mut [u32; 8]) -> Complete
+        ensures { λ r. ⌜ (length (now (numbers .entry)) ≡ 8 → Within self (now (part .entry)) at (now (numbers .exit)) r) ⌝ }
+    {
+        if self.refusal != 0 {
+            return Complete::Nothing;
+        }
+        if self.lines >= 99999 {
+            return Complete::Nothing;
+        }
+        let pending = self.pending;
+        if pending.length != 0 {
+            return Complete::Nothing;
+        }
+        complete_line(part, at, numbers)
     }
 
     // Whether a line ends at `end` of a part of `size` bytes, where it has begun before the part or at `at`.
