@@ -94,6 +94,14 @@ module _ (part : List ℕ) (at end : ℕ) (f : FoldReader) (job layouts : List �
           ∙ w .held in
           w .read ∙ ap (λ (l : List ℕ). some l) (sym held)
 
+-- a line that was read to its end
+pub within-step :
+    {f f′ : FoldReader} {job layouts job′ layouts′ : List ℕ} (xs ns : List ℕ)
+    → ((bs : List ℕ) → Begun (f .text .pending) bs → readLine (bs ++ xs) ≡ some ns)
+    → Step (λ r. lineRead foldGrammar r (some ns)) f job layouts f′ job′ layouts′
+    → Step (λ r. lineRead foldGrammar r (readLine (r .pending ++ xs))) f job layouts f′ job′ layouts′
+within-step xs ns reads s = record { ready = s .ready; kept = λ r k. rw (reads (r .pending) (k .text .begun)) (s .kept r k) }
+
 -- ---- part by part
 
 -- up to `at` the part has been fed: what is left of it makes of the reader that is kept what the whole makes of the first

@@ -10,6 +10,7 @@ ghost use Rattle.texts.specs.FoldText.{foldGrammar};
 ghost use Rattle.reading.specs.LineEnd.{LineEnd};
 ghost use Rattle.reading.specs.Standing.{lineEnds};
 ghost use Rattle.fold_reader.specs.FoldKept.{FoldReady, Step, Started, Fed};
+use columns::line::Complete;
 use job::words::clear;
 use reading::scan::line_end;
 use reading::text::TextReader;
@@ -56,6 +57,13 @@ impl FoldReader {
         let mut at: usize = 0;
         while at < part.len() {
             let text = reader.text;
+            let mut numbers = [0u32; 8];
+            if let Complete::Numbers(k) = text.line_within(part, at, &mut numbers) {
+                let end = at + 9 * k;
+                reader = reader.numbers(&numbers[..k], job, layouts);
+                at = end + 1;
+                continue;
+            }
             let rows = reader.rows;
             let pending = text.pending;
             let held = pending.length;
