@@ -11,13 +11,12 @@ use lib.ListN.{length, getD}
 use borrow.Author.Tests.{eq-eqb, ne-eqb, eqb-true, eqb-false, ltb-true, ltb-false}
 use Rattle.job.specs.Job.{Job}
 use Rattle.listing.specs.Listing.{Cut, Listing, noCut, cutAt}
-use Rattle.listing.specs.Holds.{cutOf as cut}
 use Rattle.listing.specs.Model.{Before, Model}
 use Rattle.plan.specs.Plan.{onPlate, ofItem}
 use Rattle.layouts.specs.Fold.{cutFrom, cutOf}
 use Rattle.tester.specs.CutRead.{cutRead, cutsRead}
 use Rattle.tester.proofs.CodeCuts.{length-cutsFrom, cut-read}
-use Rattle.finding.specs.Rising.{Rising, earlier}
+use Rattle.finding.specs.Rising.{Rising, earlier, pairOf, Narrowed}
 
 -- the cuts of a model rise
 pub model-rising : (job : Job) (l : Listing) → Model job l → Rising (l .cuts)
@@ -30,10 +29,6 @@ before-trans c d e (inl a) (inl b) = inl (omega arith)
 before-trans c d e (inl a) (inr b) = inl (omega (arith, b .0))
 before-trans c d e (inr a) (inl b) = inl (omega (arith, a .0))
 before-trans c d e (inr a) (inr b) = inr (a .0 ∙ b .0, omega (arith, a .1, b .1))
-
--- a pair, as a cut that leaves nothing
-abbrev pub pairOf : ℕ → ℕ → Cut
-pairOf j i = cut j i 0 0
 
 -- the test decides whether a cut comes before a pair
 earlier-true : (j i : ℕ) (c : Cut) → earlier j i c ≡ true → Before c (pairOf j i)
@@ -53,11 +48,6 @@ earlier-false j i c h b = go (eqb (c .plate) j) refl h b
     go true e h (inr b) = omega (arith, ltb-false (c .item) i h, b .1)
     go false e h (inl b) = omega (arith, ltb-false (c .plate) j h)
     go false e h (inr b) = eqb-false _ _ e (b .0)
-
--- the cuts before place a come before the pair, those from place b on do not
-pub record Narrowed (cs : List Cut) (j i a b : ℕ) : Type 0 where
-  pub below : (c : ℕ) → c < a → Before (getD cs c noCut) (pairOf j i)
-  pub above : (c : ℕ) → b ≤ c → c < length cs → Before (getD cs c noCut) (pairOf j i) → ⊥
 
 -- nothing is said of no cuts
 pub narrowed-start : (cs : List Cut) (j i b : ℕ) → length cs ≤ b → Narrowed cs j i 0 b
