@@ -11,7 +11,7 @@ ghost use Rattle.finding.specs.Rising.{Rising};
 ghost use Rattle.texts.specs.SawText.{Counted, namedCut};
 ghost use Rattle.saw_body.specs.PlanRead.{firstLine, counted, PlanKept};
 use finding::search::Found;
-use finding::search::find_cut;
+use finding::search::find_cut_near;
 use job::counters::CutNumber;
 use job::counters::ItemType;
 use job::counters::PlateType;
@@ -36,13 +36,13 @@ fn first_line(known: u32, here: bool, line: u32) -> u32
     0
 }
 
-// The number of the cut of plate type j and item type i, 0 where there is none.
-fn cut_named(cuts: &[u16], k: CutNumber, j: PlateType, i: ItemType) -> CutNumber
+// The number of the cut of plate type j and item type i, 0 where there is none: looked for behind the last cut named, since the cuts of a plan rise.
+fn cut_named(cuts: &[u16], k: CutNumber, last: CutNumber, j: PlateType, i: ItemType) -> CutNumber
     requires { ⌜ 4 * k .0 ≤ length (now cuts) ⌝ }
     ensures { λ r. ⌜ ((l : Listing) → l .cuts ≡ cutsRead (k .0) (now (cuts .entry)) → Rising (l .cuts) → r .0 ≡ cutOf l (j .0) (i .0)) ⌝ }
     ensures { λ r. ⌜ r .0 ≤ k .0 ⌝ }
 {
-    let Found::At(c) = find_cut(cuts, k, j, i) else {
+    let Found::At(c) = find_cut_near(cuts, k, last, j, i) else {
         return CutNumber(0);
     };
     c
@@ -104,7 +104,8 @@ impl PlanLines {
         requires { ⌜ (0 < line) × ((4 * k .0 ≤ length (now cuts)) × (k .0 ≤ length (now counts))) ⌝ }
         ensures { λ p. ⌜ ((l : Listing) (first : ℕ) (rs : List Counted) → l .cuts ≡ cutsRead (k .0) (now (cuts .entry)) → Rising (l .cuts) → first + length rs ≡ line → PlanKept l first rs self (now (counts .entry)) → PlanKept l first (rs ++ counted (j .0) (i .0) count ∷ []) p (now (counts .exit))) ⌝ }
     {
-        let c = cut_named(cuts, k, j, i);
+        let last = self.last;
+        let c = cut_named(cuts, k, last, j, i);
         self.named(line, c, count, counts)
     }
 }

@@ -7,12 +7,12 @@ use Rattle.saw_body.proofs.plan_lines.cut_named.Statement.{statement}
 use Rattle.saw_body.proofs.plan_lines.cut_named.Tie as tie
 
 returns : tie.Need-returns
-returns c = (λ l e r. sym (ap numberOf (c .enum-told .given .1)) ∙ c .before .before .find-cut .ensures .0 l e r, omega arith)
+returns c = (λ l e r. sym (ap numberOf (c .enum-told .given .1)) ∙ c .before .before .find-cut-near .ensures .0 l e r, omega arith)
 
 returns-2 : tie.Need-returns-2
 returns-2 c =
     let found = c .before .c .given .1 in
-    let search = c .before .before .before .find-cut in
+    let search = c .before .before .before .find-cut-near in
     let among : Among (c .before .before .before .before .before .args .k .0) (search .result) = search .ensures .1 in
     (λ l e r. sym (ap numberOf found) ∙ search .ensures .0 l e r, (rw found at among) .1)
 

@@ -12,7 +12,7 @@ use Rattle.saw_body.proofs.plan_lines.PlanLines.more.Tie as tie
 returns : tie.Need-returns
 unfolding namedCut
 returns c l first rs e rising here kept =
-    let a = c .before .before .before .before .before .before .before .args in
+    let a = c .before .before .before .before .before .before .before .before .args in
     let found = c .before .before .before .before .cut-named in
     let k : length (l .cuts) ≡ a .k .0 = ap length e ∙ length-cutsFrom (a .k .0) 0 (a .cuts .now) in
     c .before .before .named .ensures l first rs (counted (a .j .0) (a .i .0) (a .count)) here (found .ensures .0 l e rising) (omega (arith, k, found .ensures .1)) refl kept
