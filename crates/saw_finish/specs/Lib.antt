@@ -1,0 +1,2 @@
+-- The definitions of this crate: room for the end of a saw text.
+pub mod EndRoom

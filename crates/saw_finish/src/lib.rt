@@ -1,0 +1,3 @@
+// The end of a saw text by any state: the job is listed afresh.
+pub mod afresh;
+pub mod finish;
