@@ -12,6 +12,7 @@ ghost use Rattle.reading.specs.LineEnd.{LineEnd};
 ghost use Rattle.reading.specs.Standing.{lineEnds};
 ghost use Rattle.saw_lines.specs.SawKept.{lent};
 ghost use Rattle.saw_reader.specs.SawFed.{NoneHeld, SawReady, Step, Started, Fed};
+use columns::line::Complete;
 use job::words::clear;
 use lister::list::Listed;
 use reading::scan::line_end;
@@ -158,6 +159,13 @@ impl SawReader {
         let mut at: usize = 0;
         while at < part.len() {
             let text = reader.text;
+            let mut numbers = [0u32; 8];
+            if let Complete::Numbers(k) = text.line_within(part, at, &mut numbers) {
+                let end = at + 9 * k;
+                reader = reader.numbers(&numbers[..k], job, plates, cuts, counts, prices);
+                at = end + 1;
+                continue;
+            }
             let held = reader.held;
             let pending = text.pending;
             let begun = pending.length;
