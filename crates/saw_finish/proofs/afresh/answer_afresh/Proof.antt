@@ -41,12 +41,12 @@ returns c s plates cuts room w =
     absurd (omega (arith, few-types s (a .held) (lent (now (a .job)) plates cuts (now (a .counts)) (now (a .prices))) room w, c .if1 .taken))
 
 slice-aggregate-list : tie.Need-slice-aggregate-list
-slice-aggregate-list c = let s = c .before .before .before .before .before .before .before .before in words-there (now (s .args .job)) (s .pre .0) (c .before .if1 .left)
+slice-aggregate-list c = let s = c .before .before .before .before .before .before .before .before in words-there (now (s .args .job)) (s .pre .0) (omega (arith, c .before .if1 .left))
 
 slice-aggregate-answer-listed : tie.Need-slice-aggregate-answer-listed
 slice-aggregate-answer-listed c =
     let s = c .before .before .before .before .before .before .before .before .before .before .before .before .before .before .before .before .before .before .before in
-    words-there (now (s .args .job)) (s .pre .0) (c .before .before .before .before .before .before .before .before .before .before .before .before .if1 .left)
+    words-there (now (s .args .job)) (s .pre .0) (omega (arith, c .before .before .before .before .before .before .before .before .before .before .before .before .if1 .left))
 
 refuse-requires : tie.Need-refuse-requires
 refuse-requires c κs = c .before .before .before .before .before .before .before .before .before .before .before .before .before .before .before .before .before .pre .1 .for-out
