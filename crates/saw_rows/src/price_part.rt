@@ -18,10 +18,10 @@ ghost use Rattle.saw_rows.specs.Tail.{PricesGiven, PricesEnd};
 use job::counters::CutNumber;
 use job::counters::ItemType;
 use job::counters::PlateType;
-use saw_body::price_lines::PriceLines;
 use pricer::prices::PriceAnswer;
 use pricer::prices::price_rows;
 use pricer::prices::price_words;
+use saw_body::price_lines::PriceLines;
 use tester::row::Row;
 
 // The prices row of lines 4, 5 and 6: 13 where the n or the m of line 4 is not the model's; then 14 of the price words.
