@@ -1,8 +1,9 @@
 // One number in nine columns: right-justified with blanks, no leading zeros, zero is "0".
 ghost use mathlib.Core.Path.{_≡_};
 ghost use mathlib.Core.Bool.{true};
-ghost use Prim.Native.Nat.{_+_, _≤_};
-ghost use lib.ListN.{length, take, drop};
+ghost use mathlib.Core.List.{List};
+ghost use Prim.Native.Nat.{ℕ, _+_, _≤_};
+ghost use lib.ListN.{length, getD, take, drop};
 ghost use Rattle.columns.specs.Group.{lead, group, numberOf, put};
 ghost use Rattle.columns.specs.Columns.{Column, Columns};
 ghost use Rattle.columns.specs.Group.{mark as mark·of};
@@ -26,8 +27,17 @@ pub fn number_at(s: &[u8], at: usize) -> Number
     if s.len() - at < 9 {
         return Number::Malformed;
     }
-    let v = lead_at(s, at);
     let b = s[at + 8];
+    if blank_at(s, at) {
+        return with_last(0, b);
+    }
+    with_last(lead_at(s, at), b)
+}
+
+// The number of nine columns: v is the value of the eight before the last, and b the byte of the last.
+fn with_last(v: u32, b: u8) -> Number
+    ensures { λ r. ⌜ ((s : List ℕ) (at : ℕ) → at + 9 ≤ length s → Columns (take 8 (drop at s)) 8 v → getD s (at + 8) 0 ≡ b → r ≡ numberOf (take 9 (drop at s))) ⌝ }
+{
     if v >= 100_000_000 {
         return Number::Malformed;
     }
@@ -45,9 +55,6 @@ fn lead_at(s: &[u8], at: usize) -> u32
     requires { ⌜ at + 8 ≤ length (now s) ⌝ }
     ensures { λ r. ⌜ Columns (take 8 (drop at (now (s .entry)))) 8 r ⌝ }
 {
-    if blank_at(s, at) {
-        return 0;
-    }
     let mut v: u32 = 0;
     let mut i: usize = 0;
     while i < 8 {

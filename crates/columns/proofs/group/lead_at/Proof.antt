@@ -15,9 +15,6 @@ Inv-loop s at v₀ i₀ v i = (i ≤ 8) × Columns (take i (drop at s)) i v
 abbrev μ-loop : tie.MeasureT-loop
 μ-loop s at v₀ i₀ v i = 8 - i
 
-returns : tie.Need-returns Inv-loop μ-loop
-returns c = c .before .blank-at .ensures (c .if1 .taken)
-
 loop-holds : tie.Need-loop-holds Inv-loop μ-loop
 loop-holds c = (omega arith, columns-none)
 
@@ -39,11 +36,11 @@ loop-less c = search needs
 loop-again : tie.Need-loop-again Inv-loop μ-loop
 loop-again c =
     let l = c .before .before .before .loop in
-    let a = c .before .before .before .before .before .before .before .args in
+    let a = c .before .before .before .before .before .args in
     (omega arith, columns-step (a .s .now) (a .at) (l .i) _ _ (omega arith) (l .inv .1) (c .column .ensures))
 
-returns-2 : tie.Need-returns-2 Inv-loop μ-loop
-returns-2 c =
+returns : tie.Need-returns Inv-loop μ-loop
+returns c =
     let l = c .before .loop in
     let e : l .i ≡ 8 = omega arith in
     rw e at (l .inv .1)
@@ -51,4 +48,4 @@ returns-2 c =
 pub lead-at-spec : {M : Type 1} → statement M
 lead-at-spec =
     tie.close
-    (tie.spec Inv-loop μ-loop (λ c κs. search needs) returns loop-holds add-column shared-slice-read-column column-requires add-i loop-less loop-again returns-2)
+    (tie.spec Inv-loop μ-loop loop-holds add-column shared-slice-read-column column-requires add-i loop-less loop-again returns)
