@@ -1,10 +1,13 @@
-//! Every example of docs/FORMAT.md, run by the second implementation: the answers, the listings, and an
-//! explanation of each refusal.
+//! Every example of docs/FORMAT.md, run by the second implementation, or by the programs `saw` and `fold` of the
+//! folder that PROGRAMS names: the answers, the listings, and an explanation of each refusal.
 
 use office::answer::refusal;
 use office::explain::explain;
 use std::collections::HashMap;
-use std::fs;
+use std::io::Write;
+use std::path::Path;
+use std::process::{Command, Stdio};
+use std::{env, fs};
 
 /// A marked block: the words of its mark and its lines.
 struct Block {
@@ -26,12 +29,27 @@ impl Example {
 
     fn answer(&self) -> String {
         let text = self.text();
-        let answer = match self.fold {
-            true => reference::fold_text(text.as_bytes()),
-            false => reference::saw_text(text.as_bytes()),
+        let answer = match (env::var_os("PROGRAMS"), self.fold) {
+            (Some(folder), fold) => {
+                let name = if fold { "fold" } else { "saw" };
+                answer_of(&Path::new(&folder).join(name), text.as_bytes())
+            }
+            (None, true) => reference::fold_text(text.as_bytes()),
+            (None, false) => reference::saw_text(text.as_bytes()),
         };
         String::from_utf8(answer).unwrap()
     }
+}
+
+/// What a program writes when it reads a text.
+fn answer_of(program: &Path, text: &[u8]) -> Vec<u8> {
+    let mut child = Command::new(program)
+        .stdin(Stdio::piped())
+        .stdout(Stdio::piped())
+        .spawn()
+        .unwrap();
+    child.stdin.take().unwrap().write_all(text).unwrap();
+    child.wait_with_output().unwrap().stdout
 }
 
 /// The marked blocks of the handbook, in order.

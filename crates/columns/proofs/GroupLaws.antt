@@ -10,7 +10,7 @@ use native.Mathlib.Decide.{ℕ-discrete}
 use native.Mathlib.Numerals.{add-one}
 use native.Mathlib.Omega.{arith}
 use lib.ListN.{drop-of-length-le, set, take-append-drop, length, take, drop, getD, length-append, length-take, length-drop}
-use lib.Seq.{take-at, drop-at, take-suc, drop-drop, drop-cons, getD-drop, set-at, length-take-le}
+use lib.Seq.{getD-append-add, getD-take, take-at, drop-at, take-suc, drop-drop, drop-cons, getD-drop, set-at, length-take-le}
 use lib.Dec.{eqb}
 use borrow.Author.Tests.{eq-eqb, ne-eqb, eqb-true}
 use Rattle.columns.specs.declared.group.Number.{Number}
@@ -165,6 +165,16 @@ pub number-fits : (s : List ℕ) (at n : ℕ) → numberOf (take 9 (drop at s)) 
 number-fits s at n e =
     let q : length (take 9 (drop at s)) ≡ 9 = ap length (number-value _ n e .0) ∙ length-group n in
     omega (arith, simp (length-take, length-drop) at q)
+
+-- a number ends in a digit
+pub number-last : (s : List ℕ) (at : ℕ) → ((n : ℕ) → 48 + n % 10 ≡ getD s (at + 8) 0 → ⊥) → numberOf (take 9 (drop at s)) ≡ Malformed
+unfolding group
+number-last s at f =
+    number-none _
+    (λ n l e.
+    let q : length (lead 8 (n / 10)) + 0 ≡ 8 = omega (arith, length-lead 8 (n / 10)) in
+    let g : getD (group n) 8 0 ≡ 48 + n % 10 = rw q at (getD-append-add (lead 8 (n / 10)) ((48 + n % 10) ∷ []) 0 0) in
+    f n (sym g ∙ ap (λ (bs : List ℕ). getD bs 8 0) (sym e) ∙ getD-take 9 (drop at s) 8 0 (omega arith) ∙ getD-drop at s 8 0))
 
 module _ (s : List ℕ) (at v : ℕ) (h : at + 9 ≤ length s) (p : Columns (take 8 (drop at s)) 8 v) where
   nine : take 9 (drop at s) ≡ take 8 (drop at s) ++ (getD s (at + 8) 0 ∷ [])

@@ -1,9 +1,8 @@
 // One number in nine columns: right-justified with blanks, no leading zeros, zero is "0".
 ghost use mathlib.Core.Path.{_≡_};
 ghost use mathlib.Core.Bool.{true};
-ghost use mathlib.Core.List.{List};
-ghost use Prim.Native.Nat.{ℕ, _+_, _≤_};
-ghost use lib.ListN.{length, getD, take, drop};
+ghost use Prim.Native.Nat.{_+_, _≤_};
+ghost use lib.ListN.{length, take, drop};
 ghost use Rattle.columns.specs.Group.{lead, group, numberOf, put};
 ghost use Rattle.columns.specs.Columns.{Column, Columns};
 ghost use Rattle.columns.specs.Group.{mark as mark·of};
@@ -28,26 +27,21 @@ pub fn number_at(s: &[u8], at: usize) -> Number
         return Number::Malformed;
     }
     let b = s[at + 8];
-    if blank_at(s, at) {
-        return with_last(0, b);
-    }
-    with_last(lead_at(s, at), b)
-}
-
-// The number of nine columns: v is the value of the eight before the last, and b the byte of the last.
-fn with_last(v: u32, b: u8) -> Number
-    ensures { λ r. ⌜ ((s : List ℕ) (at : ℕ) → at + 9 ≤ length s → Columns (take 8 (drop at s)) 8 v → getD s (at + 8) 0 ≡ b → r ≡ numberOf (take 9 (drop at s))) ⌝ }
-{
-    if v >= 100_000_000 {
-        return Number::Malformed;
-    }
     if b < 48 {
         return Number::Malformed;
     }
     if b > 57 {
         return Number::Malformed;
     }
-    Number::Value(v * 10 + ((b - 48) as u32))
+    let last = (b - 48) as u32;
+    if blank_at(s, at) {
+        return Number::Value(last);
+    }
+    let v = lead_at(s, at);
+    if v >= 100_000_000 {
+        return Number::Malformed;
+    }
+    Number::Value(v * 10 + last)
 }
 
 // The value of the eight columns before the last.
