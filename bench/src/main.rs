@@ -11,16 +11,7 @@ mod count;
 mod report;
 mod subjects;
 mod task;
-mod text_engine;
 mod time;
-
-#[path = "../../differential/src/engine.rs"]
-mod engine;
-#[path = "../../differential/src/longest.rs"]
-mod longest;
-#[allow(dead_code)]
-#[path = "../../differential/src/text.rs"]
-mod text;
 
 use task::{measured_call, Call, Lent, Side};
 

@@ -1,8 +1,8 @@
 //! The inputs of the measurements, by name: jobs of `data/`, and texts at the limits.
 
-use crate::longest::{long_texts, longest, of_job};
 use crate::task::{Call, Input};
-use crate::text::Text;
+use inputs::longest::{long_texts, longest, of_job};
+use inputs::Text;
 use reference::instances::all_jobs;
 use reference::instances::inputs::Inputs;
 use reference::instances::limit_jobs::limit_jobs;

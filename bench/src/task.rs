@@ -1,7 +1,6 @@
 //! What is measured: a call on an input, by the engine and by the reference.
 
-use crate::engine;
-use crate::text_engine;
+use differential::{engine, text_engine};
 use reference::buffers::{COUNTS, CUTS, PLACEMENTS, PLATES};
 use reference::calls;
 use std::hint::black_box;

@@ -1,8 +1,8 @@
 //! One call on one input, by the engine and by the reference.
 
-use crate::engine::Answer;
 use crate::lent::MARGIN;
 use crate::table::{Call, Input};
+use differential::engine::Answer;
 use std::thread::{scope, Builder};
 
 /// SAW_STACK of include/saw_engine.h.

@@ -1,4 +1,4 @@
-//! The engine's functions, as include/saw_engine.h declares them.
+//! The engine's five calls, as include/saw_engine.h declares them.
 
 /// What a call leaves: the refusal number or 0, the first value or the place, the second value.
 pub type Answer = [u32; 3];
@@ -6,7 +6,7 @@ pub type Answer = [u32; 3];
 /// What `answer` holds before a call.
 const OLD: Answer = [0xDEAD_BEEF; 3];
 
-#[link(name = "engine", kind = "static")]
+#[link(name = "engine", kind = "static", modifiers = "-bundle")]
 extern "C" {
     fn saw_list(
         job: *const u16,

@@ -1,7 +1,7 @@
 //! Buffers lent to a call: of full size, longer or shorter, filled with arbitrary words, and with
 //! words before and after them that no call may touch.
 
-use crate::random::Random;
+use inputs::Random;
 use reference::buffers::Kind;
 
 /// The words before a lent buffer, and as many after it.

@@ -10,27 +10,16 @@
 use std::process::ExitCode;
 
 mod compare;
-mod engine;
 mod lent;
 mod own;
-mod subjects;
 mod table;
 mod tally;
 
-#[allow(dead_code)]
-#[path = "../../reference/src/bin/definition-theorems/damage.rs"]
-mod damage;
-#[allow(dead_code)]
-#[path = "../../reference/src/bin/definition-theorems/inputs.rs"]
-mod inputs;
-#[path = "../../reference/src/bin/definition-theorems/random.rs"]
-mod random;
-
 use compare::compare;
-use damage::damage_job;
+use inputs::damage::damage_job;
+use inputs::subjects::{Known, Subject};
+use inputs::Random;
 use lent::{Junk, MARGIN};
-use random::Random;
-use subjects::{Known, Subject};
 use table::{Call, Input, CALLS};
 use tally::Tally;
 
@@ -45,7 +34,7 @@ impl Source {
     fn new(seed: u64) -> Source {
         let mut random = Random::new(seed);
         let junk = Junk::new(&mut random);
-        let known = Known::new();
+        let known = Known::of_data();
         Source {
             random,
             junk,
@@ -93,7 +82,7 @@ fn run(call: &Call, source: &mut Source, inputs: usize) -> Result<Tally, String>
     let mut tally = Tally::new();
     for number in 0..inputs {
         let input = source.input(call, number);
-        let answer = compare(call, &input, number < source.known.len())
+        let answer = compare(call, &input, number < source.known.count())
             .map_err(|difference| format!("{}: {difference}", describe(call, &input)))?;
         tally.add(answer);
     }

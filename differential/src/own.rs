@@ -1,8 +1,8 @@
 //! The words that a call takes besides the job's: counts, prices or layouts, valid, at a limit, or damaged.
 
-use crate::damage::{damage_order, damage_words, Words};
-use crate::random::Random;
-use crate::subjects::Subject;
+use inputs::damage::{damage_order, damage_words, Words};
+use inputs::subjects::Subject;
+use inputs::Random;
 use reference::buffers::COUNTS;
 
 #[derive(Clone, Copy)]

@@ -1,9 +1,9 @@
 //! The calls: for each its own words, the buffers that it is lent, the refusal numbers that it can
 //! give, its largest values, and itself in the engine and in the reference.
 
-use crate::engine::{self, Answer};
 use crate::lent::MARGIN;
 use crate::own::Own;
+use differential::engine::{self, Answer};
 use reference::buffers::{Kind, COUNTS, CUTS, PLACEMENTS, PLATES};
 use reference::{calls, Refusal};
 

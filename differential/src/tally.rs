@@ -1,7 +1,7 @@
 //! What a call answered: how often each number, and the largest values.
 
-use crate::engine::Answer;
 use crate::table::Call;
+use differential::engine::Answer;
 use std::fmt;
 
 /// One past the largest refusal number.

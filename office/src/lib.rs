@@ -1,5 +1,5 @@
-//! Office kit of the beam saw: it reads and writes the texts of docs/FORMAT.md, and knows of the
-//! saw nothing else.
+//! Office kit of the beam saw: it reads and writes the texts of docs/FORMAT.md, lists by the
+//! reference's walk, and knows of the saw nothing else.
 
 pub mod answer;
 pub mod columns;

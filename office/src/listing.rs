@@ -1,16 +1,13 @@
-//! The listing: plate types and cuts of a job, numbered by the walk (docs/FORMAT.md, "Plate types
-//! and cuts").
+//! The listing: plate types and cuts of a job, numbered by the reference's walk (docs/FORMAT.md,
+//! "Plate types and cuts").
 
 use crate::job::{Item, Job};
-use std::collections::HashMap;
-
-/// The most plate types, type 0 among them.
-pub const MOST_PLATE_TYPES: usize = 2_048;
-/// The most cuts.
-pub const MOST_CUTS: usize = 8_192;
+use reference::listing::FULL;
+use reference::refusal::TOO_MANY_CUTS;
+use reference::{Mode, Refusal};
 
 /// A plate type: width, height and stage.
-#[derive(Debug, Clone, Copy, PartialEq, Eq, Hash)]
+#[derive(Debug, Clone, Copy, PartialEq, Eq)]
 pub struct Plate {
     pub width: usize,
     pub height: usize,
@@ -34,40 +31,19 @@ pub struct Listing {
 }
 
 impl Plate {
-    /// Whether the item may be cut from this plate: it fits, and in 2E at stage 2 it is just as
-    /// high, in 3E at stage 3 just as wide as the plate.
-    pub fn may_cut(&self, job: &Job, item: Item) -> bool {
-        let fits = item.width <= self.width && item.height <= self.height;
-        let exactly = match (job.exact, job.stages, self.stage) {
-            (true, 2, 2) => item.height == self.height,
-            (true, 3, 3) => item.width == self.width,
-            _ => true,
-        };
-        fits && exactly
-    }
-
-    /// Top and right residual that cutting the item leaves, kept or not.
-    pub fn leaves(&self, job: &Job, item: Item) -> [Option<Plate>; 2] {
-        let above = self.height - item.height;
-        let beside = self.width - item.width;
-        let plate = |width, height, stage| {
-            Some(Plate {
-                width,
-                height,
-                stage,
-            })
-        };
-        match (self.stage, job.two_stage()) {
-            (1, _) => [plate(self.width, above, 1), plate(beside, item.height, 2)],
-            (2, true) => [None, plate(beside, item.height, 2)],
-            (2, false) => [plate(item.width, above, 3), plate(beside, self.height, 2)],
-            _ => [plate(item.width, above, 3), None],
-        }
-    }
-
     /// The plate in words, as "9 by 3, stage 1".
     pub fn words(&self) -> String {
         format!("{} by {}, stage {}", self.width, self.height, self.stage)
+    }
+}
+
+impl From<reference::Plate> for Plate {
+    fn from(plate: reference::Plate) -> Plate {
+        Plate {
+            width: plate.width.into(),
+            height: plate.height.into(),
+            stage: plate.stage.into(),
+        }
     }
 }
 
@@ -78,41 +54,25 @@ impl Cut {
     }
 }
 
-impl Listing {
-    /// Walks plate types in rising number and at each the item types in rising number. Each
-    /// permitted pair is the next cut; its top and then its right, if kept and new, are the next
-    /// plate types.
-    pub fn of(job: &Job) -> Result<Listing, String> {
-        let board = Plate {
-            width: job.width,
-            height: job.height,
-            stage: 1,
-        };
-        let mut listing = Listing {
-            plates: vec![board],
-            cuts: Vec::new(),
-        };
-        let mut numbers = HashMap::from([(board, 0)]);
-        let mut walked = 0;
-        while walked < listing.plates.len() {
-            let plate = listing.plates[walked];
-            for (item_type, &item) in (1..).zip(&job.items) {
-                if plate.may_cut(job, item) {
-                    listing.room_for_cut()?;
-                    let [top, right] = plate.leaves(job, item);
-                    let top = listing.number(job, &mut numbers, top)?;
-                    let right = listing.number(job, &mut numbers, right)?;
-                    listing.cuts.push(Cut {
-                        plate: walked,
-                        item: item_type,
-                        top,
-                        right,
-                    });
-                }
-            }
-            walked += 1;
+impl From<reference::Cut> for Cut {
+    fn from(cut: reference::Cut) -> Cut {
+        Cut {
+            plate: cut.plate.into(),
+            item: cut.item.into(),
+            top: cut.top.map(usize::from),
+            right: cut.right.map(usize::from),
         }
-        Ok(listing)
+    }
+}
+
+impl Listing {
+    /// The listing of a job. An error says which limit it passes.
+    pub fn of(job: &Job) -> Result<Listing, String> {
+        let walked = reference::Listing::walk(&to_walk(job), FULL).map_err(too_large)?;
+        Ok(Listing {
+            plates: walked.plates.into_iter().map(Plate::from).collect(),
+            cuts: walked.cuts.into_iter().map(Cut::from).collect(),
+        })
     }
 
     /// The number of residual types: plate types without type 0.
@@ -127,47 +87,40 @@ impl Listing {
             .binary_search_by_key(&(plate, item), |cut| (cut.plate, cut.item));
         found.ok().map(|place| place + 1)
     }
+}
 
-    /// An error if all cuts are given.
-    fn room_for_cut(&self) -> Result<(), String> {
-        match self.cuts.len() < MOST_CUTS {
-            true => Ok(()),
-            false => Err(
-                "the job has more than 8,192 cuts, and the saw refuses it with 7; \
-                          take fewer item types in one job, or a two-stage or exact mode"
-                    .into(),
-            ),
-        }
+/// The job as the reference walks it.
+fn to_walk(job: &Job) -> reference::Job {
+    let item = |item: &Item| reference::Item {
+        width: word(item.width),
+        height: word(item.height),
+        demand: word(item.demand),
+    };
+    let mode = Mode::from_numbers(word(job.stages).into(), job.exact.into());
+    reference::Job {
+        mode: mode.expect("a job has two or three stages"),
+        width: word(job.width),
+        height: word(job.height),
+        items: job.items.iter().map(item).collect(),
     }
+}
 
-    /// The number of a residual, the next one if it is new; none if no item may be cut from it.
-    fn number(
-        &mut self,
-        job: &Job,
-        numbers: &mut HashMap<Plate, usize>,
-        residual: Option<Plate>,
-    ) -> Result<Option<usize>, String> {
-        let Some(plate) = residual else {
-            return Ok(None);
-        };
-        if let Some(&number) = numbers.get(&plate) {
-            return Ok(Some(number));
-        }
-        if !job.items.iter().any(|&item| plate.may_cut(job, item)) {
-            return Ok(None);
-        }
-        let number = self.plates.len();
-        if number == MOST_PLATE_TYPES {
-            return Err(
-                "the job has more than 2,048 plate types, and the saw refuses it with 6; \
-                        take fewer item types in one job, or a two-stage or exact mode"
-                    .into(),
-            );
-        }
-        self.plates.push(plate);
-        numbers.insert(plate, number);
-        Ok(Some(number))
-    }
+/// A number of a job as a word.
+fn word(number: usize) -> u16 {
+    u16::try_from(number).expect("a job's numbers are within their limits")
+}
+
+/// What to say of a job whose walk is refused.
+fn too_large(refusal: Refusal) -> String {
+    let most = match refusal.number {
+        TOO_MANY_CUTS => "8,192 cuts",
+        _ => "2,048 plate types",
+    };
+    format!(
+        "the job has more than {most}, and the saw refuses it with {}; \
+         take fewer item types in one job, or a two-stage or exact mode",
+        refusal.number
+    )
 }
 
 #[cfg(test)]
@@ -187,6 +140,64 @@ mod tests {
         assert_eq!(sizes(&job("2E", [9, 7], &[[5, 4, 2], [3, 3, 3]])), (4, 7));
         assert_eq!(sizes(&job("3N", [5, 5], &[[3, 5, 1], [2, 2, 2]])), (4, 6));
         assert_eq!(sizes(&job("2N", [9, 7], &[[9, 7, 1]])), (0, 1));
+    }
+
+    /// A listing as docs/FORMAT.md prints it: plates, then plate, item, top and right of each cut.
+    fn printed(job: &Job) -> (Vec<String>, Vec<[usize; 4]>) {
+        let listing = Listing::of(job).unwrap();
+        let number = |residual: Option<usize>| residual.unwrap_or(0);
+        let cut = |cut: &Cut| [cut.plate, cut.item, number(cut.top), number(cut.right)];
+        (
+            listing.plates.iter().map(Plate::words).collect(),
+            listing.cuts.iter().map(cut).collect(),
+        )
+    }
+
+    #[test]
+    fn job_a_has_the_listing_of_the_handbook() {
+        let (plates, cuts) = printed(&job_a());
+        let expected = [
+            "9 by 7, stage 1",
+            "9 by 3, stage 1",
+            "4 by 4, stage 2",
+            "9 by 4, stage 1",
+            "6 by 3, stage 2",
+            "3 by 3, stage 2",
+        ];
+        assert_eq!(plates, expected);
+        let expected = [
+            [0, 1, 1, 2],
+            [0, 2, 3, 4],
+            [1, 2, 0, 4],
+            [2, 2, 0, 0],
+            [3, 1, 0, 2],
+            [3, 2, 0, 4],
+            [4, 2, 0, 5],
+            [5, 2, 0, 0],
+        ];
+        assert_eq!(cuts, expected);
+    }
+
+    #[test]
+    fn job_b_has_the_listing_of_the_handbook() {
+        let (plates, cuts) = printed(&job("3N", [5, 5], &[[3, 5, 1], [2, 2, 2]]));
+        let expected = [
+            "5 by 5, stage 1",
+            "2 by 5, stage 2",
+            "5 by 3, stage 1",
+            "3 by 2, stage 2",
+            "2 by 3, stage 3",
+        ];
+        assert_eq!(plates, expected);
+        let expected = [
+            [0, 1, 0, 1],
+            [0, 2, 2, 3],
+            [1, 2, 4, 0],
+            [2, 2, 0, 3],
+            [3, 2, 0, 0],
+            [4, 2, 0, 0],
+        ];
+        assert_eq!(cuts, expected);
     }
 
     #[test]

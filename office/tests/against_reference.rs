@@ -1,4 +1,4 @@
-//! Random jobs: listing, plan, prices and drawings against the second implementation's texts.
+//! Random jobs: listing, plan, prices and drawings against the second implementation's calls and texts.
 
 use office::answer::Answer;
 use office::draw::page;
@@ -72,7 +72,7 @@ fn words(job: &Job) -> Vec<u16> {
         .collect()
 }
 
-/// The listing as the second implementation's records.
+/// The listing as the records of the listing call.
 fn records(listing: &Listing) -> [Vec<u16>; 2] {
     let number = |residual: Option<usize>| residual.unwrap_or(0);
     let plates = listing
@@ -88,7 +88,7 @@ fn records(listing: &Listing) -> [Vec<u16>; 2] {
 }
 
 #[test]
-fn listings_are_the_second_implementations() {
+fn listings_are_those_of_the_listing_call() {
     let mut random = Random(1);
     for _ in 0..300 {
         let job = random.job();

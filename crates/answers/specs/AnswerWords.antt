@@ -1,5 +1,4 @@
 -- The three words that a call leaves to its host: the refusal number, 0 where accepted; the first value, or the place; the second value.
--- Assumes nothing.
 use Prim.Native.Nat.{ℕ}
 use mathlib.Core.Path.{_≡_}
 use mathlib.Core.Bool.{cond}

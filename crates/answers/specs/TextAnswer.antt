@@ -1,5 +1,4 @@
 -- What a host gets of a text: the bytes of its answer, at the start of the output, and how many they are.
--- Assumes nothing.
 use Prim.Native.Nat.{ℕ, _≤_, _<_}
 use mathlib.Core.Path.{_≡_}
 use mathlib.Core.List.{List}

@@ -4,6 +4,9 @@ ghost use mathlib.Core.List.{[], _∷_};
 ghost use Rattle.job.specs.Buffers.{given, refused};
 ghost use Rattle.answers.specs.AnswerWords.{placeWord, answerWords};
 
+// The largest number of a word of 32 bits; `AnswerWords` has the same as `maxWord`.
+const MAX_WORD: u32 = 4294967295;
+
 // Accepted, with a first and a second value, which is 0 where the call has one value alone.
 pub fn accept(answer: &mut [u32; 3], first: u32, second: u32)
     ensures { λ _. ⌜ now (answer .exit) ≡ answerWords (given (first ∷ second ∷ [])) ⌝ }
@@ -15,10 +18,10 @@ pub fn accept(answer: &mut [u32; 3], first: u32, second: u32)
 fn place_word(place: usize) -> u32
     ensures { λ r. ⌜ r ≡ placeWord place ⌝ }
 {
-    if place < 4294967295 {
+    if place < (MAX_WORD as usize) {
         place as u32
     } else {
-        4294967295
+        MAX_WORD
     }
 }
 

@@ -1,6 +1,5 @@
 -- The 6 by 6 example, by computation.
--- Assumes nothing.
-use mathlib.Core.Path.{_≡_, refl}
+use mathlib.Core.Path.{refl}
 use Rattle.cases.specs.Calls.{plates, cuts, counts, placements, listing, plan, unfolding′, succeeds}
 use Rattle.cases.specs.Jobs.{job6, plan6}
 use Rattle.cases.specs.Example.{plates6, cuts6, Example}

@@ -1,5 +1,4 @@
 -- One name that opens every definition, for the theorems that compute: `unfolding computed`.
--- Assumes nothing.
 use Prim.Native.Nat.{ℕ}
 use mathlib.Core.List.{flatMap}
 use Rattle.job.specs.Lists.{any, all, sumOf, maxOf, occurs, tally}
@@ -26,12 +25,12 @@ use Rattle.layouts.specs.UnfoldCall.{unfoldVerdict, unfoldingOf, unfoldAnswer, 
 use Rattle.layouts.specs.FoldCall.{foldVerdict, foldAnswer, countsEnd}
 use Rattle.columns.specs.Group.{mark, lead, group, digitsAfter, same as same·columns, numberOf, put}
 use Rattle.columns.specs.Line.{groups, lineOf, numbersOf, readLine}
-use Rattle.texts.specs.Shape.{begins, formed, limited as limited·texts, values, numbersRow, lineRow}
+use Rattle.texts.specs.Shape.{begins, formed, eachWithin, values, numbersRow, lineRow}
 use Rattle.texts.specs.Reader.{lineRead, byteTaken, byteRead, fed, textRow, written}
 use Rattle.texts.specs.JobLines.{afterType}
 use Rattle.texts.specs.SawText.{sawAdmits, afterItemPrice, afterPlatePrice, bodyRead, sawAfter, sawComplete, namedCut, cutsNamed, cutsRising, countFor, countsFrom, planCounts, priceLinesRow, sawRows, placementLine, resultLine, sawLines, sawWritten, sawText}
 use Rattle.texts.specs.FoldText.{foldAdmits, foldAfter, foldComplete, foldRows, countLines, foldLines, foldWritten, foldText}
 
 unfoldable pub computed : ℕ
-unfolding flatMap any all sumOf maxOf occurs tally lowest filled sized three exact modeOf itemAt itemsOf jobOf boardRight itemRight jobWords larger demanded admission same exactFit mayCut leaves kept plateAt cutAt numberIn entered cutDone limited pair overItems overPlates walkWithin walk modelRow listingOf residualTypes plateWords cutWords listVerdict listAnswer platesEnd cutsEnd countOf ofItem onPlate leavesPlate boards total short overdrawn countsRow planRow pricesOf lowestPrice priceWords itemPrice residualPrice priceLimit worth overLimit modelSized pricesSized pricesRow priced priceSum fewest planVerdict planAnswer priceVerdict priceAnswer widthOf heightOf stackWidth stackHeight stripHeight stripWidth boardHeight single fullStack sameHeights sameWidths stageRule boardRules layoutRules placementWords stackLines stripLines boardLines setLines linesOf itemsOfStrip itemsOfBoard itemsOfSet meetsFrom meetsDemands endX endY inside apart clear noOverlap spent search highest waitAt wait nextTurn done step openBoard placing run stepsFor unfolded rowsOf rowRight layoutWords sameTurn follows inTurn turns levelOf begun inStrip inBoard inSet beside before grouped setOf laidBoard laidSet lowestStrip breaksStage pastBoard positioned lacks layoutsRow insertBy falling firstOf without toFront ordered cutFrom cutOf stackCuts stripCuts boardCuts setCuts folded unfoldVerdict unfoldingOf unfoldAnswer placementsEnd foldVerdict foldAnswer countsEnd mark lead group digitsAfter same·columns numberOf put groups lineOf numbersOf readLine begins formed limited·texts values numbersRow lineRow lineRead byteTaken byteRead fed textRow written afterType sawAdmits afterItemPrice afterPlatePrice bodyRead sawAfter sawComplete namedCut cutsNamed cutsRising countFor countsFrom planCounts priceLinesRow sawRows placementLine resultLine sawLines sawWritten sawText foldAdmits foldAfter foldComplete foldRows countLines foldLines foldWritten foldText
+unfolding flatMap any all sumOf maxOf occurs tally lowest filled sized three exact modeOf itemAt itemsOf jobOf boardRight itemRight jobWords larger demanded admission same exactFit mayCut leaves kept plateAt cutAt numberIn entered cutDone limited pair overItems overPlates walkWithin walk modelRow listingOf residualTypes plateWords cutWords listVerdict listAnswer platesEnd cutsEnd countOf ofItem onPlate leavesPlate boards total short overdrawn countsRow planRow pricesOf lowestPrice priceWords itemPrice residualPrice priceLimit worth overLimit modelSized pricesSized pricesRow priced priceSum fewest planVerdict planAnswer priceVerdict priceAnswer widthOf heightOf stackWidth stackHeight stripHeight stripWidth boardHeight single fullStack sameHeights sameWidths stageRule boardRules layoutRules placementWords stackLines stripLines boardLines setLines linesOf itemsOfStrip itemsOfBoard itemsOfSet meetsFrom meetsDemands endX endY inside apart clear noOverlap spent search highest waitAt wait nextTurn done step openBoard placing run stepsFor unfolded rowsOf rowRight layoutWords sameTurn follows inTurn turns levelOf begun inStrip inBoard inSet beside before grouped setOf laidBoard laidSet lowestStrip breaksStage pastBoard positioned lacks layoutsRow insertBy falling firstOf without toFront ordered cutFrom cutOf stackCuts stripCuts boardCuts setCuts folded unfoldVerdict unfoldingOf unfoldAnswer placementsEnd foldVerdict foldAnswer countsEnd mark lead group digitsAfter same·columns numberOf put groups lineOf numbersOf readLine begins formed eachWithin values numbersRow lineRow lineRead byteTaken byteRead fed textRow written afterType sawAdmits afterItemPrice afterPlatePrice bodyRead sawAfter sawComplete namedCut cutsNamed cutsRising countFor countsFrom planCounts priceLinesRow sawRows placementLine resultLine sawLines sawWritten sawText foldAdmits foldAfter foldComplete foldRows countLines foldLines foldWritten foldText
 computed = 0

@@ -1,6 +1,5 @@
 -- Job A's output and its fold, by computation.
--- Assumes nothing.
-use mathlib.Core.Path.{_≡_, refl}
+use mathlib.Core.Path.{refl}
 use Rattle.cases.specs.Bytes.{bytes}
 use Rattle.cases.specs.Calls.{plates, cuts, counts, placements, unfolding′, folding, succeeds}
 use Rattle.cases.specs.Jobs.{jobA, platesA, cutsA, planA, linesA}

@@ -1,6 +1,5 @@
 -- The wrong readings, shut out by computation.
--- Assumes nothing.
-use mathlib.Core.Path.{_≡_, refl}
+use mathlib.Core.Path.{refl}
 use Rattle.cases.specs.Calls.{plates, cuts, counts, placements, listing, plan, prices, unfolding′, folding, succeeds, refuses}
 use Rattle.cases.specs.Jobs.{jobA, planA, platesA, cutsA, alone}
 use Rattle.cases.specs.Readings.{Readings, jobC, platesC, cutsC, jobD, jobN, platesN, cutsN, jobE, platesE, cutsE, jobF, linesF, jobG, linesA-low-first}

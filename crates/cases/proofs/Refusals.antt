@@ -1,6 +1,5 @@
 -- The refusals of the calls, by computation.
--- Assumes nothing.
-use mathlib.Core.Path.{_≡_, refl}
+use mathlib.Core.Path.{refl}
 use Rattle.cases.specs.Calls.{plates, cuts, counts, placements, listing, plan, prices, unfolding′, folding, succeeds, refuses}
 use Rattle.cases.specs.Jobs.{jobA, jobA2E, planA, linesA, jobB, alone}
 use Rattle.cases.specs.Refusals.{Refusals, shortPlates, shortCuts, shortCounts, shortPlacements, tooMany, manyTypes}

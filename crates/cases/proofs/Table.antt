@@ -1,6 +1,5 @@
 -- The table of cases (a) to (m), by computation.
--- Assumes nothing.
-use mathlib.Core.Path.{_≡_, refl}
+use mathlib.Core.Path.{refl}
 use Rattle.cases.specs.Calls.{plates, cuts, counts, placements, listing, plan, prices, unfolding′, succeeds, refuses}
 use Rattle.cases.specs.Jobs.{jobA, platesA, cutsA, planA, pricesA, jobA2E, platesA2E, cutsA2E, jobB, platesB, cutsB, planB, linesB, alone}
 use Rattle.cases.specs.Table.{Table}

@@ -1,6 +1,5 @@
 -- The refusals of texts, by computation.
--- Assumes nothing.
-use mathlib.Core.Path.{_≡_, refl}
+use mathlib.Core.Path.{refl}
 use Rattle.cases.specs.Bytes.{bytes}
 use Rattle.cases.specs.TextsA.{jobLinesA, planLinesA, priceLinesA}
 use Rattle.cases.specs.TextRefusals.{TextRefusals}

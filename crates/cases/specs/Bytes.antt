@@ -1,5 +1,4 @@
 -- A quoted text as the bytes of its characters.
--- Assumes nothing.
 use Prim.Native.Nat.{ℕ}
 use Prim.Native.Char.{code}
 use Prim.Native.String.{String, [] as empty, _∷_ as _followed_}

@@ -1,7 +1,6 @@
 -- The five calls on buffers of full size that hold other words beforehand: what is answered, and every word that is left.
--- Assumes nothing.
 use Prim.Native.Nat.{ℕ}
-use mathlib.Core.List.{List, [], _∷_}
+use mathlib.Core.List.{List, []}
 use lib.ListN.{replicate}
 use Rattle.job.specs.Buffers.{Answer, given, refused, filled, platesSize, cutsSize, countsSize, placementsSize}
 use Rattle.listing.specs.ListCall.{listVerdict, listAnswer, platesEnd, cutsEnd}

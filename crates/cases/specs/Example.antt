@@ -1,13 +1,11 @@
 -- Document 01, "Cases": the 6 by 6 example of source document 001, section 2.4: the plate types of its Table 4, the cuts of its Fig. 8, three boards.
--- Assumes nothing.
 use Prim.Native.Nat.{ℕ}
 use mathlib.Core.Path.{_≡_}
 use mathlib.Core.List.{List, [], _∷_, _++_}
 use lib.ListN.{replicate}
-use Rattle.layouts.specs.Unfold.{Run}
 use Rattle.layouts.specs.UnfoldCall.{unfoldingOf}
 use Rattle.job.specs.Buffers.{given}
-use Rattle.cases.specs.Calls.{listing, plan, unfolding′, succeeds, Outcome}
+use Rattle.cases.specs.Calls.{listing, plan, unfolding′, succeeds}
 use Rattle.cases.specs.Jobs.{job6, plan6}
 
 -- Table 4: six residual types after the board

@@ -1,5 +1,4 @@
 -- The jobs, plans, prices and layouts of document 01's cases, as words.
--- Assumes nothing.
 use Prim.Native.Nat.{ℕ}
 use mathlib.Core.List.{List, [], _∷_, _++_}
 

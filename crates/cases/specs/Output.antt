@@ -1,9 +1,7 @@
 -- Document 01, "Texts": job A's printed output, whole, and its fold.
--- Assumes nothing.
-use Prim.Native.Nat.{ℕ}
 use mathlib.Core.Path.{_≡_}
 use mathlib.Core.Bool.{true}
-use mathlib.Core.List.{List, [], _∷_, _++_}
+use mathlib.Core.List.{[], _∷_, _++_}
 use Rattle.job.specs.Lists.{all}
 use Rattle.job.specs.Buffers.{filled, placementsSize, countsSize}
 use Rattle.job.specs.Job.{jobOf}

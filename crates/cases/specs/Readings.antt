@@ -1,5 +1,4 @@
 -- Document 01, "Errors to shut out", and further wrong readings of the model, the plan, the prices and the layouts that cases (a) to (m) let pass: each field says what it shuts out.
--- Assumes nothing.
 use Prim.Native.Nat.{ℕ}
 use mathlib.Core.Path.{_≡_}
 use mathlib.Core.Bool.{true, false}
@@ -8,9 +7,8 @@ use lib.ListN.{replicate}
 use Rattle.job.specs.Buffers.{filled, placementsSize, countsSize}
 use Rattle.job.specs.Job.{jobOf}
 use Rattle.plan.specs.Prices.{pricesOf, fewest}
-use Rattle.layouts.specs.Unfold.{Run}
 use Rattle.layouts.specs.UnfoldCall.{unfoldingOf}
-use Rattle.cases.specs.Calls.{Outcome, listing, plan, prices, unfolding′, folding, succeeds, refuses}
+use Rattle.cases.specs.Calls.{listing, plan, prices, unfolding′, folding, succeeds, refuses}
 use Rattle.cases.specs.Jobs.{jobA, planA, platesA, cutsA, alone}
 
 -- 2N, 9 by 4: 3 by 4 once, 3 by 3 twice; cut 4, item 2 from (6, 4, 2), leaves (3, 3, 2), type 4

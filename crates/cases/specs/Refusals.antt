@@ -1,36 +1,35 @@
 -- Document 01, "Where each number is given": refusals of the calls that cases (a) to (m) leave out, their order and their places.
--- Assumes nothing.
-use Prim.Native.Nat.{ℕ}
+use Prim.Native.Nat.{ℕ, _-_, _*_}
 use mathlib.Core.Path.{_≡_}
 use mathlib.Core.List.{List, [], _∷_, _++_}
 use lib.ListN.{replicate}
-use Rattle.job.specs.Verdict.{Verdict, pass, refuse}
-use Rattle.job.specs.Buffers.{Answer, given, refused, filled, countsSize}
+use Rattle.job.specs.Sizes.{wordsOfItem, platesSize, cutsSize, countsSize, placementsSize}
+use Rattle.job.specs.Buffers.{refused}
 use Rattle.job.specs.Job.{jobOf}
-use Rattle.listing.specs.Listing.{Walk, stopped, walkWithin}
-use Rattle.listing.specs.ListCall.{listVerdict, listAnswer, platesEnd, cutsEnd}
-use Rattle.plan.specs.PlanCall.{planVerdict, planAnswer}
+use Rattle.listing.specs.Listing.{stopped, walkWithin}
+use Rattle.listing.specs.ListCall.{listVerdict, listAnswer, platesEnd}
+use Rattle.plan.specs.PlanCall.{planAnswer}
 use Rattle.plan.specs.PriceCall.{priceAnswer}
 use Rattle.layouts.specs.UnfoldCall.{unfoldVerdict, unfoldAnswer, placementsEnd}
 use Rattle.layouts.specs.FoldCall.{foldVerdict, foldAnswer, countsEnd}
-use Rattle.cases.specs.Calls.{Outcome, plates, cuts, counts, placements, listing, plan, prices, unfolding′, folding, refuses}
-use Rattle.cases.specs.Jobs.{jobA, jobA2E, planA, linesA, jobB, alone}
+use Rattle.cases.specs.Calls.{plates, cuts, counts, placements, listing, plan, prices, unfolding′, folding, refuses}
+use Rattle.cases.specs.Jobs.{jobA, jobA2E, linesA, jobB, alone}
 
 -- one word less than the plates' full size
 unfoldable pub shortPlates : List ℕ
-shortPlates = replicate 6143 7
+shortPlates = replicate (platesSize - 1) 7
 
 -- one word less than the cuts' full size
 unfoldable pub shortCuts : List ℕ
-shortCuts = replicate 32767 7
+shortCuts = replicate (cutsSize - 1) 7
 
 -- one word less than the counts' full size
 unfoldable pub shortCounts : List ℕ
-shortCounts = replicate 8191 7
+shortCounts = replicate (countsSize - 1) 7
 
 -- one word less than the placements' full size
 unfoldable pub shortPlacements : List ℕ
-shortPlacements = replicate 27999 7
+shortPlacements = replicate (placementsSize - 1) 7
 
 -- demands of 4,000 and 1
 unfoldable pub tooMany : List ℕ
@@ -38,7 +37,7 @@ tooMany = 2 ∷ 0 ∷ 9 ∷ 7 ∷ 2 ∷ 5 ∷ 4 ∷ 4000 ∷ 3 ∷ 3 ∷ 1 ∷ [
 
 -- an n of 41 with words for 41 types
 unfoldable pub manyTypes : List ℕ
-manyTypes = (2 ∷ 0 ∷ 9 ∷ 7 ∷ 41 ∷ []) ++ replicate 123 1
+manyTypes = (2 ∷ 0 ∷ 9 ∷ 7 ∷ 41 ∷ []) ++ replicate (wordsOfItem * 41) 1
 
 pub record Refusals : Type 0 where
   -- 1: job words of another length, before any limit; n is read as 0 where it is missing
@@ -86,7 +85,7 @@ pub record Refusals : Type 0 where
   -- 11 comes before 12
   pub short-before-overdrawn : plan jobA (2 ∷ 0 ∷ 0 ∷ 1 ∷ 0 ∷ 0 ∷ 1 ∷ []) ≡ refuses 11 2 []
   -- the same of unfolding, whose placements are then 0
-  pub unfold-refused : unfolding′ jobA (2 ∷ 0 ∷ 1 ∷ 3 ∷ 0 ∷ 0 ∷ 1 ∷ 0 ∷ []) ≡ refuses 12 2 (replicate 28000 0)
+  pub unfold-refused : unfolding′ jobA (2 ∷ 0 ∷ 1 ∷ 3 ∷ 0 ∷ 0 ∷ 1 ∷ 0 ∷ []) ≡ refuses 12 2 (replicate placementsSize 0)
   -- 2 of a price word comes before an item larger than the board, and that before a short buffer
   pub price-word : priceAnswer (alone 10 7) (1 ∷ 10000 ∷ []) [] [] ≡ refused 2 2
   pub denominator : prices jobA (0 ∷ 1 ∷ 0 ∷ 0 ∷ 0 ∷ 1 ∷ 0 ∷ 0 ∷ []) ≡ refuses 2 1 []

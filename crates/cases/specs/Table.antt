@@ -1,8 +1,6 @@
 -- Document 01, "Cases": (a) to (m) as one table, at the level of the calls, with every word of every lent buffer.
--- Assumes nothing.
-use Prim.Native.Nat.{ℕ}
 use mathlib.Core.Path.{_≡_}
-use mathlib.Core.List.{List, [], _∷_}
+use mathlib.Core.List.{[], _∷_}
 use Rattle.job.specs.Buffers.{filled, placementsSize}
 use Rattle.cases.specs.Calls.{listing, plan, prices, unfolding′, succeeds, refuses}
 use Rattle.cases.specs.Jobs.{jobA, platesA, cutsA, planA, pricesA, jobA2E, platesA2E, cutsA2E, jobB, platesB, cutsB, planB, linesB, alone}

@@ -1,5 +1,4 @@
 -- Document 01, "Texts": texts that are refused, the number and the place, on lines of job A.
--- Assumes nothing.
 use Prim.Native.Nat.{ℕ}
 use mathlib.Core.Path.{_≡_}
 use mathlib.Core.List.{List, [], _∷_, _++_}

@@ -1,5 +1,4 @@
 -- The texts of job A as quoted lines, each number in nine columns.
--- Assumes nothing.
 use Prim.Native.Nat.{ℕ}
 use mathlib.Core.List.{List, _++_}
 use Rattle.cases.specs.Bytes.{bytes}

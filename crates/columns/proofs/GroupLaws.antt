@@ -1,5 +1,4 @@
 -- The laws of a group: reading what was written gives the number, writing what was read gives the bytes.
--- Assumes nothing.
 use Prim.Native.Nat.{ℕ, zero, suc, _+_, _-_, _*_, _/_, _%_, _^_, _≤_, _<_}
 use mathlib.Core.Path.{_≡_, refl, sym, ap, _∙_, subst}
 use mathlib.Core.Logic.{⊎-elim, _⊎_, inl, inr}
@@ -9,20 +8,21 @@ use native.Mathlib.Nat.{add-suc, add-zero, add-assoc, pow-suc, div-lt-iff-lt-mul
 use native.Mathlib.Decide.{ℕ-discrete}
 use native.Mathlib.Numerals.{add-one}
 use native.Mathlib.Omega.{arith}
-use lib.ListN.{drop-of-length-le, set, take-append-drop, length, take, drop, getD, length-append, length-take, length-drop}
+use lib.ListN.{set, take-append-drop, length, take, drop, getD, length-append, length-take, length-drop}
 use lib.Seq.{getD-append-add, getD-take, take-at, drop-at, take-suc, drop-drop, drop-cons, getD-drop, set-at, length-take-le}
 use lib.Dec.{eqb}
 use borrow.Author.Tests.{eq-eqb, ne-eqb, eqb-true}
+use Rattle.columns.specs.Widths.{leadBytes, groupBytes}
 use Rattle.columns.specs.declared.group.Number.{Number}
 use Rattle.columns.specs.declared.group.Number.the-variants.{Value, Malformed}
-use Rattle.columns.specs.Group.{limit, mark, lead, group, digitsAfter, same, pickNumber, numberOf, put}
+use Rattle.columns.specs.Group.{limit, mark, lead, group, digitsAfter, same, pickNumber, numberOf, put, leadLimit}
 use Rattle.columns.specs.Columns.{Column, Columns}
 
 -- out is d with the columns of n from the i-th to the eighth, those of n's last columns; rest is to stand in the columns before
 pub record Writing (d out : List ℕ) (at n i rest : ℕ) : Type 0 where
   pub tail : List ℕ
-  pub here : out ≡ take (at + i) d ++ (tail ++ drop (at + 8) d)
-  pub whole : lead 8 n ≡ lead i rest ++ tail
+  pub here : out ≡ take (at + i) d ++ (tail ++ drop (at + leadBytes) d)
+  pub whole : lead leadBytes n ≡ lead i rest ++ tail
 
 pub mark-cases : (n : ℕ) → ((n ≡ 0) × (mark n ≡ 32)) ⊎ ((0 < n) × (mark n ≡ 48 + n % 10))
 unfolding mark
@@ -42,7 +42,7 @@ unfolding lead
 length-lead zero n = refl
 length-lead (suc k) n = simp (length-append, length-lead k (n / 10)) (omega arith)
 
-pub length-group : (n : ℕ) → length (group n) ≡ 9
+pub length-group : (n : ℕ) → length (group n) ≡ groupBytes
 unfolding group
 length-group n = simp (length-append, length-lead)
 
@@ -84,8 +84,8 @@ digits-lead (suc k) n h =
 pub digits-group : (n : ℕ) → n < limit → digitsAfter 0 (group n) ≡ n
 unfolding group digitsAfter
 digits-group n h =
-    digits-append 0 (lead 8 (n / 10)) ((48 + n % 10) ∷ [])
-    ∙ ap (λ (v : ℕ). v * 10 + (48 + n % 10 - 48)) (digits-lead 8 (n / 10) (omega arith))
+    digits-append 0 (lead leadBytes (n / 10)) ((48 + n % 10) ∷ [])
+    ∙ ap (λ (v : ℕ). v * 10 + (48 + n % 10 - 48)) (digits-lead leadBytes (n / 10) (omega arith))
     ∙ omega arith
 
 -- reading what was written gives the number
@@ -127,7 +127,7 @@ column-is v b r l p q =
     }
 
 -- a digit
-pub column-digit : (v b : ℕ) → v < 100000000 → 48 ≤ b → b ≤ 57 → 0 < v * 10 + (b - 48) → Column v b (v * 10 + (b - 48))
+pub column-digit : (v b : ℕ) → v < leadLimit → 48 ≤ b → b ≤ 57 → 0 < v * 10 + (b - 48) → Column v b (v * 10 + (b - 48))
 column-digit v b h l g p = column-is v b _ (omega arith) (omega arith) (⊎-elim (λ w. omega arith) (λ w. omega arith) (mark-cases (v * 10 + (b - 48))))
 
 pub columns-none : Columns [] 0 0
@@ -157,44 +157,44 @@ columns-blank s at i h e p =
 
 -- ---- the nine columns of a text
 
-pub number-short : (s : List ℕ) (at : ℕ) → length s < at + 9 → numberOf (take 9 (drop at s)) ≡ Malformed
-number-short s at h = number-none _ (λ n l e. let q : length (take 9 (drop at s)) ≡ 9 = ap length e ∙ length-group n in omega (arith, simp (length-take, length-drop) at q))
+pub number-short : (s : List ℕ) (at : ℕ) → length s < at + groupBytes → numberOf (take groupBytes (drop at s)) ≡ Malformed
+number-short s at h = number-none _ (λ n l e. let q : length (take groupBytes (drop at s)) ≡ groupBytes = ap length e ∙ length-group n in omega (arith, simp (length-take, length-drop) at q))
 
 -- a number's columns lie within the text
-pub number-fits : (s : List ℕ) (at n : ℕ) → numberOf (take 9 (drop at s)) ≡ Value n → at + 9 ≤ length s
+pub number-fits : (s : List ℕ) (at n : ℕ) → numberOf (take groupBytes (drop at s)) ≡ Value n → at + groupBytes ≤ length s
 number-fits s at n e =
-    let q : length (take 9 (drop at s)) ≡ 9 = ap length (number-value _ n e .0) ∙ length-group n in
+    let q : length (take groupBytes (drop at s)) ≡ groupBytes = ap length (number-value _ n e .0) ∙ length-group n in
     omega (arith, simp (length-take, length-drop) at q)
 
 -- a number ends in a digit
-pub number-last : (s : List ℕ) (at : ℕ) → ((n : ℕ) → 48 + n % 10 ≡ getD s (at + 8) 0 → ⊥) → numberOf (take 9 (drop at s)) ≡ Malformed
+pub number-last : (s : List ℕ) (at : ℕ) → ((n : ℕ) → 48 + n % 10 ≡ getD s (at + leadBytes) 0 → ⊥) → numberOf (take groupBytes (drop at s)) ≡ Malformed
 unfolding group
 number-last s at f =
     number-none _
     (λ n l e.
-    let q : length (lead 8 (n / 10)) + 0 ≡ 8 = omega (arith, length-lead 8 (n / 10)) in
-    let g : getD (group n) 8 0 ≡ 48 + n % 10 = rw q at (getD-append-add (lead 8 (n / 10)) ((48 + n % 10) ∷ []) 0 0) in
-    f n (sym g ∙ ap (λ (bs : List ℕ). getD bs 8 0) (sym e) ∙ getD-take 9 (drop at s) 8 0 (omega arith) ∙ getD-drop at s 8 0))
+    let q : length (lead leadBytes (n / 10)) + 0 ≡ leadBytes = omega (arith, length-lead leadBytes (n / 10)) in
+    let g : getD (group n) leadBytes 0 ≡ 48 + n % 10 = rw q at (getD-append-add (lead leadBytes (n / 10)) ((48 + n % 10) ∷ []) 0 0) in
+    f n (sym g ∙ ap (λ (bs : List ℕ). getD bs leadBytes 0) (sym e) ∙ getD-take groupBytes (drop at s) leadBytes 0 (omega arith) ∙ getD-drop at s leadBytes 0))
 
-module _ (s : List ℕ) (at v : ℕ) (h : at + 9 ≤ length s) (p : Columns (take 8 (drop at s)) 8 v) where
-  nine : take 9 (drop at s) ≡ take 8 (drop at s) ++ (getD s (at + 8) 0 ∷ [])
-  nine = let hi : 8 < length (drop at s) = simp length-drop (omega arith) in rw (← getD-drop at s 8 0) (take-suc (drop at s) 8 0 hi)
+module _ (s : List ℕ) (at v : ℕ) (h : at + groupBytes ≤ length s) (p : Columns (take leadBytes (drop at s)) leadBytes v) where
+  nine : take groupBytes (drop at s) ≡ take leadBytes (drop at s) ++ (getD s (at + leadBytes) 0 ∷ [])
+  nine = let hi : leadBytes < length (drop at s) = simp length-drop (omega arith) in rw (← getD-drop at s leadBytes 0) (take-suc (drop at s) leadBytes 0 hi)
 
-  pub number-is : v < 100000000 → 48 ≤ getD s (at + 8) 0 → getD s (at + 8) 0 ≤ 57 → numberOf (take 9 (drop at s)) ≡ Value (v * 10 + (getD s (at + 8) 0 - 48))
+  pub number-is : v < leadLimit → 48 ≤ getD s (at + leadBytes) 0 → getD s (at + leadBytes) 0 ≤ 57 → numberOf (take groupBytes (drop at s)) ≡ Value (v * 10 + (getD s (at + leadBytes) 0 - 48))
   unfolding group
   number-is l g k =
-      let n : ℕ = v * 10 + (getD s (at + 8) 0 - 48) in
+      let n : ℕ = v * 10 + (getD s (at + leadBytes) 0 - 48) in
       let e : n / 10 ≡ v = omega arith in
-      let m : 48 + n % 10 ≡ getD s (at + 8) 0 = omega arith in
-      let q : take 9 (drop at s) ≡ group n = nine ∙ rw (e, m, ← p .right (omega arith) .1) in
+      let m : 48 + n % 10 ≡ getD s (at + leadBytes) 0 = omega arith in
+      let q : take groupBytes (drop at s) ≡ group n = nine ∙ rw (e, m, ← p .right (omega arith) .1) in
       rw q (number-group n (omega arith))
 
-  pub number-not : ((n : ℕ) → n < limit → n / 10 ≡ v → 48 + n % 10 ≡ getD s (at + 8) 0 → ⊥) → numberOf (take 9 (drop at s)) ≡ Malformed
+  pub number-not : ((n : ℕ) → n < limit → n / 10 ≡ v → 48 + n % 10 ≡ getD s (at + leadBytes) 0 → ⊥) → numberOf (take groupBytes (drop at s)) ≡ Malformed
   unfolding group
   number-not f =
       number-none _
       (λ n l e.
-      let q = append-both _ (lead 8 (n / 10)) _ _ 8 (p .size) (length-lead 8 (n / 10)) (sym nine ∙ e) in
+      let q = append-both _ (lead leadBytes (n / 10)) _ _ leadBytes (p .size) (length-lead leadBytes (n / 10)) (sym nine ∙ e) in
       f n l (sym (p .only (n / 10) (omega arith) (omega arith) (q .0))) (cc))
 
 -- ---- writing
@@ -208,8 +208,8 @@ store-before : (d xs : List ℕ) (k m : ℕ) → k < length d → set (take (suc
 store-before d xs k m h =
     rw (take-suc d k 0 h, append-assoc (take k d) (getD d k 0 ∷ []) xs) (set-at (take k d) (getD d k 0) xs m k (length-take-le k d (omega arith)))
 
-pub writing-none : (d : List ℕ) (at n : ℕ) → Writing d d at n 8 n
-writing-none d at n = record { tail = []; here = sym (take-append-drop (at + 8) d); whole = sym (append-nil (lead 8 n)) }
+pub writing-none : (d : List ℕ) (at n : ℕ) → Writing d d at n leadBytes n
+writing-none d at n = record { tail = []; here = sym (take-append-drop (at + leadBytes) d); whole = sym (append-nil (lead leadBytes n)) }
 
 pub writing-more : (d out : List ℕ) (at n i rest : ℕ) → at + i < length d → Writing d out at n (suc i) rest → Writing d (set out (at + i) (mark rest)) at n i (rest / 10)
 unfolding lead
@@ -230,10 +230,10 @@ lead-none : (n : ℕ) → lead 0 n ≡ []
 unfolding lead
 lead-none n = refl
 
-pub writing-all : (d out : List ℕ) (at n rest : ℕ) → Writing d out at n 0 rest → out ≡ put d at (lead 8 n)
+pub writing-all : (d out : List ℕ) (at n rest : ℕ) → Writing d out at n 0 rest → out ≡ put d at (lead leadBytes n)
 unfolding put
 writing-all d out at n rest w =
-    let e : w .tail ≡ lead 8 n = sym (w .whole ∙ rw lead-none refl) in
+    let e : w .tail ≡ lead leadBytes n = sym (w .whole ∙ rw lead-none refl) in
     rw length-lead (w .here ∙ rw (add-zero, e) refl)
 
 -- one byte after what has been put
@@ -247,9 +247,9 @@ put-more d at xs b h =
     (let e : suc (at + length xs) ≡ at + (length xs + 1) = omega arith in rw e)
 
 -- the nine columns are the eight and the last
-pub put-last : (d : List ℕ) (at n : ℕ) → at + 9 ≤ length d → set (put d at (lead 8 (n / 10))) (at + 8) (48 + n % 10) ≡ put d at (group n)
+pub put-last : (d : List ℕ) (at n : ℕ) → at + groupBytes ≤ length d → set (put d at (lead leadBytes (n / 10))) (at + leadBytes) (48 + n % 10) ≡ put d at (group n)
 unfolding group
-put-last d at n h = rw length-lead at (put-more d at (lead 8 (n / 10)) (48 + n % 10) (rw length-lead (omega arith)))
+put-last d at n h = rw length-lead at (put-more d at (lead leadBytes (n / 10)) (48 + n % 10) (rw length-lead (omega arith)))
 
 pub put-nil : (d : List ℕ) (at : ℕ) → put d at [] ≡ d
 unfolding put
@@ -264,10 +264,3 @@ put-put d at xs ys h =
     let k : length p ≡ j = simp (length-append, length-take) (omega arith) in
     rw (← append-assoc (take at d) xs (drop j d), take-at p (drop j d) j k, ← drop-drop (length ys) j (p ++ drop j d), drop-at p (drop j d) j k, drop-drop (length ys) j d, length-append xs ys, append-assoc xs ys _, append-assoc (take at d) xs _)
     (rw (add-assoc at (length xs) (length ys)))
-
--- what is as long as the buffer fills it
-pub put-whole : (d xs : List ℕ) → length xs ≡ length d → put d 0 xs ≡ xs
-unfolding put
-put-whole d xs h =
-    let k : length d ≤ 0 + length xs = omega arith in
-    rw (drop-of-length-le d k, append-nil)

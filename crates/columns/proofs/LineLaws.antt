@@ -1,7 +1,6 @@
 -- The laws of a line, by those of a group: read what was written, write what was read.
--- Assumes nothing.
 use Prim.Native.Nat.{ℕ, zero, suc, _+_, _-_, _*_, _≤_, _<_}
-use mathlib.Core.Path.{_≡_, refl, sym, ap, _∙_, subst}
+use mathlib.Core.Path.{_≡_, refl, sym, ap, _∙_}
 use mathlib.Core.Bool.{Bool, true, false}
 use mathlib.Core.List.{List, [], _∷_, _++_, append-assoc, append-nil}
 use mathlib.Core.Option.{Option, none, some}
@@ -12,12 +11,12 @@ use lib.ListN.{length, take, drop, getD, set, replicate, length-append, length-t
 use lib.Seq.{drop-cons, take-nil, take-take, getD-take, length-take-le, take-suc, take-all, set-at, getD-drop, take-at, drop-at, take-add, drop-drop}
 use lib.Dec.{eqb, ltb}
 use borrow.Author.Tests.{eqb-true, eq-eqb, ne-eqb, ltb-true, ltb-false}
+use Rattle.columns.specs.Widths.{groupBytes, mostNumbers, lineBytes}
 use Rattle.columns.specs.declared.group.Number.{Number}
 use Rattle.columns.specs.declared.group.Number.the-variants.{Value, Malformed}
-use Rattle.columns.specs.Group.{limit, group, numberOf, put}
+use Rattle.columns.specs.Group.{group, numberOf, put}
 use Rattle.columns.proofs.GroupLaws.{length-group, number-group, number-value, put-put, put-more}
-use Rattle.columns.specs.Line.{groups, lineOf, Fit, ends, also, numbersOf, malformedLine, lineFrom}
-use Rattle.columns.specs.declared.line.Line.{Line}
+use Rattle.columns.specs.Line.{groups, lineOf, Fit, atEnd, also, numbersOf, lineFrom}
 
 -- xs before the numbers of the rest of a line
 abbrev pub before : List ℕ → Option (List ℕ) → Option (List ℕ)
@@ -29,7 +28,7 @@ pub record Reading (s : List ℕ) (at i : ℕ) (was numbers : List ℕ) : Type 0
   pub read : List ℕ
   pub size : length read ≡ i
   pub held : numbers ≡ read ++ drop i was
-  pub here : (k : ℕ) → numbersOf (i + k) (drop at s) ≡ before read (numbersOf k (drop (at + 9 * i) s))
+  pub here : (k : ℕ) → numbersOf (i + k) (drop at s) ≡ before read (numbersOf k (drop (at + groupBytes * i) s))
   pub fewer : (k : ℕ) → k < i → numbersOf k (drop at s) ≡ none
 
 pub drop-take : (m n : ℕ) (l : List ℕ) → m ≤ n → drop m (take n l) ≡ take (n - m) (drop m l)
@@ -38,7 +37,7 @@ drop-take (suc m) zero l h = absurd (omega arith)
 drop-take (suc m) (suc n) [] h = sym (take-nil (suc n - suc m))
 drop-take (suc m) (suc n) (x ∷ l) h = drop-take m n l (omega arith) ∙ rw suc-sub-suc refl
 
-pub length-groups : (ns : List ℕ) → length (groups ns) ≡ 9 * length ns
+pub length-groups : (ns : List ℕ) → length (groups ns) ≡ groupBytes * length ns
 unfolding groups
 length-groups [] = refl
 length-groups (n ∷ ns) = simp (length-append, length-group, length-groups ns) (omega arith)
@@ -54,65 +53,58 @@ unfolding lineOf groups Fit numbersOf
 numbers-line [] rest f = refl
 numbers-line (n ∷ ns) rest f =
     let e : (group n ++ groups ns) ++ (10 ∷ []) ++ rest ≡ group n ++ (groups ns ++ (10 ∷ []) ++ rest) = simp append-assoc in
-    rw (e, take-at (group n) _ 9 (length-group n), drop-at (group n) _ 9 (length-group n), number-group n (f .0), numbers-line ns rest (f .1))
+    rw (e, take-at (group n) _ groupBytes (length-group n), drop-at (group n) _ groupBytes (length-group n), number-group n (f .0), numbers-line ns rest (f .1))
 
 -- what was read, written again, gives the bytes of the line
-pub line-numbers : (k : ℕ) (bs ns : List ℕ) → numbersOf k bs ≡ some ns → (length ns ≡ k) × Fit ns × (take (9 * k + 1) bs ≡ lineOf ns)
+pub line-numbers : (k : ℕ) (bs ns : List ℕ) → numbersOf k bs ≡ some ns → (length ns ≡ k) × Fit ns × (take (lineBytes k) bs ≡ lineOf ns)
 unfolding lineOf groups Fit numbersOf
 line-numbers zero bs ns h = go bs (eqb (getD bs 0 0) 10) refl h
   where
-    go : (bs : List ℕ) (t : Bool) → eqb (getD bs 0 0) 10 ≡ t → ends t ≡ some ns → (length ns ≡ 0) × Fit ns × (take 1 bs ≡ lineOf ns)
+    go : (bs : List ℕ) (t : Bool) → eqb (getD bs 0 0) 10 ≡ t → atEnd t ≡ some ns → (length ns ≡ 0) × Fit ns × (take 1 bs ≡ lineOf ns)
     go [] true e p = let z : _≡_ {A = ℕ} 0 10 = eqb-true 0 10 e in absurd (omega arith)
     go (b ∷ bs) true e p = let z : [] ≡ ns = cc in rw (← z) (refl, tt, rw (eqb-true b 10 e))
     go bs false e p = let z : _≡_ {A = ℕ} 0 1 = cc in absurd (omega arith)
-line-numbers (suc k) bs ns h = go (λ ms e. line-numbers k (drop 9 bs) ms e) (numberOf (take 9 bs)) refl (numbersOf k (drop 9 bs)) refl h
+line-numbers (suc k) bs ns h = go (λ ms e. line-numbers k (drop groupBytes bs) ms e) (numberOf (take groupBytes bs)) refl (numbersOf k (drop groupBytes bs)) refl h
   where
-    go : ((ms : List ℕ) → numbersOf k (drop 9 bs) ≡ some ms → (length ms ≡ k) × Fit ms × (take (9 * k + 1) (drop 9 bs) ≡ lineOf ms))
-        → (r : Number) → numberOf (take 9 bs) ≡ r → (o : Option (List ℕ)) → numbersOf k (drop 9 bs) ≡ o → also r o ≡ some ns
-        → (length ns ≡ suc k) × Fit ns × (take (9 * suc k + 1) bs ≡ lineOf ns)
+    go : ((ms : List ℕ) → numbersOf k (drop groupBytes bs) ≡ some ms → (length ms ≡ k) × Fit ms × (take (lineBytes k) (drop groupBytes bs) ≡ lineOf ms))
+        → (r : Number) → numberOf (take groupBytes bs) ≡ r → (o : Option (List ℕ)) → numbersOf k (drop groupBytes bs) ≡ o → also r o ≡ some ns
+        → (length ns ≡ suc k) × Fit ns × (take (lineBytes (suc k)) bs ≡ lineOf ns)
     go ih (Value n) e (some ms) q p =
         let z : n ∷ ms ≡ ns = cc in
-        let v = number-value (take 9 bs) n e in
+        let v = number-value (take groupBytes bs) n e in
         let w = ih ms q in
-        let j : 9 * suc k + 1 ≡ 9 + (9 * k + 1) = omega arith in
-        rw (← z) (ap suc (w .0), (v .1, w .1), rw (j, take-add 9 (9 * k + 1) bs, w .2, v .0, append-assoc))
+        let j : lineBytes (suc k) ≡ groupBytes + lineBytes k = omega arith in
+        rw (← z) (ap suc (w .0), (v .1, w .1), rw (j, take-add groupBytes (lineBytes k) bs, w .2, v .0, append-assoc))
     go ih (Value n) e none q p = let z : _≡_ {A = ℕ} 0 1 = cc in absurd (omega arith)
     go ih Malformed e o q p = let z : _≡_ {A = ℕ} 0 1 = cc in absurd (omega arith)
 
-pub length-line : (ns : List ℕ) → length (lineOf ns) ≡ 9 * length ns + 1
+pub length-line : (ns : List ℕ) → length (lineOf ns) ≡ lineBytes (length ns)
 unfolding lineOf
 length-line ns = simp (length-append, length-groups)
 
 -- a line that is of the form lies within the text
-pub line-fits : (s : List ℕ) (at k : ℕ) (ns : List ℕ) → numbersOf k (drop at s) ≡ some ns → at + (9 * k + 1) ≤ length s
+pub line-fits : (s : List ℕ) (at k : ℕ) (ns : List ℕ) → numbersOf k (drop at s) ≡ some ns → at + lineBytes k ≤ length s
 unfolding lineOf
 line-fits s at k ns h =
     let w = line-numbers k (drop at s) ns h in
-    let q : length (take (9 * k + 1) (drop at s)) ≡ 9 * k + 1 = ap length (w .2) ∙ simp (length-append, length-groups, w .0) in
+    let q : length (take (lineBytes k) (drop at s)) ≡ lineBytes k = ap length (w .2) ∙ simp (length-append, length-groups, w .0) in
     omega (arith, simp (length-take, length-drop) at q)
 
-pub good-fits : (s : List ℕ) (at k : ℕ) → lineFrom (numbersOf k (drop at s)) .good ≡ true → at + (9 * k + 1) ≤ length s
-good-fits s at k h = go (numbersOf k (drop at s)) refl h
-  where
-    go : (o : Option (List ℕ)) → numbersOf k (drop at s) ≡ o → lineFrom o .good ≡ true → at + (9 * k + 1) ≤ length s
-    go (some ns) e p = line-fits s at k ns e
-    go none e p = let z : _≡_ {A = ℕ} 0 1 = cc in absurd (omega arith)
-
 -- a line is read from its own bytes alone
-pub numbers-take : (k n : ℕ) (bs : List ℕ) → 9 * k + 1 ≤ n → numbersOf k (take n bs) ≡ numbersOf k bs
+pub numbers-take : (k n : ℕ) (bs : List ℕ) → lineBytes k ≤ n → numbersOf k (take n bs) ≡ numbersOf k bs
 unfolding numbersOf
 numbers-take zero n bs h = rw (getD-take n bs 0 0 (omega arith))
 numbers-take (suc k) n bs h =
-    let d : drop 9 (take n bs) ≡ take (n - 9) (drop 9 bs) = drop-take 9 n bs (omega arith) in
-    rw (take-take 9 n bs (omega arith), d, numbers-take k (n - 9) (drop 9 bs) (omega arith))
+    let d : drop groupBytes (take n bs) ≡ take (n - groupBytes) (drop groupBytes bs) = drop-take groupBytes n bs (omega arith) in
+    rw (take-take groupBytes n bs (omega arith), d, numbers-take k (n - groupBytes) (drop groupBytes bs) (omega arith))
 
 -- ---- number by number
 
-numbers-next : (s : List ℕ) (p k : ℕ) → numbersOf (suc k) (drop p s) ≡ also (numberOf (take 9 (drop p s))) (numbersOf k (drop (p + 9) s))
+numbers-next : (s : List ℕ) (p k : ℕ) → numbersOf (suc k) (drop p s) ≡ also (numberOf (take groupBytes (drop p s))) (numbersOf k (drop (p + groupBytes) s))
 unfolding numbersOf
 numbers-next s p k = rw drop-drop
 
-numbers-end : (s : List ℕ) (p : ℕ) → numbersOf 0 (drop p s) ≡ ends (eqb (getD s p 0) 10)
+numbers-end : (s : List ℕ) (p : ℕ) → numbersOf 0 (drop p s) ≡ atEnd (eqb (getD s p 0) 10)
 unfolding numbersOf
 numbers-end s p = rw (getD-drop p s 0 0, add-zero p)
 
@@ -130,13 +122,13 @@ reading-none s at was =
 
 module _ (s : List ℕ) (at i : ℕ) (was numbers : List ℕ) (r : Reading s at i was numbers) where
   -- byte 10 ends the line, any other byte does not
-  pub reading-end : getD s (at + 9 * i) 0 ≡ 10 → numbersOf i (drop at s) ≡ some (r .read)
+  pub reading-end : getD s (at + groupBytes * i) 0 ≡ 10 → numbersOf i (drop at s) ≡ some (r .read)
   reading-end e = rw add-zero at (r .here 0) ∙ rw (numbers-end, eq-eqb _ _ e, append-nil)
 
-  reading-on : (getD s (at + 9 * i) 0 ≡ 10 → ⊥) → numbersOf i (drop at s) ≡ none
+  reading-on : (getD s (at + groupBytes * i) 0 ≡ 10 → ⊥) → numbersOf i (drop at s) ≡ none
   reading-on e = rw add-zero at (r .here 0) ∙ rw (numbers-end, ne-eqb _ _ e)
 
-  up-to : (getD s (at + 9 * i) 0 ≡ 10 → ⊥) → (k : ℕ) → k ≤ i → numbersOf k (drop at s) ≡ none
+  up-to : (getD s (at + groupBytes * i) 0 ≡ 10 → ⊥) → (k : ℕ) → k ≤ i → numbersOf k (drop at s) ≡ none
   up-to e k h = go (ltb k i) refl
     where
       go : (t : Bool) → ltb k i ≡ t → numbersOf k (drop at s) ≡ none
@@ -144,13 +136,13 @@ module _ (s : List ℕ) (at i : ℕ) (was numbers : List ℕ) (r : Reading s at 
       go false p = let q : k ≡ i = omega (arith, ltb-false k i p) in rw q (reading-on e)
 
   -- eight numbers have been read, and the line goes on
-  pub reading-eight : i ≡ 8 → (getD s (at + 9 * i) 0 ≡ 10 → ⊥) → (k : ℕ) → k ≤ 8 → numbersOf k (drop at s) ≡ none
+  pub reading-eight : i ≡ mostNumbers → (getD s (at + groupBytes * i) 0 ≡ 10 → ⊥) → (k : ℕ) → k ≤ mostNumbers → numbersOf k (drop at s) ≡ none
   reading-eight n e k h = up-to e k (omega arith)
 
   -- what comes is neither the end nor a number
   pub reading-not :
-      (getD s (at + 9 * i) 0 ≡ 10 → ⊥)
-      → numberOf (take 9 (drop (at + 9 * i) s)) ≡ Malformed
+      (getD s (at + groupBytes * i) 0 ≡ 10 → ⊥)
+      → numberOf (take groupBytes (drop (at + groupBytes * i) s)) ≡ Malformed
       → (k : ℕ)
       → numbersOf k (drop at s) ≡ none
   reading-not e m k = go (ltb i k) refl
@@ -166,8 +158,8 @@ module _ (s : List ℕ) (at i : ℕ) (was numbers : List ℕ) (r : Reading s at 
   pub reading-more :
       (n : ℕ)
       → i < length was
-      → (getD s (at + 9 * i) 0 ≡ 10 → ⊥)
-      → numberOf (take 9 (drop (at + 9 * i) s)) ≡ Value n
+      → (getD s (at + groupBytes * i) 0 ≡ 10 → ⊥)
+      → numberOf (take groupBytes (drop (at + groupBytes * i) s)) ≡ Value n
       → Reading s at (i + 1) was (set numbers i n)
   reading-more n l e v =
       record {
@@ -178,38 +170,39 @@ module _ (s : List ℕ) (at i : ℕ) (was numbers : List ℕ) (r : Reading s at 
         fewer = λ k h. up-to e k (omega arith);
       }
     where
-      next : (k : ℕ) → numbersOf (i + 1 + k) (drop at s) ≡ before (r .read ++ (n ∷ [])) (numbersOf k (drop (at + 9 * (i + 1)) s))
+      next : (k : ℕ) → numbersOf (i + 1 + k) (drop at s) ≡ before (r .read ++ (n ∷ [])) (numbersOf k (drop (at + groupBytes * (i + 1)) s))
       next k =
           let q : i + 1 + k ≡ i + suc k = omega arith in
-          let f : at + 9 * i + 9 ≡ at + 9 * (i + 1) = omega arith in
-          let o : Option (List ℕ) = numbersOf k (drop (at + 9 * (i + 1)) s) in
+          let f : at + groupBytes * i + groupBytes ≡ at + groupBytes * (i + 1) = omega arith in
+          let o : Option (List ℕ) = numbersOf k (drop (at + groupBytes * (i + 1)) s) in
           rw q (r .here (suc k) ∙ rw (numbers-next, v, f) (before-also (r .read) n o))
 
-drop-zeros : (k n : ℕ) → drop {A = ℕ} k (replicate n 0) ≡ replicate (n - k) 0
+-- zeros after the first k of them
+pub drop-zeros : (k n : ℕ) → drop {A = ℕ} k (replicate n 0) ≡ replicate (n - k) 0
 drop-zeros zero n = rw (sub-zero n)
 drop-zeros (suc k) zero = let z : 0 - suc k ≡ 0 = omega arith in rw z
 drop-zeros (suc k) (suc n) = drop-zeros k n ∙ rw suc-sub-suc refl
 
 -- the numbers of a line before zeros are its answer
-pub line-complete : (k : ℕ) (bs ns numbers : List ℕ) → numbersOf k bs ≡ some ns → numbers ≡ ns ++ drop k (replicate 8 0) → record { good = true; numbers = numbers } ≡ lineFrom (numbersOf k bs)
+pub line-complete : (k : ℕ) (bs ns numbers : List ℕ) → numbersOf k bs ≡ some ns → numbers ≡ ns ++ drop k (replicate mostNumbers 0) → record { good = true; numbers = numbers } ≡ lineFrom (numbersOf k bs)
 line-complete k bs ns numbers e h =
     let n = line-numbers k bs ns e .0 in
-    rw (e, h, n, drop-zeros k 8)
+    rw (e, h, n, drop-zeros k mostNumbers)
 
 -- ---- writing
 
-module _ (d ns : List ℕ) (at i : ℕ) (h : at + (9 * length ns + 1) ≤ length d) where
-  size : i ≤ length ns → length (groups (take i ns)) ≡ 9 * i
-  size l = length-groups (take i ns) ∙ ap (λ (k : ℕ). 9 * k) (length-take-le i ns l)
+module _ (d ns : List ℕ) (at i : ℕ) (h : at + lineBytes (length ns) ≤ length d) where
+  size : i ≤ length ns → length (groups (take i ns)) ≡ groupBytes * i
+  size l = length-groups (take i ns) ∙ ap (λ (k : ℕ). groupBytes * k) (length-take-le i ns l)
 
-  pub put-groups : i < length ns → put (put d at (groups (take i ns))) (at + 9 * i) (group (getD ns i 0)) ≡ put d at (groups (take (i + 1) ns))
+  pub put-groups : i < length ns → put (put d at (groups (take i ns))) (at + groupBytes * i) (group (getD ns i 0)) ≡ put d at (groups (take (i + 1) ns))
   unfolding groups
   put-groups l =
       let e = size (omega arith) in
       let f : put (put d at (groups (take i ns))) (at + length (groups (take i ns))) (group (getD ns i 0)) ≡ put d at (groups (take i ns) ++ group (getD ns i 0)) = put-put d at (groups (take i ns)) (group (getD ns i 0)) (omega arith) in
       rw (add-one i, take-suc ns i 0 l, groups-append, append-nil) (rw e at f)
 
-  pub put-end : i ≡ length ns → set (put d at (groups (take i ns))) (at + 9 * i) 10 ≡ put d at (lineOf ns)
+  pub put-end : i ≡ length ns → set (put d at (groups (take i ns))) (at + groupBytes * i) 10 ≡ put d at (lineOf ns)
   unfolding lineOf
   put-end l =
       let e = size (omega arith) in

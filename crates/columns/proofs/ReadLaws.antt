@@ -1,5 +1,4 @@
 -- The laws of a whole line: reading what was written gives the numbers, writing what was read the bytes; byte 10 stands at its end alone.
--- Assumes nothing.
 use Prim.Native.Nat.{ℕ, zero, suc, _+_, _*_, _/_, _%_, _<_}
 use mathlib.Core.Path.{_≡_, refl, sym, ap, _∙_}
 use mathlib.Core.Logic.{⊎-elim}
@@ -11,6 +10,7 @@ use lib.ListN.{length, take, getD, List·getD-append}
 use lib.Seq.{take-all, getD-take, getD-append-add}
 use lib.Dec.{eqb, ltb}
 use borrow.Author.Tests.{eqb-true, eq-eqb, ltb-true, ltb-false}
+use Rattle.columns.specs.Widths.{leadBytes, groupBytes, lineBytes}
 use Rattle.columns.specs.Group.{mark, lead, group}
 use Rattle.columns.specs.Line.{groups, lineOf, Fit, numbersOf, readLine}
 use Rattle.columns.proofs.GroupLaws.{mark-cases}
@@ -21,24 +21,24 @@ pub read-written : (ns : List ℕ) → Fit ns → readLine (lineOf ns) ≡ some 
 unfolding readLine
 read-written ns f =
     let size = length-line ns in
-    let k : length (lineOf ns) / 9 ≡ length ns = rw size (omega arith) in
-    let e = eq-eqb (length (lineOf ns)) (9 * (length (lineOf ns) / 9) + 1) (omega arith) in
+    let k : length (lineOf ns) / groupBytes ≡ length ns = rw size (omega arith) in
+    let e = eq-eqb (length (lineOf ns)) (lineBytes (length (lineOf ns) / groupBytes)) (omega arith) in
     let r : numbersOf (length ns) (lineOf ns) ≡ some ns = rw append-nil at (numbers-line ns [] f) in
     rw (e, readLine, k) r
 
 -- a line that is read, written again, is the same bytes
 pub written-read : (bs ns : List ℕ) → readLine bs ≡ some ns → (bs ≡ lineOf ns) × Fit ns
 unfolding readLine
-written-read bs ns h = go (eqb (length bs) (9 * (length bs / 9) + 1)) refl h
+written-read bs ns h = go (eqb (length bs) (lineBytes (length bs / groupBytes))) refl h
   where
     go :
         (t : Bool)
-        → eqb (length bs) (9 * (length bs / 9) + 1) ≡ t
-        → elim t [ true ↦ numbersOf (length bs / 9) bs | false ↦ none ] ≡ some ns
+        → eqb (length bs) (lineBytes (length bs / groupBytes)) ≡ t
+        → elim t [ true ↦ numbersOf (length bs / groupBytes) bs | false ↦ none ] ≡ some ns
         → (bs ≡ lineOf ns) × Fit ns
     go true e p =
-        let w = line-numbers (length bs / 9) bs ns p in
-        (sym (take-all (9 * (length bs / 9) + 1) bs (omega (arith, eqb-true (length bs) (9 * (length bs / 9) + 1) e))) ∙ w .2, w .1)
+        let w = line-numbers (length bs / groupBytes) bs ns p in
+        (sym (take-all (lineBytes (length bs / groupBytes)) bs (omega (arith, eqb-true (length bs) (lineBytes (length bs / groupBytes)) e))) ∙ w .2, w .1)
     go false e p = let z : _≡_ {A = ℕ} 0 1 = cc in absurd (omega arith)
 
 -- no byte is 10, so no line ends within these bytes
@@ -62,7 +62,7 @@ pub inner-groups : (ns : List ℕ) → Inner (groups ns)
 unfolding groups group
 inner-groups [] = tt
 inner-groups (n ∷ ns) =
-    let one = inner-append (lead 8 (n / 10)) ((48 + n % 10) ∷ []) (inner-lead 8 (n / 10)) (λ e. omega arith, tt) in
+    let one = inner-append (lead leadBytes (n / 10)) ((48 + n % 10) ∷ []) (inner-lead leadBytes (n / 10)) (λ e. omega arith, tt) in
     inner-append (group n) (groups ns) one (inner-groups ns)
 
 -- no byte of these is 10
@@ -74,27 +74,27 @@ inner-at (b ∷ bs) h (suc j) l e = inner-at bs (h .1) j (omega arith) e
 -- ---- the line of k numbers that bytes begin with
 
 module _ (k : ℕ) (bs ns : List ℕ) (e : numbersOf k bs ≡ some ns) where
-  byte-of : (j : ℕ) → j < 9 * k + 1 → getD bs j 0 ≡ getD (groups ns ++ (10 ∷ [])) j 0
+  byte-of : (j : ℕ) → j < lineBytes k → getD bs j 0 ≡ getD (groups ns ++ (10 ∷ [])) j 0
   unfolding lineOf
-  byte-of j h = sym (getD-take (9 * k + 1) bs j 0 h) ∙ ap (λ (l : List ℕ). getD l j 0) (line-numbers k bs ns e .2)
+  byte-of j h = sym (getD-take (lineBytes k) bs j 0 h) ∙ ap (λ (l : List ℕ). getD l j 0) (line-numbers k bs ns e .2)
 
-  groups-size : length (groups ns) ≡ 9 * k
-  groups-size = length-groups ns ∙ ap (λ (m : ℕ). 9 * m) (line-numbers k bs ns e .0)
+  groups-size : length (groups ns) ≡ groupBytes * k
+  groups-size = length-groups ns ∙ ap (λ (m : ℕ). groupBytes * m) (line-numbers k bs ns e .0)
 
   -- byte 10 is at its end
-  pub line-ten : getD bs (9 * k) 0 ≡ 10
+  pub line-ten : getD bs (groupBytes * k) 0 ≡ 10
   line-ten =
-      let q : length (groups ns) + 0 ≡ 9 * k = omega (arith, groups-size) in
-      byte-of (9 * k) (omega arith) ∙ (rw q at (getD-append-add (groups ns) (10 ∷ []) 0 0))
+      let q : length (groups ns) + 0 ≡ groupBytes * k = omega (arith, groups-size) in
+      byte-of (groupBytes * k) (omega arith) ∙ (rw q at (getD-append-add (groups ns) (10 ∷ []) 0 0))
 
   -- and nowhere before
-  pub line-inner : (j : ℕ) → j < 9 * k → getD bs j 0 ≡ 10 → ⊥
+  pub line-inner : (j : ℕ) → j < groupBytes * k → getD bs j 0 ≡ 10 → ⊥
   line-inner j h t =
       let l : j < length (groups ns) = omega (arith, groups-size) in
       inner-at (groups ns) (inner-groups ns) j l (sym (byte-of j (omega arith) ∙ List·getD-append (groups ns) (10 ∷ []) 0 j l) ∙ t)
 
   -- its bytes are read as its numbers
-  pub read-line : readLine (take (9 * k + 1) bs) ≡ some ns
+  pub read-line : readLine (take (lineBytes k) bs) ≡ some ns
   read-line = let w = line-numbers k bs ns e in rw (w .2) (read-written ns (w .1))
 
 -- bytes begin with one line at most
@@ -106,6 +106,6 @@ one-line k m bs ns e h = go (numbersOf m bs) refl
     go (some ms) q = less (ltb k m) (ltb m k) refl refl
       where
         less : (t u : Bool) → ltb k m ≡ t → ltb m k ≡ u → some ms ≡ none
-        less true u a b = absurd (line-inner m bs ms q (9 * k) (omega (arith, ltb-true k m a)) (line-ten k bs ns e))
-        less false true a b = absurd (line-inner k bs ns e (9 * m) (omega (arith, ltb-true m k b)) (line-ten m bs ms q))
+        less true u a b = absurd (line-inner m bs ms q (groupBytes * k) (omega (arith, ltb-true k m a)) (line-ten k bs ns e))
+        less false true a b = absurd (line-inner k bs ns e (groupBytes * m) (omega (arith, ltb-true m k b)) (line-ten m bs ms q))
         less false false a b = absurd (h (omega (arith, ltb-false k m a, ltb-false m k b)))

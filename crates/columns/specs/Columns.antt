@@ -1,5 +1,4 @@
 -- What the inner functions of the group reader promise of the columns before the last.
--- Assumes nothing.
 use Prim.Native.Nat.{ℕ, _/_, _^_, _≤_, _<_}
 use mathlib.Core.Path.{_≡_}
 use mathlib.Core.List.{List}

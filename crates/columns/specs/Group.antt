@@ -1,16 +1,19 @@
 -- Document 01, "Texts": a number "right-justified in nine columns with blanks, no leading zeros (zero is "0")", by the bytes that writing it gives.
--- Assumes nothing.
 use Prim.Native.Nat.{ℕ, zero, suc, _+_, _-_, _*_, _/_, _%_}
 use mathlib.Core.Bool.{Bool, true, false, cond}
 use mathlib.Core.List.{List, [], _∷_, _++_}
 use lib.ListN.{length, take, drop}
 use lib.Dec.{eqb}
+use Rattle.columns.specs.Widths.{leadBytes}
 use Rattle.columns.specs.declared.group.Number.{Number}
 use Rattle.columns.specs.declared.group.Number.the-variants.{Value, Malformed}
 
--- one past the greatest number that nine columns hold
+-- one past the greatest number that the columns before the last hold, and one past the greatest that nine columns hold
+abbrev pub leadLimit : ℕ
+leadLimit = 100000000
+
 abbrev pub limit : ℕ
-limit = 1000000000
+limit = 10 * leadLimit
 
 -- a column before the last, where n is what stands in the columns up to it: a blank for 0, else n's last digit
 unfoldable pub mark : ℕ → ℕ
@@ -23,7 +26,7 @@ lead (suc k) n = lead k (n / 10) ++ (mark n ∷ [])
 
 -- the nine columns of n
 unfoldable pub group : ℕ → List ℕ
-group n = lead 8 (n / 10) ++ ((48 + n % 10) ∷ [])
+group n = lead leadBytes (n / 10) ++ ((48 + n % 10) ∷ [])
 
 -- the number that decimal digits make after v, a blank as 0
 unfoldable pub digitsAfter : ℕ → List ℕ → ℕ

@@ -1,4 +1,5 @@
--- The definitions of this crate: a group of nine columns, a line.
+-- The definitions of this crate: widths, a group of nine columns, a line.
+pub mod Widths
 pub mod Group
 pub mod Columns
 pub mod Line

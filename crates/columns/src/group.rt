@@ -1,14 +1,23 @@
 // One number in nine columns: right-justified with blanks, no leading zeros, zero is "0".
+use crate::widths::GROUP;
+use crate::widths::LEAD;
 ghost use mathlib.Core.Path.{_≡_};
 ghost use mathlib.Core.Bool.{true};
 ghost use Prim.Native.Nat.{_+_, _≤_};
 ghost use lib.ListN.{length, take, drop};
+ghost use Rattle.columns.specs.Widths.{leadBytes, groupBytes};
 ghost use Rattle.columns.specs.Group.{lead, group, numberOf, put};
 ghost use Rattle.columns.specs.Columns.{Column, Columns};
 ghost use Rattle.columns.specs.Group.{mark as mark·of};
 
+// One past the greatest number that the columns before the last hold.
+const LEAD_LIMIT: u32 = 100_000_000;
+
 // One past the greatest number that nine columns hold. In a value so far it says that no number begins so.
-const LIMIT: u32 = 1_000_000_000;
+const LIMIT: u32 = 10 * LEAD_LIMIT;
+
+// The column of the tens, the last of those before the last.
+const TENS: usize = LEAD - 1;
 
 // What nine columns hold.
 pub enum Number {
@@ -18,15 +27,15 @@ pub enum Number {
 
 // The number in the nine columns at a position.
 pub fn number_at(s: &[u8], at: usize) -> Number
-    ensures { λ r. ⌜ r ≡ numberOf (take 9 (drop at (now (s .entry)))) ⌝ }
+    ensures { λ r. ⌜ r ≡ numberOf (take groupBytes (drop at (now (s .entry)))) ⌝ }
 {
     if s.len() < at {
         return Number::Malformed;
     }
-    if s.len() - at < 9 {
+    if s.len() - at < GROUP {
         return Number::Malformed;
     }
-    let b = s[at + 8];
+    let b = s[at + LEAD];
     if b < 48 {
         return Number::Malformed;
     }
@@ -38,7 +47,7 @@ pub fn number_at(s: &[u8], at: usize) -> Number
         return Number::Value(last);
     }
     let v = lead_at(s, at);
-    if v >= 100_000_000 {
+    if v >= LEAD_LIMIT {
         return Number::Malformed;
     }
     Number::Value(v * 10 + last)
@@ -46,12 +55,12 @@ pub fn number_at(s: &[u8], at: usize) -> Number
 
 // The value of the eight columns before the last.
 fn lead_at(s: &[u8], at: usize) -> u32
-    requires { ⌜ at + 8 ≤ length (now s) ⌝ }
-    ensures { λ r. ⌜ Columns (take 8 (drop at (now (s .entry)))) 8 r ⌝ }
+    requires { ⌜ at + leadBytes ≤ length (now s) ⌝ }
+    ensures { λ r. ⌜ Columns (take leadBytes (drop at (now (s .entry)))) leadBytes r ⌝ }
 {
     let mut v: u32 = 0;
     let mut i: usize = 0;
-    while i < 8 {
+    while i < LEAD {
         v = column(v, s[at + i]);
         i += 1;
     }
@@ -60,14 +69,14 @@ fn lead_at(s: &[u8], at: usize) -> u32
 
 // Whether the eight columns before the last are blank, as those of a digit alone are: the eighth is looked at first, since every greater number shows there.
 fn blank_at(s: &[u8], at: usize) -> bool
-    requires { ⌜ at + 8 ≤ length (now s) ⌝ }
-    ensures { λ r. ⌜ (r ≡ true → Columns (take 8 (drop at (now (s .entry)))) 8 0) ⌝ }
+    requires { ⌜ at + leadBytes ≤ length (now s) ⌝ }
+    ensures { λ r. ⌜ (r ≡ true → Columns (take leadBytes (drop at (now (s .entry)))) leadBytes 0) ⌝ }
 {
-    if s[at + 7] != 32 {
+    if s[at + TENS] != 32 {
         return false;
     }
     let mut i: usize = 0;
-    while i < 7 {
+    while i < TENS {
         if s[at + i] != 32 {
             return false;
         }
@@ -80,7 +89,7 @@ fn blank_at(s: &[u8], at: usize) -> bool
 fn column(v: u32, b: u8) -> u32
     ensures { λ r. ⌜ Column v b r ⌝ }
 {
-    if v >= 100_000_000 {
+    if v >= LEAD_LIMIT {
         return LIMIT;
     }
     if b == 32 {
@@ -114,20 +123,20 @@ fn mark(n: u32) -> u8
 
 // Writes n in the nine columns at a position.
 pub fn put_number(out: &mut [u8], at: usize, n: u32)
-    requires { ⌜ at + 9 ≤ length (now out) ⌝ }
+    requires { ⌜ at + groupBytes ≤ length (now out) ⌝ }
     ensures { λ _. ⌜ now (out .exit) ≡ put (now (out .entry)) at (group n) ⌝ }
 {
     put_lead(out, at, n / 10);
-    out[at + 8] = 48 + (n % 10) as u8;
+    out[at + LEAD] = 48 + (n % 10) as u8;
 }
 
 // Writes n in the eight columns before the last, from the right.
 fn put_lead(out: &mut [u8], at: usize, n: u32)
-    requires { ⌜ at + 8 ≤ length (now out) ⌝ }
-    ensures { λ _. ⌜ now (out .exit) ≡ put (now (out .entry)) at (lead 8 n) ⌝ }
+    requires { ⌜ at + leadBytes ≤ length (now out) ⌝ }
+    ensures { λ _. ⌜ now (out .exit) ≡ put (now (out .entry)) at (lead leadBytes n) ⌝ }
 {
     let mut rest = n;
-    let mut i: usize = 8;
+    let mut i: usize = LEAD;
     while i > 0 {
         i -= 1;
         out[at + i] = mark(rest);

@@ -1,13 +1,13 @@
 -- Every refusal of the layouts row has a number above 0.
--- Assumes nothing.
 use mathlib.Core.Bool.{Bool, true, false, not, _&&_}
-use mathlib.Core.List.{List, [], _∷_, map}
+use mathlib.Core.List.{List, [], _∷_}
 use Prim.Native.Nat.{ℕ, suc, _/_, _%_, _≤_}
 use native.Mathlib.Omega.{arith}
 use lib.Dec.{ltb, eqb}
 use lib.ListN.{length}
-use Rattle.job.specs.Verdict.{Verdict, pass, refuse, _then_, refuseIf, lowest}
-use Rattle.job.specs.Job.{Job, maxPieces}
+use Rattle.job.specs.Sizes.{maxPieces, wordsOfPlacement}
+use Rattle.job.specs.Verdict.{Verdict, refuse, refuseIf}
+use Rattle.job.specs.Job.{Job}
 use Rattle.layouts.specs.Placement.{Turn, turn, Placement, linesOf}
 use Rattle.layouts.specs.Lines.{rowsOf, layoutWords, rowRight, sameTurn, follows, inTurn, turns, grouped}
 use Rattle.layouts.specs.LayoutsRow.{Laid, laidSet, lowestStrip, breaksStage, pastBoard, positioned, lacks, layoutsRow}
@@ -47,8 +47,8 @@ positioned-above k (r ∷ rs) (p ∷ ps) =
 pub layout-words-above : (job : Job) (ws : List ℕ) → Above (layoutWords job ws)
 unfolding layoutWords
 layout-words-above job ws =
-    above-then (refuseIf (not (eqb (length ws % 7) 0)) 1 (suc (length ws / 7))) _
-    (above-if (not (eqb (length ws % 7) 0)) 1 (suc (length ws / 7)) (omega arith))
+    above-then (refuseIf (not (eqb (length ws % wordsOfPlacement) 0)) 1 (suc (length ws / wordsOfPlacement))) _
+    (above-if (not (eqb (length ws % wordsOfPlacement) 0)) 1 (suc (length ws / wordsOfPlacement)) (omega arith))
     (above-lowest 2 (λ _ r. not (rowRight job r)) 1 (rowsOf ws) (omega arith))
 
 pub layouts-above : (k : ℕ) (job : Job) (rs : List Placement) → Above (layoutsRow k job rs)

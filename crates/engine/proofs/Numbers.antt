@@ -1,16 +1,16 @@
 -- Every refusal has a number above 0, so the number 0 says that a call is accepted.
--- Assumes nothing.
 use mathlib.Core.Path.{_≡_, sym}
 use mathlib.Core.Logic.{_⊎_, inl, inr}
 use mathlib.Core.Bool.{Bool, true, false, not}
 use mathlib.Core.List.{List, [], _∷_}
-use Prim.Native.Nat.{ℕ, suc, _+_, _*_, _≤_}
+use Prim.Native.Nat.{ℕ, suc, _+_, _≤_}
 use native.Mathlib.Omega.{arith}
 use lib.Dec.{ltb, eqb}
 use lib.ListN.{length, getD, drop}
+use Rattle.job.specs.Sizes.{maxPieces, jobSize}
 use Rattle.job.specs.Verdict.{Verdict, pass, refuse, _then_, refuseIf, lowest}
 use Rattle.job.specs.Buffers.{sized}
-use Rattle.job.specs.Job.{Job, jobOf, jobWords, admission, boardRight, itemRight, demanded, maxPieces}
+use Rattle.job.specs.Job.{Job, jobOf, jobWords, admission, boardRight, itemRight, demanded}
 use Rattle.job.proofs.CodeEnds.{refused-not}
 use Rattle.listing.specs.Listing.{Listing, modelRow, residualTypes}
 use Rattle.listing.proofs.Limits.{row-cases}
@@ -49,7 +49,7 @@ module _ {A : Type 0} where
 pub words-above : (ws : List ℕ) → Above (jobWords ws)
 unfolding jobWords
 words-above ws =
-    let wrong-length = not (eqb (length ws) (5 + 3 * getD ws 4 0)) in
+    let wrong-length = not (eqb (length ws) (jobSize (getD ws 4 0))) in
     let types = lowest 2 (λ _ it. not (itemRight it)) 1 (jobOf ws .items) in
     above-then (refuseIf wrong-length 1 0) (refuseIf (not (boardRight ws)) 2 0 then types) (above-if wrong-length 1 0 (omega arith))
     (above-then (refuseIf (not (boardRight ws)) 2 0) types (above-if (not (boardRight ws)) 2 0 (omega arith)) (above-lowest 2 _ 1 (jobOf ws .items) (omega arith)))

@@ -1,12 +1,12 @@
 -- What a call promises of an answer whose refusal number is 0.
--- Assumes nothing.
 use mathlib.Core.Path.{_≡_, ap}
 use mathlib.Core.List.{List, [], _∷_}
 use Prim.Native.Nat.{ℕ}
 use native.Mathlib.Omega.{arith}
 use lib.ListN.{getD}
+use Rattle.job.specs.Sizes.{platesSize, cutsSize, countsSize, placementsSize}
 use Rattle.job.specs.Verdict.{Verdict}
-use Rattle.job.specs.Buffers.{given, refused, answer, sized, platesSize, cutsSize, countsSize, placementsSize}
+use Rattle.job.specs.Buffers.{given, refused, answer, sized}
 use Rattle.job.specs.Job.{jobOf, jobWords, admission}
 use Rattle.listing.specs.Listing.{modelRow, listingOf}
 use Rattle.plan.specs.Prices.{pricesOf, priceWords}
@@ -14,16 +14,16 @@ use Rattle.plan.specs.PriceCall.{priceVerdict, priceAnswer}
 use Rattle.layouts.specs.Lines.{rowsOf, layoutWords}
 use Rattle.layouts.specs.FoldCall.{foldVerdict, foldAnswer}
 use Rattle.layouts.specs.UnfoldCall.{unfoldVerdict, unfoldAnswer}
-use Rattle.pricer.specs.declared.prices.PriceAnswer.{PriceAnswer}
-use Rattle.pricer.specs.declared.prices.PriceAnswer.the-variants.{Accepted}
-use Rattle.pricer.specs.PriceBound.{Bounds, OnAccepted}
-use Rattle.tester.proofs.CodeCall.{refused-refuse}
-use Rattle.unfolding.specs.declared.call.Unfolded.{Unfolded}
-use Rattle.unfolding.specs.declared.call.Unfolded.the-variants.{Done}
-use Rattle.unfolding.specs.Ending.{OnSuccess}
-use Rattle.folder.specs.declared.call.FoldAnswer.{FoldAnswer}
-use Rattle.folder.specs.declared.call.FoldAnswer.the-variants.{Folded}
-use Rattle.folder.specs.Ending.{OnSuccess as OnFolded}
+use Rattle.price_test.specs.declared.prices.PriceAnswer.{PriceAnswer}
+use Rattle.price_test.specs.declared.prices.PriceAnswer.the-variants.{Accepted}
+use Rattle.price_test.specs.PriceBound.{Bounds, OnAccepted}
+use Rattle.plan_test.proofs.CodeCall.{refused-refuse}
+use Rattle.unfold_call.specs.declared.call.Unfolded.{Unfolded}
+use Rattle.unfold_call.specs.declared.call.Unfolded.the-variants.{Done}
+use Rattle.unfold_call.specs.UnfoldSays.{OnSuccess}
+use Rattle.fold_call.specs.declared.call.FoldAnswer.{FoldAnswer}
+use Rattle.fold_call.specs.declared.call.FoldAnswer.the-variants.{Folded}
+use Rattle.fold_call.specs.FoldSays.{OnSuccess as OnFolded}
 use Rattle.answers.specs.AnswerWords.{answerWords, WhereAccepted}
 use Rattle.engine.proofs.Numbers.{Above, above-then, words-above, admission-above, sized-above, model-above, plan-above, price-words-above, prices-above}
 use Rattle.engine.proofs.LayoutNumbers.{layout-words-above, layouts-above}

@@ -7,21 +7,21 @@ ghost use Rattle.plan.specs.PriceCall.{priceVerdict, priceAnswer};
 ghost use Rattle.layouts.specs.UnfoldCall.{unfoldVerdict, unfoldingOf, unfoldAnswer, placementsEnd};
 ghost use Rattle.layouts.specs.FoldCall.{foldVerdict, foldAnswer, countsEnd};
 ghost use Rattle.layouts.specs.Demand3.{J, L, Unfolds};
-ghost use Rattle.pricer.specs.PriceBound.{Bounds};
-ghost use Rattle.folder.specs.Ending.{Promise};
+ghost use Rattle.price_test.specs.PriceBound.{Bounds};
+ghost use Rattle.fold_call.specs.FoldSays.{Promise};
 ghost use Rattle.answers.specs.AnswerWords.{answerWords, WhereAccepted};
 use answers::words::accept;
 use answers::words::refuse;
-use folder::call::FoldAnswer;
-use folder::call::fold;
-use lister::list::Listed;
-use lister::list::list;
-use pricer::price_test::test_prices;
-use pricer::prices::PriceAnswer;
-use tester::plan_row::PlanAnswer;
-use tester::plan_test::test_plan;
-use unfolding::call::Unfolded;
-use unfolding::call::unfold;
+use fold_call::call::FoldAnswer;
+use fold_call::call::fold;
+use listing_call::call::Listed;
+use listing_call::call::list;
+use plan_test::call::test_plan;
+use plan_test::plan_row::PlanAnswer;
+use price_test::call::test_prices;
+use price_test::prices::PriceAnswer;
+use unfold_call::call::Unfolded;
+use unfold_call::call::unfold;
 
 // The listing call: the values are the numbers of residual types and of cuts.
 #[no_mangle]
@@ -31,8 +31,11 @@ pub extern "C" fn saw_list(job: &[u16], plates: &mut [u16], cuts: &mut [u16], an
     ensures { λ _. ⌜ now (cuts .exit) ≡ cutsEnd (listVerdict (now (job .entry)) (now (plates .entry)) (now (cuts .entry))) (now (job .entry)) (now (cuts .entry)) ⌝ }
 {
     match list(job, plates, cuts) {
-        Listed::Done(residuals, k) => accept(answer, residuals.0 as u32, k.0 as u32),
-        Listed::Refused(number, place) => refuse(answer, number, place as usize),
+        Listed::Done(m, k) => {
+            let residuals = m.residuals();
+            accept(answer, residuals as u32, k.0 as u32)
+        }
+        Listed::Refused(number, place) => refuse(answer, number, place),
     }
 }
 

@@ -4,23 +4,36 @@ ghost use mathlib.Core.Bool.{true};
 ghost use mathlib.Core.List.{List};
 ghost use Prim.Native.Nat.{ℕ, _≤_};
 ghost use lib.ListN.{length};
-ghost use Rattle.fold_reader.specs.FoldKept.{jobSize, layoutsSize};
-ghost use Rattle.fold_reader.specs.Parts.{After, lent};
-ghost use Rattle.fold_ending.specs.Ending.{roomToEnd};
+ghost use Rattle.job.specs.Sizes.{longestJob};
+ghost use Rattle.fold_text_reader.specs.FoldKept.{layoutsSize};
+ghost use Rattle.fold_text_reader.specs.Parts.{After, lent};
+ghost use Rattle.fold_text_ending.specs.FoldEnd.{roomToEnd};
 ghost use Rattle.fold.specs.Output.{AnswersSome};
-use fold_ending::finish::finish;
-use fold_reader::fold::FoldReader;
-use fold_reader::fold::feed;
-use fold_reader::fold::start;
+use fold_text_ending::finish::finish;
+use fold_text_reader::fold::FoldReader;
+use fold_text_reader::fold::feed;
+use fold_text_reader::fold::start;
+use job::sizes::COUNTS_SIZE;
+use job::sizes::CUTS_SIZE;
+use job::sizes::JOB_SIZE;
+use job::sizes::PLACEMENTS_SIZE;
+use job::sizes::PLATES_SIZE;
+use texts::widths::LONGEST_FOLD_TEXT;
+use texts_writing::sizes::LONGEST_FOLD;
 
-// Reads a text, part after part, to its end. 112 parts of 65,536 bytes are more than the longest text that its lines do not refuse, 99,999 lines of at
-// most 73 bytes: what follows them cannot change the answer.
+// The bytes of a part.
+const PART: usize = 65_536;
+
+// So many parts have more bytes than the longest text that its lines do not refuse.
+const PARTS: usize = LONGEST_FOLD_TEXT / PART + 1;
+
+// Reads a text, part after part, to its end, or so much of it that what follows cannot change the answer.
 fn read(part: &mut [u8], job: &mut [u16], layouts: &mut [u16]) -> FoldReader
-    ensures { λ r. ⌜ (jobSize ≤ length (now (job .entry)) → layoutsSize ≤ length (now (layouts .entry)) → (text : List ℕ) × After text r (lent (now (job .exit)) (now (layouts .exit)))) ⌝ }
+    ensures { λ r. ⌜ (longestJob ≤ length (now (job .entry)) → layoutsSize ≤ length (now (layouts .entry)) → (text : List ℕ) × After text r (lent (now (job .exit)) (now (layouts .exit)))) ⌝ }
 {
     let mut reader = start(job, layouts);
     let mut parts: usize = 0;
-    while parts < 112 {
+    while parts < PARTS {
         let n = io::read_full(0, part);
         if n == 0 {
             return reader;
@@ -63,13 +76,13 @@ fn run(
 }
 
 fn main() {
-    let mut part = [0u8; 65536];
-    let mut job = [0u16; 125];
-    let mut layouts = [0u16; 28000];
-    let mut plates = [0u16; 6144];
-    let mut cuts = [0u16; 32768];
-    let mut counts = [0u16; 8192];
-    let mut out = [0u8; 148000];
+    let mut part = [0u8; PART];
+    let mut job = [0u16; JOB_SIZE];
+    let mut layouts = [0u16; PLACEMENTS_SIZE];
+    let mut plates = [0u16; PLATES_SIZE];
+    let mut cuts = [0u16; CUTS_SIZE];
+    let mut counts = [0u16; COUNTS_SIZE];
+    let mut out = [0u8; LONGEST_FOLD];
     run(
         &mut part,
         &mut job,

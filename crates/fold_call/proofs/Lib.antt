@@ -1,4 +1,5 @@
--- The laws of this crate: texts in parts, and the answer to the whole.
-pub mod TextParts
-pub mod Answers
-pub mod ToHost
+-- The laws of this crate.
+pub mod Boarding
+pub mod Passed
+pub mod Filling
+pub mod CodeEnding

@@ -1,2 +1,2 @@
--- The definitions of this crate: the answer to a fold text.
-pub mod Called
+-- The definitions of this crate: what the folding call's answer says, how the call ends, and what it promises.
+pub mod FoldSays

@@ -1,94 +1,120 @@
-// The fold text as one call: its bytes are read, whole or in parts, and its answer is written.
+// The folding call.
 ghost use mathlib.Core.Path.{_≡_};
 ghost use Prim.Native.Nat.{_≤_};
 ghost use lib.ListN.{length};
-ghost use Rattle.fold_reader.specs.FoldKept.{jobSize, layoutsSize};
-ghost use Rattle.fold_reader.specs.Parts.{After, lent as words};
-ghost use Rattle.fold_call.specs.Called.{lent, Called};
-use fold_ending::ending::has_room;
-use fold_ending::finish::finish;
-use fold_reader::fold::FoldReader;
-use fold_reader::fold::feed;
-use fold_reader::fold::start;
+ghost use Rattle.job.specs.Sizes.{platesSize, cutsSize, countsSize};
+ghost use Rattle.job.specs.Verdict.{pass, _then_};
+ghost use Rattle.job.specs.Buffers.{filled, sized};
+ghost use Rattle.job.specs.Job.{jobOf, jobWords, admission};
+ghost use Rattle.job.specs.Row.{rowVerdict};
+ghost use Rattle.listing.specs.Listing.{listingOf};
+ghost use Rattle.listing.specs.ListCall.{platesEnd, cutsEnd};
+ghost use Rattle.layouts.specs.Lines.{rowsOf, layoutWords, setOf};
+ghost use Rattle.layouts.specs.LayoutsRow.{layoutsRow};
+ghost use Rattle.layouts.specs.Fold.{folded};
+ghost use Rattle.layouts.specs.FoldCall.{foldVerdict, foldAnswer, countsEnd};
+ghost use Rattle.fold_counts.specs.Lent.{CutsLent};
+ghost use Rattle.fold_call.specs.FoldSays.{saysOf, foldTail, Ended, OnSuccess, Promise};
+use crate::boards::count_boards;
+use fold_counts::fold::fold_into;
+use job::counters::CutNumber;
+use job::head::head_of;
+use job::lent::counts_sized;
+use job::lent::end_refused;
+use job::row::Row;
+use job::sizes::PLACEMENT_WORDS;
+use job::words::clear;
+use layouts_row::front::layout_checks;
+use layouts_row::rows::layouts_row;
+use listing_call::call::Listed;
+use listing_call::call::list_into;
 
-// Answers a fold text as the fold program does: its lines 3, or one line 9 alone, at the start of the output. The number of bytes is handed back, and
-// the bytes behind them stay. The job ends as the text's words, the layouts as those of its first 4,000 lines 7, plates and cuts as the listing, counts
-// as the plan, with zeros behind; where the text is refused every word of the last three is 0. Where a lent buffer is shorter than its full size, 125
-// words of the job, 28,000 of layouts, 6,144 of plates, 32,768 of cuts, 8,192 counts, or the output than 148,000 bytes, nothing changes, and 0 is
-// handed back.
-pub fn fold_text(
-    text: &[u8],
-    out: &mut [u8],
-    job: &mut [u16],
-    layouts: &mut [u16],
+// The boards of the set that is folded; or the number of a refusal and the place that it names.
+pub enum FoldAnswer {
+    Folded(u16),
+    Refused(u16, usize),
+}
+
+// Folds layout lines that have passed the layouts row, over the k cuts of the job's listing; gives the number of boards.
+fn fold_set(job: &[u16], layouts: &[u16], cuts: &[u16], k: CutNumber, counts: &mut [u16]) -> u16
+    requires { ⌜ (jobWords (now job) ≡ pass) × ((layoutWords (jobOf (now job)) (now layouts) ≡ pass) × (layoutsRow 1 (jobOf (now job)) (rowsOf (now layouts)) ≡ pass)) ⌝ }
+    requires { ⌜ (CutsLent (listingOf (jobOf (now job))) (now cuts) (k .0)) × (k .0 ≤ length (now counts)) ⌝ }
+    ensures { λ r. ⌜ r ≡ length (setOf (now (layouts .entry))) ⌝ }
+    ensures { λ _. ⌜ now (counts .exit) ≡ filled (length (now (counts .entry))) (folded (jobOf (now (job .entry))) (listingOf (jobOf (now (job .entry)))) (setOf (now (layouts .entry)))) ⌝ }
+{
+    let lines = layouts.len() / PLACEMENT_WORDS;
+    let head = head_of(job);
+    fold_into(job, layouts, lines, head.mode, cuts, k, counts);
+    count_boards(layouts, lines)
+}
+
+// Lists an admitted job into buffers of full size, checks the layouts by the layouts row, and folds them.
+fn fold_listed(
+    job: &[u16],
+    layouts: &[u16],
     plates: &mut [u16],
     cuts: &mut [u16],
     counts: &mut [u16],
-) -> usize
-    ensures { λ n. ⌜ Called (now (text .entry)) (lent (now (out .entry)) (now (job .entry)) (now (layouts .entry)) (now (plates .entry)) (now (cuts .entry)) (now (counts .entry))) n (lent (now (out .exit)) (now (job .exit)) (now (layouts .exit)) (now (plates .exit)) (now (cuts .exit)) (now (counts .exit))) ⌝ }
+) -> FoldAnswer
+    requires { ⌜ (jobWords (now job) then layoutWords (jobOf (now job)) (now layouts) then admission (jobOf (now job))) ≡ pass ⌝ }
+    requires { ⌜ (platesSize ≤ length (now plates)) × ((cutsSize ≤ length (now cuts)) × (countsSize ≤ length (now counts))) ⌝ }
+    ensures { λ r. ⌜ Ended (foldTail (jobOf (now (job .entry))) (now (layouts .entry))) (now (job .entry)) (now (layouts .entry)) (now (plates .entry)) (now (cuts .entry)) (now (counts .entry)) (saysOf r) (now (plates .exit)) (now (cuts .exit)) (now (counts .exit)) ⌝ }
 {
-    if has_room(
-        job.len(),
-        layouts.len(),
-        plates.len(),
-        cuts.len(),
-        counts.len(),
-        out.len(),
-    ) {
-        let begun = start(job, layouts);
-        let whole = feed(begun, text, job, layouts);
-        return finish(whole, job, layouts, plates, cuts, counts, out);
+    match list_into(job, plates, cuts) {
+        Listed::Refused(number, place) => {
+            clear(counts);
+            FoldAnswer::Refused(number, place)
+        }
+        Listed::Done(_, k) => match layouts_row(job, layouts, 1) {
+            Row::Refuses(number, place) => {
+                clear(plates);
+                clear(cuts);
+                clear(counts);
+                FoldAnswer::Refused(number, place)
+            }
+            Row::Passes => FoldAnswer::Folded(fold_set(job, layouts, cuts, k, counts)),
+        },
     }
-    0
 }
 
-// Feeds a text in parts that end at the given places, and then the rest of it.
-fn read_in_parts(text: &[u8], ends: &[u32], job: &mut [u16], layouts: &mut [u16]) -> FoldReader
-    requires { ⌜ (jobSize ≤ length (now job)) × (layoutsSize ≤ length (now layouts)) ⌝ }
-    ensures { λ r. ⌜ After (now (text .entry)) r (words (now (job .exit)) (now (layouts .exit))) ⌝ }
+// The rows before the model: the words of job and layouts, the job, and then the lent buffers.
+fn fold_checks(job: &[u16], layouts: &[u16], plates: &[u16], cuts: &[u16], counts: &[u16]) -> Row
+    ensures { λ r. ⌜ rowVerdict r ≡ ((jobWords (now (job .entry)) then layoutWords (jobOf (now (job .entry))) (now (layouts .entry)) then admission (jobOf (now (job .entry)))) then sized 1 platesSize (now (plates .entry)) then sized 2 cutsSize (now (cuts .entry)) then sized 3 countsSize (now (counts .entry))) ⌝ }
 {
-    let mut reader = start(job, layouts);
-    let mut at: usize = 0;
-    let mut i: usize = 0;
-    while i < ends.len() {
-        let end = ends[i] as usize;
-        i += 1;
-        if end <= at {
-            continue;
-        }
-        if text.len() < end {
-            continue;
-        }
-        reader = feed(reader, &text[at..end], job, layouts);
-        at = end;
-    }
-    feed(reader, &text[at..], job, layouts)
+    let admitted = layout_checks(job, layouts);
+    let Row::Passes = admitted else {
+        return admitted;
+    };
+    counts_sized(plates, cuts, counts)
 }
 
-// Answers a fold text that comes in parts. They end at the given places of the text: one that is not after the last, or is past the text, is passed
-// over, and the rest of the text is the last part. Whatever the places are, the answer and every lent word are those of `fold_text`.
-pub fn fold_in_parts(
-    text: &[u8],
-    ends: &[u32],
-    out: &mut [u8],
-    job: &mut [u16],
-    layouts: &mut [u16],
+// The folding call: the counts of the cuts of a set of layouts in folding's order, and the number of its boards.
+// Refused are 1 and 2 of the job's words; 1 a layout line cut short and 2 one with a value outside its limits, naming the line; 3 and 4 of the job; 5 a
+// buffer shorter than its full size, plates 1, cuts 2, counts 3; 6 and 7 of the model, naming 0; then the layouts row: 10 more than 4,000 lines,
+// naming 0; 15 a line that is not the next in turn; 16 a strip that breaks the stage rule and 17 one that passes the board, naming its first line; 18 a
+// line whose x or y is wrong; 11 a type that lies in the lines less often than demanded. Plates and cuts end as the listing, counts as the plan; after
+// 5 all three are unchanged, after another refusal every word of them is 0, after success the unused words are 0. On success the layouts are the lines
+// of a set that demand 3 names, and the counts are an accepted plan that opens as many boards as the set has.
+pub fn fold(
+    job: &[u16],
+    layouts: &[u16],
     plates: &mut [u16],
     cuts: &mut [u16],
     counts: &mut [u16],
-) -> usize
-    ensures { λ n. ⌜ Called (now (text .entry)) (lent (now (out .entry)) (now (job .entry)) (now (layouts .entry)) (now (plates .entry)) (now (cuts .entry)) (now (counts .entry))) n (lent (now (out .exit)) (now (job .exit)) (now (layouts .exit)) (now (plates .exit)) (now (cuts .exit)) (now (counts .exit))) ⌝ }
+) -> FoldAnswer
+    ensures { λ r. ⌜ saysOf r ≡ foldAnswer (now (job .entry)) (now (layouts .entry)) (now (plates .entry)) (now (cuts .entry)) (now (counts .entry)) ⌝ }
+    ensures { λ _. ⌜ now (plates .exit) ≡ platesEnd (foldVerdict (now (job .entry)) (now (layouts .entry)) (now (plates .entry)) (now (cuts .entry)) (now (counts .entry))) (now (job .entry)) (now (plates .entry)) ⌝ }
+    ensures { λ _. ⌜ now (cuts .exit) ≡ cutsEnd (foldVerdict (now (job .entry)) (now (layouts .entry)) (now (plates .entry)) (now (cuts .entry)) (now (counts .entry))) (now (job .entry)) (now (cuts .entry)) ⌝ }
+    ensures { λ _. ⌜ now (counts .exit) ≡ countsEnd (foldVerdict (now (job .entry)) (now (layouts .entry)) (now (plates .entry)) (now (cuts .entry)) (now (counts .entry))) (now (job .entry)) (now (layouts .entry)) (now (counts .entry)) ⌝ }
+    ensures { λ r. ⌜ OnSuccess r (Promise (now (job .entry)) (now (layouts .entry)) (now (counts .exit))) ⌝ }
 {
-    if has_room(
-        job.len(),
-        layouts.len(),
-        plates.len(),
-        cuts.len(),
-        counts.len(),
-        out.len(),
-    ) {
-        let reader = read_in_parts(text, ends, job, layouts);
-        return finish(reader, job, layouts, plates, cuts, counts, out);
+    match fold_checks(job, layouts, plates, cuts, counts) {
+        Row::Refuses(number, place) => {
+            end_refused(number, plates);
+            end_refused(number, cuts);
+            end_refused(number, counts);
+            FoldAnswer::Refused(number, place)
+        }
+        Row::Passes => fold_listed(job, layouts, plates, cuts, counts),
     }
-    0
 }

@@ -1,2 +1,3 @@
-// The fold text, from bytes to bytes.
+// The folding call.
+pub mod boards;
 pub mod call;

@@ -1,6 +1,5 @@
 -- The line row of job words and the job row pass exactly where the words are right and the job fits.
--- Assumes nothing.
-use Prim.Native.Nat.{ℕ, zero, suc, _+_, _*_, _≤_}
+use Prim.Native.Nat.{ℕ, zero, suc, _≤_}
 use native.Mathlib.Omega.{arith}
 use mathlib.Core.Path.{_≡_, ap}
 use mathlib.Core.Logic.{_↔_}
@@ -10,13 +9,14 @@ use lib.Dec.{ltb, eqb}
 use lib.ListN.{length, getD}
 use borrow.Author.Tests.{eqb-true, eq-eqb, ltb-false, le-ltb, not-false}
 use Rattle.job.specs.declared.item.Item.{Item}
+use Rattle.job.specs.Sizes.{jobSize}
 use Rattle.job.specs.Verdict.{pass, _then_, refuseIf, lowest, within}
 use Rattle.job.specs.Job.{Job, noItem, itemAt, jobOf, side, boardRight, itemRight, jobWords, larger, demanded, admission, maxSide, maxTypes, maxPieces}
 use Rattle.job.specs.Admitted.{Between, ItemLimits, WordsRight, Fitting, AdmittedWords, Admitted, Sided}
 use Rattle.job.proofs.Tests.{and-left, and-right, or-left, or-right, or-neither}
 use Rattle.job.proofs.Decides.{decides-within}
 use Rattle.job.proofs.Verdicts.{then-first, then-second, then-both, refuseIf-pass, refuseIf-false, lowest-good, lowest-pass}
-use Rattle.job.proofs.ItemWords.{job-types}
+use Rattle.job.proofs.ItemWords.{items-length}
 
 -- the limits of an item type, tested
 pub item-limits : (it : Item) → itemRight it ≡ true → ItemLimits it
@@ -102,11 +102,11 @@ types-good number bad job h (suc i) p q = lowest-good number (λ _ it. bad it) n
 pub words-right : (ws : List ℕ) → jobWords ws ≡ pass → WordsRight ws
 unfolding jobWords
 words-right ws h =
-    let size = refuseIf (not (eqb (length ws) (5 + 3 * getD ws 4 0))) 1 0 in
+    let size = refuseIf (not (eqb (length ws) (jobSize (getD ws 4 0)))) 1 0 in
     let values = refuseIf (not (boardRight ws)) 2 0 in
     let types = lowest 2 (λ _ it. not (itemRight it)) 1 (jobOf ws .items) in
     let later = then-second size (values then types) h in
-    let whole = eqb-true (length ws) (5 + 3 * getD ws 4 0) (not-false _ (refuseIf-pass _ 1 0 (then-first size (values then types) h))) in
+    let whole = eqb-true (length ws) (jobSize (getD ws 4 0)) (not-false _ (refuseIf-pass _ 1 0 (then-first size (values then types) h))) in
     let l = board-limits ws (not-false _ (refuseIf-pass _ 2 0 (then-first values types later))) in
     let good = types-good 2 (λ it. not (itemRight it)) (jobOf ws) (then-second values types later) in
     record {
@@ -116,7 +116,7 @@ words-right ws h =
       width-limits = l .2;
       height-limits = l .3;
       types-limits = l .4;
-      each-item = λ i p q. item-limits (itemAt (jobOf ws) i) (not-false _ (good i p (rw (job-types ws (getD ws 4 0) whole) q)));
+      each-item = λ i p q. item-limits (itemAt (jobOf ws) i) (not-false _ (good i p (rw (items-length ws (getD ws 4 0) whole) q)));
     }
 
 -- and words that are right are not refused
@@ -124,11 +124,11 @@ pub right-words : (ws : List ℕ) → WordsRight ws → jobWords ws ≡ pass
 unfolding jobWords
 right-words ws r =
     rw (
-      eq-eqb (length ws) (5 + 3 * getD ws 4 0) (r .whole),
+      eq-eqb (length ws) (jobSize (getD ws 4 0)) (r .whole),
       board-limits-test ws (r .stages-limits, r .exact-limits, r .width-limits, r .height-limits, r .types-limits),
     )
     (types-pass 2 (λ it. not (itemRight it)) (jobOf ws)
-    (λ i p q. ap not (item-limits-test (itemAt (jobOf ws) i) (r .each-item i p (rw (job-types ws (getD ws 4 0) (r .whole)) at q)))))
+    (λ i p q. ap not (item-limits-test (itemAt (jobOf ws) i) (r .each-item i p (rw (items-length ws (getD ws 4 0) (r .whole)) at q)))))
 
 -- where neither 3 nor 4 refuses it, the job fits
 pub job-fitting : (job : Job) → admission job ≡ pass → Fitting job
@@ -169,7 +169,7 @@ admitted-words ws = (
 pub admitted-job : (ws : List ℕ) → AdmittedWords ws → Admitted (jobOf ws)
 unfolding jobOf
 admitted-job ws a =
-    let n = job-types ws (getD ws 4 0) (a .right .whole) in
+    let n = items-length ws (getD ws 4 0) (a .right .whole) in
     record {
       width-limits = a .right .width-limits;
       height-limits = a .right .height-limits;

@@ -1,5 +1,4 @@
 -- Checks in turn, and what a lent buffer ends as: a refusal with another number than 5 leaves zeros.
--- Assumes nothing.
 use mathlib.Core.Path.{_≡_, refl, sym, ap, _∙_}
 use mathlib.Core.Bool.{Bool, true, false}
 use mathlib.Core.List.{List, [], _∷_}

@@ -1,5 +1,4 @@
 -- Loops over the item types in rising number, on plain values: what is left to do from type i on is the whole.
--- Assumes nothing.
 use mathlib.Core.Path.{_≡_, sym, _∙_}
 use Prim.Native.Nat.{ℕ, _+_, _-_, _≤_, _<_}
 use mathlib.Core.Bool.{Bool, true, false}

@@ -1,5 +1,4 @@
 -- A chain of tests joined by "and", as the code evaluates it: the next test is made only where those before it held.
--- Assumes nothing.
 use mathlib.Core.Path.{_≡_, _∙_}
 use mathlib.Core.Bool.{Bool, true, false, _&&_}
 

@@ -1,5 +1,4 @@
 -- Tests that decide a plain statement, checks that pass exactly where it holds, and how they are put together.
--- Assumes nothing.
 use Prim.Native.Nat.{ℕ, _+_, _≤_, _<_}
 use mathlib.Core.Path.{_≡_, ap}
 use mathlib.Core.Logic.{_⊎_, inl, inr, _↔_}

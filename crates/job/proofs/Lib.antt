@@ -5,6 +5,7 @@ pub mod Tests
 pub mod Lists
 pub mod Sums
 pub mod Verdicts
+pub mod CodeLowest
 pub mod Decides
 pub mod Buffers
 pub mod ItemWords

@@ -1,5 +1,4 @@
 -- Records of n words each, one after another: how many words they are, and where each word stands.
--- Assumes nothing.
 use Prim.Native.Nat.{ℕ, zero, suc, _+_, _*_, _<_}
 use native.Mathlib.Omega.{arith}
 use native.Mathlib.Nat.{mul-zero, mul-suc}

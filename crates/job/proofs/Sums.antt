@@ -1,17 +1,14 @@
 -- Sums and greatest values over a list, and how often a number stands in one.
--- Assumes nothing.
-use Prim.Native.Nat.{ℕ, zero, suc, _+_, _*_, _≤_, _<_, max}
+use Prim.Native.Nat.{ℕ, zero, suc, _+_, _≤_, _<_}
 use native.Mathlib.Omega.{arith}
-use mathlib.Core.Path.{_≡_, refl, sym, _∙_, ap}
-use mathlib.Core.Logic.{_⊎_, inl, inr}
+use mathlib.Core.Path.{_≡_, refl, _∙_, ap}
 use mathlib.Core.Bool.{Bool, true, false, cond, _||_}
 use mathlib.Core.List.{List, [], _∷_, _++_, map, flatMap}
 use lib.Dec.{eqb}
-use lib.ListN.{length, getD, take, drop, take-append-drop}
+use lib.ListN.{length, getD, take}
 use lib.Seq.{take-suc}
 use borrow.Author.Tests.{eq-eqb, ne-eqb}
 use Rattle.job.specs.Lists.{sumOf, maxOf, occurs, tally}
-use Rattle.job.proofs.Tests.{at-most-or-above}
 
 module _ {A : Type 0} where
   -- one list after another
@@ -20,37 +17,10 @@ module _ {A : Type 0} where
   sumOf-append f [] bs = omega arith
   sumOf-append f (a ∷ as′) bs = omega (arith, sumOf-append f as′ bs)
 
-  -- the elements before a place, and those from it on
-  pub sumOf-split : (f : A → ℕ) (as′ : List A) (i : ℕ) → sumOf f as′ ≡ sumOf f (take i as′) + sumOf f (drop i as′)
-  sumOf-split f as′ i = ap (sumOf f) (sym (take-append-drop i as′)) ∙ sumOf-append f (take i as′) (drop i as′)
-
   -- one element more
   pub sumOf-take : (f : A → ℕ) (as′ : List A) (i : ℕ) (d : A) → i < length as′ → sumOf f (take (suc i) as′) ≡ sumOf f (take i as′) + f (getD as′ i d)
   unfolding sumOf
   sumOf-take f as′ i d h = ap (sumOf f) (take-suc as′ i d h) ∙ sumOf-append f (take i as′) (getD as′ i d ∷ []) ∙ omega arith
-
-  -- a value is at most the sum
-  pub sumOf-at : (f : A → ℕ) (as′ : List A) (i : ℕ) (d : A) → i < length as′ → f (getD as′ i d) ≤ sumOf f as′
-  unfolding sumOf
-  sumOf-at f [] i d h = absurd (omega arith)
-  sumOf-at f (a ∷ as′) zero d h = omega arith
-  sumOf-at f (a ∷ as′) (suc i) d h = let z : f (getD as′ i d) ≤ sumOf f as′ = sumOf-at f as′ i d (omega arith) in omega arith
-
-  -- values that are at most b each
-  pub sumOf-bound : (f : A → ℕ) (b : ℕ) (as′ : List A) (d : A) → ((i : ℕ) → i < length as′ → f (getD as′ i d) ≤ b) → sumOf f as′ ≤ length as′ * b
-  unfolding sumOf
-  sumOf-bound f b [] d h = omega arith
-  sumOf-bound f b (a ∷ as′) d h =
-      let z : f a ≤ b = h 0 (omega arith) in
-      omega (arith, sumOf-bound f b as′ d (λ i p. h (suc i) (omega arith)))
-
-  -- values that are at most others, each at its place
-  pub sumOf-le : (f g : A → ℕ) (as′ : List A) (d : A) → ((i : ℕ) → i < length as′ → f (getD as′ i d) ≤ g (getD as′ i d)) → sumOf f as′ ≤ sumOf g as′
-  unfolding sumOf
-  sumOf-le f g [] d h = omega arith
-  sumOf-le f g (a ∷ as′) d h =
-      let z : f a ≤ g a = h 0 (omega arith) in
-      omega (arith, sumOf-le f g as′ d (λ i p. h (suc i) (omega arith)))
 
   -- the same values
   pub sumOf-same : (f g : A → ℕ) (as′ : List A) → ((a : A) → f a ≡ g a) → sumOf f as′ ≡ sumOf g as′
@@ -58,23 +28,11 @@ module _ {A : Type 0} where
   sumOf-same f g [] h = refl
   sumOf-same f g (a ∷ as′) h = omega (arith, h a, sumOf-same f g as′ h)
 
-  -- two sums in one
-  pub sumOf-add : (f g : A → ℕ) (as′ : List A) → sumOf (λ a. f a + g a) as′ ≡ sumOf f as′ + sumOf g as′
-  unfolding sumOf
-  sumOf-add f g [] = refl
-  sumOf-add f g (a ∷ as′) = omega (arith, sumOf-add f g as′)
-
   -- as many ones as elements
   pub length-sum : (as′ : List A) → sumOf (λ _. 1) as′ ≡ length as′
   unfolding sumOf
   length-sum [] = refl
   length-sum (a ∷ as′) = omega (arith, length-sum as′)
-
-  -- one list after another
-  pub maxOf-append : (f : A → ℕ) (as′ bs : List A) → maxOf f (as′ ++ bs) ≡ max (maxOf f as′) (maxOf f bs)
-  unfolding maxOf
-  maxOf-append f [] bs = omega arith
-  maxOf-append f (a ∷ as′) bs = omega (arith, maxOf-append f as′ bs)
 
   -- a value is at most the greatest
   pub maxOf-at : (f : A → ℕ) (as′ : List A) (i : ℕ) (d : A) → i < length as′ → f (getD as′ i d) ≤ maxOf f as′
@@ -90,20 +48,6 @@ module _ {A : Type 0} where
   maxOf-bound f b (a ∷ as′) d h =
       let z : f a ≤ b = h 0 (omega arith) in
       omega (arith, maxOf-bound f b as′ d (λ i p. h (suc i) (omega arith)))
-
-  -- the greatest value is that of some element
-  pub maxOf-found : (f : A → ℕ) (as′ : List A) (d : A) → 0 < length as′ → (i : ℕ) × (i < length as′) × (f (getD as′ i d) ≡ maxOf f as′)
-  unfolding maxOf
-  maxOf-found f [] d h = absurd (omega arith)
-  maxOf-found f (a ∷ []) d h = (0, omega arith, omega arith)
-  maxOf-found f (a ∷ b ∷ as′) d h = go (maxOf-found f (b ∷ as′) d (omega arith)) (at-most-or-above (maxOf f (b ∷ as′)) (f a))
-    where
-      go :
-          (i : ℕ) × (i < length (b ∷ as′)) × (f (getD (b ∷ as′) i d) ≡ maxOf f (b ∷ as′))
-          → (maxOf f (b ∷ as′) ≤ f a) ⊎ (f a < maxOf f (b ∷ as′))
-          → (i : ℕ) × (i < length (a ∷ b ∷ as′)) × (f (getD (a ∷ b ∷ as′) i d) ≡ max (f a) (maxOf f (b ∷ as′)))
-      go r (inl p) = (0, omega arith, omega arith)
-      go r (inr p) = (suc (r .0), omega (arith, r .1), omega (arith, r .2))
 
 -- the sum over mapped elements
 pub sumOf-map : {A B : Type 0} (f : B → ℕ) (g : A → B) (as′ : List A) → sumOf f (map g as′) ≡ sumOf (λ a. f (g a)) as′

@@ -1,5 +1,4 @@
 -- Tests by their parts: what a conjunction, a disjunction, a negation or a pair of limits says where it is true, and where it is false.
--- Assumes nothing.
 use Prim.Native.Nat.{ℕ, _≤_, _<_}
 use native.Mathlib.Omega.{arith}
 use mathlib.Core.Path.{_≡_, refl, sym}
@@ -9,19 +8,9 @@ use lib.Dec.{leb, eqb}
 use borrow.Author.Tests.{leb-true, leb-false, le-leb, eqb-true, eqb-false}
 use Rattle.job.specs.Verdict.{within}
 
--- a test is true or false
-pub true-or-false : (t : Bool) → (t ≡ true) ⊎ (t ≡ false)
-true-or-false true = inl refl
-true-or-false false = inr refl
-
--- and never both
+-- a test is never both true and false
 pub not-both : {t : Bool} → t ≡ true → t ≡ false → ⊥
 not-both {t} p q = let z : _≡_ {A = ℕ} 0 1 = cc in omega arith
-
--- a test that is not false is true
-pub not-false-true : (t : Bool) → (t ≡ false → ⊥) → t ≡ true
-not-false-true true h = refl
-not-false-true false h = absurd (h refl)
 
 -- a test that is not true is false
 pub not-true-false : (t : Bool) → (t ≡ true → ⊥) → t ≡ false
@@ -44,11 +33,6 @@ and-right false b h = absurd (not-both h refl)
 
 pub and-both : (a b : Bool) → a ≡ true → b ≡ true → (a && b) ≡ true
 and-both a b p q = rw (p, q)
-
--- one part of a false conjunction is false
-pub and-false : (a b : Bool) → (a && b) ≡ false → (a ≡ false) ⊎ (b ≡ false)
-and-false true b h = inr h
-and-false false b h = inl refl
 
 -- both parts of a false disjunction are false
 pub or-left : (a b : Bool) → (a || b) ≡ false → a ≡ false
@@ -103,17 +87,6 @@ within-high low high x h = leb-true x high (and-right (leb low x) (leb x high) h
 
 pub within-limits : (low high x : ℕ) → low ≤ x → x ≤ high → within low high x ≡ true
 within-limits low high x p q = and-both (leb low x) (leb x high) (le-leb low x p) (le-leb x high q)
-
--- a value outside its limits
-pub within-not : (low high x : ℕ) → within low high x ≡ false → (x < low) ⊎ (high < x)
-within-not low high x h = go (and-false (leb low x) (leb x high) h)
-  where
-    go : (leb low x ≡ false) ⊎ (leb x high ≡ false) → (x < low) ⊎ (high < x)
-    go (inl p) = inl (leb-false low x p)
-    go (inr p) = inr (leb-false x high p)
-
-pub below-limits : (low high x : ℕ) → x < low → within low high x ≡ false
-below-limits low high x h = not-true-false (within low high x) (λ t. let z = within-low low high x t in omega arith)
 
 pub above-limits : (low high x : ℕ) → high < x → within low high x ≡ false
 above-limits low high x h = not-true-false (within low high x) (λ t. let z = within-high low high x t in omega arith)

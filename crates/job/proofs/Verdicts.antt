@@ -1,5 +1,4 @@
 -- Verdicts: one check after another, and the lowest place at which a check fails.
--- Assumes nothing.
 use Prim.Native.Nat.{ℕ, zero, suc, _+_, _≤_, _<_}
 use native.Mathlib.Omega.{arith}
 use mathlib.Core.Path.{_≡_, refl, _∙_, ap}
@@ -9,15 +8,14 @@ use lib.ListN.{length, getD, drop, drop-of-length-le}
 use lib.Seq.{drop-cons}
 use Rattle.job.specs.Verdict.{Verdict, pass, refuse, _then_, refuseIf, lowest}
 
--- nothing follows
-pub then-pass : (v : Verdict) → (v then pass) ≡ v
-then-pass pass = refl
-then-pass (refuse n p) = refl
-
 -- checks in a row may be grouped in any way
 pub then-assoc : (u v w : Verdict) → ((u then v) then w) ≡ (u then (v then w))
 then-assoc pass v w = refl
 then-assoc (refuse n p) v w = refl
+
+pub then-assoc-3 : (u v w x : Verdict) → ((u then v then w) then x) ≡ (u then v then w then x)
+then-assoc-3 pass v w x = then-assoc v w x
+then-assoc-3 (refuse n p) v w x = refl
 
 -- a pass and a refusal are never one
 pub pass-not-refuse : {v : Verdict} {n p : ℕ} → v ≡ pass → v ≡ refuse n p → ⊥
@@ -49,9 +47,6 @@ refuseIf-pass false n p h = refl
 
 pub refuseIf-false : (t : Bool) (n p : ℕ) → t ≡ false → refuseIf t n p ≡ pass
 refuseIf-false t n p h = rw h
-
-pub refuseIf-true : (t : Bool) (n p : ℕ) → t ≡ true → refuseIf t n p ≡ refuse n p
-refuseIf-true t n p h = rw h
 
 module _ {A : Type 0} where
   -- place i is the first whose element is bad, where the first place has the number k; `d` stands past the list's end
@@ -187,27 +182,3 @@ module _ {A : Type 0} where
                 → bad (k + j) (getD (a ∷ as′) j d) ≡ false
             before e g zero l = ap (λ (j : ℕ). bad j a) (omega arith) ∙ e
             before e g (suc j) l = ap (λ (j′ : ℕ). bad j′ (getD as′ j d)) (omega arith) ∙ g j (omega arith)
-
-    -- the first bad place is the one that is named
-    pub lowest-first : (d : A) (k : ℕ) (as′ : List A) (i : ℕ) → FirstBad bad d k as′ i → lowest number bad k as′ ≡ refuse number (k + i)
-    lowest-first d k [] i b = absurd (omega arith)
-    lowest-first d k (a ∷ as′) zero b =
-        let e : bad k a ≡ true = ap (λ (j : ℕ). bad j a) (omega arith) ∙ b .is-bad in
-        lowest-here k a as′ e ∙ ap (refuse number) (omega arith)
-    lowest-first d k (a ∷ as′) (suc i) b =
-        let e : bad k a ≡ false = ap (λ (j : ℕ). bad j a) (omega arith) ∙ b .good-before 0 (omega arith) in
-        lowest-next k a as′ e
-        ∙ lowest-first d (suc k) as′ i
-        (record {
-          inside = omega (arith, b .inside);
-          is-bad = ap (λ (j : ℕ). bad j (getD as′ i d)) (omega arith) ∙ b .is-bad;
-          good-before = λ j l. ap (λ (j′ : ℕ). bad j′ (getD as′ j d)) (omega arith) ∙ b .good-before (suc j) (omega arith);
-        })
-        ∙ ap (refuse number) (omega arith)
-
-  -- two checks that find the same places bad
-  pub lowest-same :
-      (number : ℕ) (bad bad′ : ℕ → A → Bool) (k : ℕ) (as′ : List A)
-      → ((j : ℕ) (a : A) → bad j a ≡ bad′ j a)
-      → lowest number bad k as′ ≡ lowest number bad′ k as′
-  lowest-same number bad bad′ k as′ h = ap (λ (b : ℕ → A → Bool). lowest number b k as′) (λ m j a. h j a m)

@@ -1,10 +1,10 @@
 -- Document 01, "The job", in plain statements: what is true of a job's words, and of the job, where 1, 2, 3 and 4 do not refuse them.
--- Assumes nothing.
-use Prim.Native.Nat.{ℕ, _+_, _*_, _≤_}
+use Prim.Native.Nat.{ℕ, _≤_}
 use mathlib.Core.Path.{_≡_}
 use mathlib.Core.List.{List}
 use lib.ListN.{length, getD}
 use Rattle.job.specs.declared.item.Item.{Item}
+use Rattle.job.specs.Sizes.{jobSize}
 use Rattle.job.specs.Job.{Job, itemAt, jobOf, demanded, maxSide, maxTypes, maxPieces}
 
 -- a value from one limit to another, both included
@@ -19,7 +19,7 @@ pub record ItemLimits (it : Item) : Type 0 where
 
 -- the words of a job, where neither 1 nor 2 refuses them: as many as their n says, each within its limits
 pub record WordsRight (ws : List ℕ) : Type 0 where
-  pub whole : length ws ≡ 5 + 3 * getD ws 4 0
+  pub whole : length ws ≡ jobSize (getD ws 4 0)
   pub stages-limits : Between 2 3 (getD ws 0 0)
   pub exact-limits : Between 0 1 (getD ws 1 0)
   pub width-limits : Between 1 maxSide (getD ws 2 0)

@@ -1,11 +1,11 @@
 -- Document 01, "Where each number is given": what a call answers, and what a lent buffer holds when it ends.
--- Assumes nothing.
 use Prim.Native.Nat.{ℕ, _-_}
-use mathlib.Core.Bool.{Bool, true, false}
+use mathlib.Core.Bool.{true, false}
 use mathlib.Core.List.{List, _++_}
 use lib.Dec.{ltb, eqb}
 use lib.ListN.{length, replicate}
 use Rattle.job.specs.Verdict.{Verdict, pass, refuse, refuseIf}
+pub use Rattle.job.specs.Sizes.{platesSize, cutsSize, countsSize, placementsSize}
 
 -- a call's results, or the refusal's number and the place that it names
 pub data Answer : Type 0 where
@@ -24,19 +24,6 @@ filled size ws = ws ++ replicate (size - length ws) 0
 abbrev pub ends : Verdict → List ℕ → List ℕ → List ℕ
 ends pass buffer ws = filled (length buffer) ws
 ends (refuse number place) buffer ws = elim (eqb number 5) [ true ↦ buffer | false ↦ replicate (length buffer) 0 ]
-
--- full sizes in words: 2,048 plate types, 8,192 cuts, their counts, 4,000 placements
-abbrev pub platesSize : ℕ
-platesSize = 6144
-
-abbrev pub cutsSize : ℕ
-cutsSize = 32768
-
-abbrev pub countsSize : ℕ
-countsSize = 8192
-
-abbrev pub placementsSize : ℕ
-placementsSize = 28000
 
 -- 5: buffer `number`, which is 1 for plates, 2 for cuts, 3 for counts, 4 for placements, is shorter than its full size
 unfoldable pub sized : ℕ → ℕ → List ℕ → Verdict

@@ -1,27 +1,16 @@
 -- Document 01, "The job": board, item types and stage mode; the job as words; refusals 1 and 2 of the words, 3 and 4 of the job.
--- Assumes nothing.
-use Prim.Native.Nat.{ℕ, zero, suc, _+_, _*_}
-use mathlib.Core.Bool.{Bool, true, false, not, _&&_, _||_}
+use Prim.Native.Nat.{ℕ, zero, suc}
+use mathlib.Core.Bool.{Bool, not, _&&_, _||_}
 use mathlib.Core.List.{List, [], _∷_}
 use lib.Dec.{ltb, eqb}
 use lib.ListN.{length, getD, drop}
 use Rattle.job.specs.declared.mode.Mode.{Mode}
 use Rattle.job.specs.declared.item.Item.{Item}
 use Rattle.job.specs.Lists.{sumOf}
+use Rattle.job.specs.Sizes.{wordsOfHead, jobSize}
+pub use Rattle.job.specs.Sizes.{maxSide, maxTypes, maxPieces}
 use Rattle.job.specs.Verdict.{Verdict, _then_, refuseIf, within, lowest}
 use Rattle.job.specs.Mode.{modeOf}
-
--- the greatest side, in millimetres
-abbrev pub maxSide : ℕ
-maxSide = 10000
-
--- the most item types
-abbrev pub maxTypes : ℕ
-maxTypes = 40
-
--- the greatest demand, and the most that demands, counts or pieces come to in all
-abbrev pub maxPieces : ℕ
-maxPieces = 4000
 
 -- a job: its stage mode, the board's sides, and its item types; type i, from 1, stands at place i - 1
 pub record Job : Type 0 where
@@ -56,7 +45,7 @@ jobOf ws =
       mode = modeOf (getD ws 0 0) (getD ws 1 0);
       width = getD ws 2 0;
       height = getD ws 3 0;
-      items = itemsOf (drop 5 ws);
+      items = itemsOf (drop wordsOfHead ws);
     }
 
 -- a side, 1 to 10,000
@@ -79,7 +68,7 @@ itemRight it = side (it .width) && side (it .height) && within 1 maxPieces (it .
 -- the line row of job words: 1 another length than that of n types; 2 a value outside its limits, naming the type, or 0 for the board
 unfoldable pub jobWords : List ℕ → Verdict
 jobWords ws =
-    refuseIf (not (eqb (length ws) (5 + 3 * getD ws 4 0))) 1 0
+    refuseIf (not (eqb (length ws) (jobSize (getD ws 4 0)))) 1 0
     then refuseIf (not (boardRight ws)) 2 0
     then lowest 2 (λ _ it. not (itemRight it)) 1 (jobOf ws .items)
 

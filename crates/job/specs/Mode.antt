@@ -1,5 +1,4 @@
 -- Document 01, "The job": the stage mode, 2E, 2N, 3E or 3N.
--- Assumes nothing.
 use Prim.Native.Nat.{ℕ}
 use mathlib.Core.Bool.{Bool, cond, _||_}
 use lib.Dec.{leb, eqb}

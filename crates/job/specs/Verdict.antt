@@ -1,5 +1,4 @@
 -- Document 01, "Where each number is given": a verdict, the order of checks, and the lowest place at which a check fails.
--- Assumes nothing.
 use Prim.Native.Nat.{ℕ, suc}
 use mathlib.Core.Bool.{Bool, true, false, _&&_}
 use mathlib.Core.List.{List, [], _∷_}

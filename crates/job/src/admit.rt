@@ -1,112 +1,121 @@
 // Admission: the line row of a job's words, 1 and 2, and the job row, 3 and 4.
 ghost use mathlib.Core.Path.{_≡_};
 ghost use mathlib.Core.Bool.{not};
-ghost use Prim.Native.Nat.{_+_, _*_, _≤_};
+ghost use Prim.Native.Nat.{_≤_};
 ghost use lib.ListN.{length};
+ghost use Rattle.job.specs.Sizes.{wordsOfHead, jobSize, maxTypes};
 ghost use Rattle.job.specs.Verdict.{pass, _then_, lowest, within};
-ghost use Rattle.job.specs.Job.{maxTypes, jobOf, boardRight, itemRight, jobWords, larger, demanded, admission};
-ghost use Rattle.job.specs.Admission.{verdictOf};
+ghost use Rattle.job.specs.Job.{jobOf, boardRight, itemRight, jobWords, larger, demanded, admission};
+ghost use Rattle.job.specs.Row.{rowVerdict};
 use crate::counters::ItemType;
+use crate::head::head_of;
 use crate::item::Item;
+use crate::row::Row;
+use crate::sizes::EXACT;
+use crate::sizes::HEAD_WORDS;
+use crate::sizes::HEIGHT;
+use crate::sizes::ITEM_WORDS;
+use crate::sizes::MAX_PIECES;
+use crate::sizes::MAX_SIDE;
+use crate::sizes::MAX_TYPES;
+use crate::sizes::STAGES;
+use crate::sizes::TYPES;
+use crate::sizes::WIDTH;
 use crate::words::item_at;
 
-// What a check of a job says: it passes, or it is refused with a number, naming a place.
-pub enum Admission {
-    Passed,
-    Refused(u16, u16),
-}
-
 // Whether a value is within its limits.
-fn within(low: u16, high: u16, x: u16) -> bool
+pub fn within(low: u16, high: u16, x: u16) -> bool
     ensures { λ r. ⌜ r ≡ within low high x ⌝ }
 {
     low <= x && x <= high
 }
 
-// Whether the first five words are within their limits.
+// Whether the words of the head are within their limits.
 fn board_right(job: &[u16]) -> bool
-    requires { ⌜ 5 ≤ length (now job) ⌝ }
+    requires { ⌜ wordsOfHead ≤ length (now job) ⌝ }
     ensures { λ r. ⌜ r ≡ boardRight (now (job .entry)) ⌝ }
 {
-    within(2, 3, job[0])
-        && within(0, 1, job[1])
-        && within(1, 10000, job[2])
-        && within(1, 10000, job[3])
-        && within(1, 40, job[4])
+    within(2, 3, job[STAGES])
+        && within(0, 1, job[EXACT])
+        && within(1, MAX_SIDE, job[WIDTH])
+        && within(1, MAX_SIDE, job[HEIGHT])
+        && within(1, MAX_TYPES, job[TYPES])
 }
 
 // Whether the words of an item type are within their limits.
 fn item_right(item: Item) -> bool
     ensures { λ r. ⌜ r ≡ itemRight item ⌝ }
 {
-    within(1, 10000, item.width) && within(1, 10000, item.height) && within(1, 4000, item.demand)
+    within(1, MAX_SIDE, item.width)
+        && within(1, MAX_SIDE, item.height)
+        && within(1, MAX_PIECES, item.demand)
 }
 
 // 2 for the lowest of n item types with a word outside its limits.
-fn types_right(job: &[u16], n: ItemType) -> Admission
-    requires { ⌜ (length (now job) ≡ 5 + 3 * n .0) × (n .0 ≤ maxTypes) ⌝ }
-    ensures { λ r. ⌜ verdictOf r ≡ lowest 2 (λ _ it. not (itemRight it)) 1 (jobOf (now (job .entry)) .items) ⌝ }
+fn types_right(job: &[u16], n: ItemType) -> Row
+    requires { ⌜ (length (now job) ≡ jobSize (n .0)) × (n .0 ≤ maxTypes) ⌝ }
+    ensures { λ r. ⌜ rowVerdict r ≡ lowest 2 (λ _ it. not (itemRight it)) 1 (jobOf (now (job .entry)) .items) ⌝ }
 {
     let last = n.0;
     let mut i: u16 = 1;
     while i <= last {
         let item = item_at(job, ItemType(i));
         if !item_right(item) {
-            return Admission::Refused(2, i);
+            return Row::Refuses(2, i as usize);
         }
         i += 1;
     }
-    Admission::Passed
+    Row::Passes
 }
 
 // The line row of a job's words: 1 for another length than its number of types asks for, 2 for a value outside its limits.
-pub fn job_words(job: &[u16]) -> Admission
-    ensures { λ r. ⌜ verdictOf r ≡ jobWords (now (job .entry)) ⌝ }
+pub fn job_words(job: &[u16]) -> Row
+    ensures { λ r. ⌜ rowVerdict r ≡ jobWords (now (job .entry)) ⌝ }
 {
-    if job.len() < 5 {
-        return Admission::Refused(1, 0);
+    if job.len() < HEAD_WORDS {
+        return Row::Refuses(1, 0);
     }
-    let n = job[4];
-    let words = 5 + 3 * (n as usize);
+    let n = job[TYPES];
+    let words = HEAD_WORDS + ITEM_WORDS * (n as usize);
     if job.len() != words {
-        return Admission::Refused(1, 0);
+        return Row::Refuses(1, 0);
     }
     if !board_right(job) {
-        return Admission::Refused(2, 0);
+        return Row::Refuses(2, 0);
     }
     types_right(job, ItemType(n))
 }
 
 // Whether an item is wider or taller than the board.
 fn larger(job: &[u16], item: Item) -> bool
-    requires { ⌜ 5 ≤ length (now job) ⌝ }
+    requires { ⌜ wordsOfHead ≤ length (now job) ⌝ }
     ensures { λ r. ⌜ r ≡ larger (jobOf (now (job .entry))) item ⌝ }
 {
-    let width = job[2];
-    let height = job[3];
+    let width = job[WIDTH];
+    let height = job[HEIGHT];
     width < item.width || height < item.height
 }
 
 // 3 for the lowest of n item types that is larger than the board.
-fn types_fit(job: &[u16], n: ItemType) -> Admission
-    requires { ⌜ (length (now job) ≡ 5 + 3 * n .0) × (n .0 ≤ maxTypes) ⌝ }
-    ensures { λ r. ⌜ verdictOf r ≡ lowest 3 (λ _ it. larger (jobOf (now (job .entry))) it) 1 (jobOf (now (job .entry)) .items) ⌝ }
+fn types_fit(job: &[u16], n: ItemType) -> Row
+    requires { ⌜ (length (now job) ≡ jobSize (n .0)) × (n .0 ≤ maxTypes) ⌝ }
+    ensures { λ r. ⌜ rowVerdict r ≡ lowest 3 (λ _ it. larger (jobOf (now (job .entry))) it) 1 (jobOf (now (job .entry)) .items) ⌝ }
 {
     let last = n.0;
     let mut i: u16 = 1;
     while i <= last {
         let item = item_at(job, ItemType(i));
         if larger(job, item) {
-            return Admission::Refused(3, i);
+            return Row::Refuses(3, i as usize);
         }
         i += 1;
     }
-    Admission::Passed
+    Row::Passes
 }
 
 // The demands of n item types, added up.
 fn demanded(job: &[u16], n: ItemType) -> u32
-    requires { ⌜ (length (now job) ≡ 5 + 3 * n .0) × (n .0 ≤ maxTypes) ⌝ }
+    requires { ⌜ (length (now job) ≡ jobSize (n .0)) × (n .0 ≤ maxTypes) ⌝ }
     ensures { λ r. ⌜ r ≡ demanded (jobOf (now (job .entry))) ⌝ }
 {
     let last = n.0;
@@ -121,27 +130,28 @@ fn demanded(job: &[u16], n: ItemType) -> u32
 }
 
 // The job row, once the job's words have passed: 3 for an item larger than the board, 4 for demands above 4,000.
-pub fn admit(job: &[u16]) -> Admission
+pub fn admit(job: &[u16]) -> Row
     requires { ⌜ jobWords (now job) ≡ pass ⌝ }
-    ensures { λ r. ⌜ verdictOf r ≡ admission (jobOf (now (job .entry))) ⌝ }
+    ensures { λ r. ⌜ rowVerdict r ≡ admission (jobOf (now (job .entry))) ⌝ }
 {
-    let n = ItemType(job[4]);
+    let head = head_of(job);
+    let n = head.types;
     let fit = types_fit(job, n);
-    let Admission::Passed = fit else {
+    let Row::Passes = fit else {
         return fit;
     };
-    if 4000 < demanded(job, n) {
-        return Admission::Refused(4, 0);
+    if (MAX_PIECES as u32) < demanded(job, n) {
+        return Row::Refuses(4, 0);
     }
-    Admission::Passed
+    Row::Passes
 }
 
 // The words of a job and then the job itself: refusals 1 to 4 in their order.
-pub fn check_job(job: &[u16]) -> Admission
-    ensures { λ r. ⌜ verdictOf r ≡ (jobWords (now (job .entry)) then admission (jobOf (now (job .entry)))) ⌝ }
+pub fn check_job(job: &[u16]) -> Row
+    ensures { λ r. ⌜ rowVerdict r ≡ (jobWords (now (job .entry)) then admission (jobOf (now (job .entry)))) ⌝ }
 {
     let words = job_words(job);
-    let Admission::Passed = words else {
+    let Row::Passes = words else {
         return words;
     };
     admit(job)

@@ -1,10 +1,25 @@
 // The three counters of the model; none is used where another is meant.
+ghost use mathlib.Core.Path.{_≡_};
+ghost use Prim.Native.Nat.{_-_, _≤_};
 
-// The number of an item type, from 1.
+// The number of an item type, from 1. A job's last item type tells how many it has.
 pub struct ItemType(pub u16);
 
 // The number of a plate type; the board is 0, residual types follow from 1.
 pub struct PlateType(pub u16);
 
-// The number of a cut, from 1.
+// The number of a cut, from 1. A listing's last cut tells how many it has.
 pub struct CutNumber(pub u16);
+
+// How many plate types a listing has, type 0 among them: one more than the number of its last plate type.
+pub struct PlateTypes(pub u16);
+
+impl PlateTypes {
+    // How many of them are residual types: all but type 0.
+    pub fn residuals(self) -> u16
+        requires { ⌜ 1 ≤ self .0 ⌝ }
+        ensures { λ r. ⌜ r ≡ self .0 - 1 ⌝ }
+    {
+        self.0 - 1
+    }
+}

@@ -1,6 +1,11 @@
-// The job: its stage mode, its item types, the counters of the model, and admission.
+// The job: its stage mode, its item types, the counters of the model, and admission; verdicts, sizes and lent buffers, which every call shares.
 pub mod admit;
 pub mod counters;
+pub mod demands;
+pub mod head;
 pub mod item;
+pub mod lent;
 pub mod mode;
+pub mod row;
+pub mod sizes;
 pub mod words;

@@ -1,6 +1,6 @@
 // The stage mode of a job.
 ghost use mathlib.Core.Path.{_≡_};
-ghost use Rattle.job.specs.Mode.{modeOf};
+ghost use Rattle.job.specs.Mode.{modeOf, three, exact};
 
 // Two or three stages, exact or non-exact: 0 is 2E, 1 is 2N, 2 is 3E, 3 is 3N.
 pub struct Mode(pub u8);
@@ -28,5 +28,21 @@ impl Mode {
             return Mode::TWO_EXACT;
         }
         Mode::TWO_NON_EXACT
+    }
+
+    // Whether the mode has three stages, or else two.
+    pub fn three(self) -> bool
+        ensures { λ r. ⌜ r ≡ three self ⌝ }
+    {
+        let m = self.0;
+        2 <= m
+    }
+
+    // Whether the mode is exact, or else non-exact.
+    pub fn exact(self) -> bool
+        ensures { λ r. ⌜ r ≡ exact self ⌝ }
+    {
+        let m = self.0;
+        m == 0 || m == 2
     }
 }

@@ -1,21 +1,24 @@
 // The words of a job and of a lent buffer.
 ghost use mathlib.Core.Path.{_≡_};
-ghost use Prim.Native.Nat.{_+_, _*_, _≤_, _<_};
+ghost use Prim.Native.Nat.{_≤_};
 ghost use lib.ListN.{length, replicate};
+ghost use Rattle.job.specs.Sizes.{jobSize};
 ghost use Rattle.job.specs.Job.{jobOf, itemAt};
 use crate::counters::ItemType;
 use crate::item::Item;
+use crate::sizes::HEAD_WORDS;
+use crate::sizes::ITEM_WORDS;
 
-// The item type of a number, whose three words the job has.
+// The item type of a number, whose words the job has.
 pub fn item_at(job: &[u16], i: ItemType) -> Item
-    requires { ⌜ (1 ≤ i .0) × (3 * i .0 + 4 < length (now job)) ⌝ }
+    requires { ⌜ (1 ≤ i .0) × (jobSize (i .0) ≤ length (now job)) ⌝ }
     ensures { λ r. ⌜ r ≡ itemAt (jobOf (now (job .entry))) (i .0) ⌝ }
 {
-    let n = i.0 as usize;
+    let at = HEAD_WORDS + ITEM_WORDS * (i.0 as usize - 1);
     Item {
-        width: job[3 * n + 2],
-        height: job[3 * n + 3],
-        demand: job[3 * n + 4],
+        width: job[at],
+        height: job[at + 1],
+        demand: job[at + 2],
     }
 }
 

@@ -3,3 +3,4 @@ pub mod Bound
 pub mod DemandUnfold
 pub mod DemandFold
 pub mod Demand3
+pub mod Exact

@@ -1,7 +1,6 @@
 -- Demand 3, in its own words, for any job whose listing is not refused: every accepted plan unfolds into layouts that keep the rules; every set of
 -- layouts that keeps the rules folds into an accepted plan; every accepted price list bounds every such set.
--- Assumes nothing.
-use Prim.Native.Nat.{ℕ, _+_, _*_, _≤_}
+use Prim.Native.Nat.{ℕ, _*_, _≤_}
 use mathlib.Core.Path.{_≡_}
 use mathlib.Core.Logic.{_⊎_}
 use mathlib.Core.Bool.{true}
@@ -13,11 +12,11 @@ use Rattle.job.specs.Buffers.{filled, placementsSize}
 use Rattle.job.specs.Job.{Job, jobOf, jobWords, admission, maxPieces}
 use Rattle.listing.specs.Listing.{Listing, modelRow, listingOf}
 use Rattle.plan.specs.Plan.{countOf, ofItem, boards, total, countsRow, planRow}
-use Rattle.plan.specs.Prices.{Prices, pricesOf, priceWords, pricesSized, pricesRow, priceSum, fewest}
+use Rattle.plan.specs.Prices.{pricesOf, priceWords, pricesSized, pricesRow, priceSum, fewest}
 use Rattle.layouts.specs.Layout.{Board, layoutRules}
-use Rattle.layouts.specs.Placement.{Placement, placementWords, linesOf, itemsOfSet, meetsDemands}
+use Rattle.layouts.specs.Placement.{placementWords, linesOf, itemsOfSet, meetsDemands}
 use Rattle.layouts.specs.Rectangle.{inside, noOverlap}
-use Rattle.layouts.specs.Unfold.{Run, State, unfolded}
+use Rattle.layouts.specs.Unfold.{Run, unfolded}
 use Rattle.layouts.specs.Lines.{layoutWords, turns, setOf}
 use Rattle.layouts.specs.LayoutsRow.{layoutsRow}
 use Rattle.layouts.specs.Fold.{folded}

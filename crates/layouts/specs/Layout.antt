@@ -1,5 +1,4 @@
 -- Document 01, "Layouts and folding", first paragraph: boards, strips and stacks, their sides, and the layout rules of each mode.
--- Assumes nothing.
 use Prim.Native.Nat.{ℕ}
 use mathlib.Core.Bool.{Bool, true, false, cond, not, _&&_, _||_}
 use mathlib.Core.List.{List, [], _∷_}

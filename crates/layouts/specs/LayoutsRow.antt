@@ -1,5 +1,4 @@
 -- Document 01, "Where each number is given": the layouts row, 10, 15, 16, 17, 18, then 11.
--- Assumes nothing.
 use Prim.Native.Nat.{ℕ, suc, _+_}
 use mathlib.Core.Bool.{Bool, true, false, not, _&&_, _||_}
 use mathlib.Core.List.{List, [], _∷_, _++_, map}
@@ -19,12 +18,14 @@ pub record Laid : Type 0 where
   pub below : ℕ
   pub strip : Strip
 
+abbrev pub laidAt : ℕ → ℕ → Strip → Laid
+laidAt line y s = record { line = line; below = y; strip = s }
+
 -- the strips of a board that begins at a line, from y upwards
 unfoldable pub laidBoard : Job → ℕ → ℕ → Board → List Laid
 laidBoard job line y [] = []
 laidBoard job line y (s ∷ ss) =
-    record { line = line; below = y; strip = s }
-    ∷ laidBoard job (line + length (itemsOfStrip s)) (y + stripHeight job s) ss
+    laidAt line y s ∷ laidBoard job (line + length (itemsOfStrip s)) (y + stripHeight job s) ss
 
 -- the strips of a set that begins at a line
 unfoldable pub laidSet : Job → ℕ → List Board → List Laid

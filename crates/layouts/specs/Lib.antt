@@ -10,3 +10,4 @@ pub mod UnfoldCall
 pub mod FoldCall
 pub mod Demand3
 pub mod Rules
+pub mod Exact

@@ -1,15 +1,15 @@
 -- Document 01, "Texts" and "Layouts and folding": layouts as words, refusals 1, 2 and 15 of their lines, and the set that lines in turn make.
--- Assumes nothing.
 use Prim.Native.Nat.{ℕ, suc, _/_, _%_}
 use mathlib.Core.Bool.{Bool, true, false, not, _&&_, _||_}
 use mathlib.Core.List.{List, [], _∷_}
 use mathlib.Core.Option.{Option, none, some}
 use lib.Dec.{eqb}
 use lib.ListN.{length}
+use Rattle.job.specs.Sizes.{wordsOfPlacement}
 use Rattle.job.specs.Verdict.{Verdict, pass, refuse, _then_, refuseIf, within, lowest}
 use Rattle.job.specs.Job.{Job, maxSide, maxPieces}
 use Rattle.layouts.specs.Layout.{Stack, Strip, Board}
-use Rattle.layouts.specs.Placement.{Turn, turn, Placement}
+use Rattle.layouts.specs.Placement.{Turn, turn, Placement, placementOf}
 
 -- the whole lines of layout words, seven words each
 unfoldable pub rowsOf : List ℕ → List Placement
@@ -20,7 +20,7 @@ rowsOf (b ∷ s ∷ k ∷ []) = []
 rowsOf (b ∷ s ∷ k ∷ p ∷ []) = []
 rowsOf (b ∷ s ∷ k ∷ p ∷ i ∷ []) = []
 rowsOf (b ∷ s ∷ k ∷ p ∷ i ∷ x ∷ []) = []
-rowsOf (b ∷ s ∷ k ∷ p ∷ i ∷ x ∷ y ∷ ws) = record { turn = turn b s k p; item = i; x = x; y = y } ∷ rowsOf ws
+rowsOf (b ∷ s ∷ k ∷ p ∷ i ∷ x ∷ y ∷ ws) = placementOf b s k p i x y ∷ rowsOf ws
 
 -- "board, strip, stack, place 1 to 4,000"
 abbrev pub counted : ℕ → Bool
@@ -40,7 +40,7 @@ rowRight job r =
 -- the line row of layout words: 1 "a line cut short"; 2 a value outside its limits; both name the line
 unfoldable pub layoutWords : Job → List ℕ → Verdict
 layoutWords job ws =
-    refuseIf (not (eqb (length ws % 7) 0)) 1 (suc (length ws / 7))
+    refuseIf (not (eqb (length ws % wordsOfPlacement) 0)) 1 (suc (length ws / wordsOfPlacement))
     then lowest 2 (λ _ r. not (rowRight job r)) 1 (rowsOf ws)
 
 unfoldable pub sameTurn : Turn → Turn → Bool

@@ -1,5 +1,4 @@
 -- Document 01, "Layouts and folding" and "The words of demand 3": item positions, the lines of a set of layouts, its pieces and demands.
--- Assumes nothing.
 use Prim.Native.Nat.{ℕ, suc, _+_}
 use mathlib.Core.Bool.{Bool, true, _&&_}
 use mathlib.Core.List.{List, [], _∷_, _++_, flatMap}
@@ -26,6 +25,14 @@ pub record Placement : Type 0 where
   pub x : ℕ
   pub y : ℕ
 
+-- a placement, by its numbers
+abbrev pub placementOf : ℕ → ℕ → ℕ → ℕ → ℕ → ℕ → ℕ → Placement
+placementOf b s k p i x y = record { turn = turn b s k p; item = i; x = x; y = y }
+
+-- what stands for a placement that a list or some words have not
+abbrev pub noPlacement : Placement
+noPlacement = placementOf 0 0 0 0 0 0 0
+
 -- a placement as words: "the seven numbers after the kind" of line 7
 unfoldable pub placementWords : List Placement → List ℕ
 placementWords ps =
@@ -37,7 +44,7 @@ placementWords ps =
 unfoldable pub stackLines : Job → ℕ → ℕ → ℕ → ℕ → ℕ → ℕ → Stack → List Placement
 stackLines job b s k p x y [] = []
 stackLines job b s k p x y (i ∷ is) =
-    record { turn = turn b s k p; item = i; x = x; y = y } ∷ stackLines job b s k (suc p) x (y + heightOf job i) is
+    placementOf b s k p i x y ∷ stackLines job b s k (suc p) x (y + heightOf job i) is
 
 -- "x the widths of the stacks before it": the items of a strip from stack k on, at the strip's y, from x rightwards
 unfoldable pub stripLines : Job → ℕ → ℕ → ℕ → ℕ → ℕ → Strip → List Placement

@@ -1,5 +1,4 @@
 -- Document 01, "The words of demand 3": rectangles inside their board, and rectangles that do not overlap.
--- Assumes nothing.
 use Prim.Native.Nat.{ℕ, _+_}
 use mathlib.Core.Bool.{Bool, true, not, _&&_, _||_}
 use mathlib.Core.List.{List, [], _∷_}

@@ -1,6 +1,5 @@
 -- Document 01, "Layouts and folding", first paragraph, and "The words of demand 3", in plain statements: what the tests `boardRules`,
 -- `meetsDemands`, `inside` and `noOverlap` decide.
--- Assumes nothing.
 use Prim.Native.Nat.{ℕ, _+_, _≤_, _<_}
 use mathlib.Core.Path.{_≡_}
 use mathlib.Core.Logic.{_⊎_}
@@ -11,7 +10,7 @@ use Rattle.job.specs.Lists.{occurs}
 use Rattle.job.specs.Mode.{three, exact}
 use Rattle.job.specs.Job.{Job, itemAt}
 use Rattle.layouts.specs.Layout.{Stack, Strip, Board, widthOf, heightOf, stackHeight, stripHeight, stripWidth, boardHeight}
-use Rattle.layouts.specs.Placement.{turn, Placement, itemsOfStrip, itemsOfSet}
+use Rattle.layouts.specs.Placement.{Placement, noPlacement, itemsOfStrip, itemsOfSet}
 
 module _ {A : Type 0} where
   -- every element, some element
@@ -82,10 +81,6 @@ Apart job p q =
     ⊎ (q .x + widthOf job (q .item) ≤ p .x)
     ⊎ (p .y + heightOf job (p .item) ≤ q .y)
     ⊎ (q .y + heightOf job (q .item) ≤ p .y)
-
--- what stands for a place that a list has not
-abbrev pub noPlacement : Placement
-noPlacement = record { turn = turn 0 0 0 0; item = 0; x = 0; y = 0 }
 
 -- any two placements of one board do not overlap; j and k are their places in the list, from 0
 abbrev pub NoOverlap : Job → List Placement → Type 0

@@ -1,12 +1,10 @@
 -- Document 01, "Unfolding": board after board, at most three pieces waiting, the piece of the highest stage first.
--- Assumes nothing.
 use Prim.Native.Nat.{ℕ, zero, suc, _+_, _*_, _-_}
-use mathlib.Core.Bool.{Bool, true, false, _&&_}
+use mathlib.Core.Bool.{true, false, _&&_}
 use mathlib.Core.List.{List, [], _∷_}
 use mathlib.Core.Option.{Option, none, some}
 use lib.Dec.{ltb, eqb}
 use lib.ListN.{getD, set}
-use Rattle.job.specs.declared.item.Item.{Item}
 use Rattle.job.specs.Job.{Job, itemAt}
 use Rattle.listing.specs.Listing.{Cut, Listing, plateAt, cutAt}
 use Rattle.plan.specs.Plan.{onPlate, boards, total}

@@ -1,6 +1,5 @@
 -- Document 01, "Where each number is given": what the unfolding call answers, and what it leaves in the placements that it is lent.
 -- What it leaves in plates and cuts is `platesEnd` and `cutsEnd`.
--- Assumes nothing.
 use Prim.Native.Nat.{ℕ}
 use mathlib.Core.List.{List, [], _∷_}
 use lib.ListN.{length}

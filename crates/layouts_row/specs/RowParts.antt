@@ -1,5 +1,4 @@
 -- Document 01, "Where each number is given": the part of the layouts row that the strips decide.
--- Assumes nothing.
 use Prim.Native.Nat.{ℕ}
 use mathlib.Core.List.{List}
 use Rattle.job.specs.Verdict.{Verdict, _then_}

@@ -1,5 +1,4 @@
 -- What every pair of the walk keeps is kept along the walk: the limit of plate types, and the numbers of plate types and cuts.
--- Assumes nothing.
 use Prim.Native.Nat.{ℕ, zero, suc, _≤_, _<_}
 use mathlib.Core.Path.{_≡_, refl, sym, _∙_, subst}
 use mathlib.Core.Logic.{_⊎_, inl, inr}

@@ -1,11 +1,11 @@
 -- A buffer that holds words: read, and with one word, one plate type or one cut more.
--- Assumes nothing.
 use mathlib.Core.Path.{_≡_, sym, ap, _∙_}
 use Prim.Native.Nat.{ℕ, suc, _+_, _*_, _-_, _<_}
 use mathlib.Core.List.{List, [], _∷_, _++_, append-assoc}
 use native.Mathlib.Omega.{arith}
 use lib.ListN.{length, getD, set, replicate, length-append, length-set, length-replicate}
 use lib.Seq.{set-at, append-snoc}
+use Rattle.job.specs.Sizes.{wordsOfPlate, wordsOfCut, RecordIn}
 use Rattle.job.specs.Buffers.{filled}
 use Rattle.job.proofs.Buffers.{filled-read}
 use Rattle.listing.specs.declared.plate.Plate.{Plate}
@@ -34,7 +34,7 @@ filled-put n ws k v e h =
     let j′ : n - length (ws ++ v ∷ []) ≡ n - (k + 1) = simp length-append (omega arith) in
     rw (j, j′) (set-at ws 0 (replicate (n - (k + 1)) 0) v k e ∙ sym (append-snoc ws v (replicate (n - (k + 1)) 0)))
 
-held-put : {buffer ws : List ℕ} (k v : ℕ) → length ws ≡ k → k < length buffer → Holds buffer ws → Holds (set buffer k v) (ws ++ v ∷ [])
+pub held-put : {buffer ws : List ℕ} (k v : ℕ) → length ws ≡ k → k < length buffer → Holds buffer ws → Holds (set buffer k v) (ws ++ v ∷ [])
 held-put {buffer} {ws} k v e h r =
     record { words = rw length-set (ap (λ (b : List ℕ). set b k v) (r .words) ∙ filled-put (length buffer) ws k v e h) }
 
@@ -46,25 +46,25 @@ cutWords-snoc : (cs : List Cut) (c : Cut) → cutWords (cs ++ c ∷ []) ≡ cutW
 cutWords-snoc cs c = cut-words-last cs c ∙ simp append-assoc
 
 -- one plate type more, as its three stores leave it
-pub held-plate-put : {buffer : List ℕ} (ps : List Plate) (m : ℕ) (p : Plate) → length ps ≡ m → 3 * m + 2 < length buffer → Holds buffer (plateWords ps) → Holds (set (set (set buffer (3 * m) (p .width)) (3 * m + 1) (p .height)) (3 * m + 2) (p .stage)) (plateWords (ps ++ p ∷ []))
+pub held-plate-put : {buffer : List ℕ} (ps : List Plate) (m : ℕ) (p : Plate) → length ps ≡ m → RecordIn wordsOfPlate m buffer → Holds buffer (plateWords ps) → Holds (set (set (set buffer (wordsOfPlate * m) (p .width)) (wordsOfPlate * m + 1) (p .height)) (wordsOfPlate * m + 2) (p .stage)) (plateWords (ps ++ p ∷ []))
 held-plate-put ps m p e h r =
-    let l : length (plateWords ps) ≡ 3 * length ps = plate-words-length ps in
+    let l : length (plateWords ps) ≡ wordsOfPlate * length ps = plate-words-length ps in
     rw plateWords-snoc
-    (held-put (3 * m + 2) (p .stage) (simp length-append (omega arith)) (simp length-set (omega arith))
-    (held-put (3 * m + 1) (p .height) (simp length-append (omega arith)) (simp length-set (omega arith))
-    (held-put (3 * m) (p .width) (omega arith) (omega arith) r)))
+    (held-put (wordsOfPlate * m + 2) (p .stage) (simp length-append (omega arith)) (simp length-set (omega arith))
+    (held-put (wordsOfPlate * m + 1) (p .height) (simp length-append (omega arith)) (simp length-set (omega arith))
+    (held-put (wordsOfPlate * m) (p .width) (omega arith) (omega arith) r)))
 
 -- one cut more, as its four stores leave it
-pub held-cut-put : {buffer : List ℕ} (cs : List Cut) (k : ℕ) (c : Cut) → length cs ≡ k → 4 * k + 3 < length buffer → Holds buffer (cutWords cs) → Holds (set (set (set (set buffer (4 * k) (c .plate)) (4 * k + 1) (c .item)) (4 * k + 2) (c .top)) (4 * k + 3) (c .right)) (cutWords (cs ++ c ∷ []))
+pub held-cut-put : {buffer : List ℕ} (cs : List Cut) (k : ℕ) (c : Cut) → length cs ≡ k → RecordIn wordsOfCut k buffer → Holds buffer (cutWords cs) → Holds (set (set (set (set buffer (wordsOfCut * k) (c .plate)) (wordsOfCut * k + 1) (c .item)) (wordsOfCut * k + 2) (c .top)) (wordsOfCut * k + 3) (c .right)) (cutWords (cs ++ c ∷ []))
 held-cut-put cs k c e h r =
-    let l : length (cutWords cs) ≡ 4 * length cs = cut-words-length cs in
+    let l : length (cutWords cs) ≡ wordsOfCut * length cs = cut-words-length cs in
     rw cutWords-snoc
-    (held-put (4 * k + 3) (c .right) (simp length-append (omega arith)) (simp length-set (omega arith))
-    (held-put (4 * k + 2) (c .top) (simp length-append (omega arith)) (simp length-set (omega arith))
-    (held-put (4 * k + 1) (c .item) (simp length-append (omega arith)) (simp length-set (omega arith))
-    (held-put (4 * k) (c .plate) (omega arith) (omega arith) r))))
+    (held-put (wordsOfCut * k + 3) (c .right) (simp length-append (omega arith)) (simp length-set (omega arith))
+    (held-put (wordsOfCut * k + 2) (c .top) (simp length-append (omega arith)) (simp length-set (omega arith))
+    (held-put (wordsOfCut * k + 1) (c .item) (simp length-append (omega arith)) (simp length-set (omega arith))
+    (held-put (wordsOfCut * k) (c .plate) (omega arith) (omega arith) r))))
 
 -- plate type j of a buffer
 pub held-plate : {buffer : List ℕ} (ps : List Plate) → Holds buffer (plateWords ps) → (j : ℕ) → plateRead buffer j ≡ getD ps j waste
 held-plate ps h j =
-    rw (held-word (plateWords ps) h (3 * j), held-word (plateWords ps) h (3 * j + 1), held-word (plateWords ps) h (3 * j + 2)) (plate-words-read ps j)
+    rw (held-word (plateWords ps) h (wordsOfPlate * j), held-word (plateWords ps) h (wordsOfPlate * j + 1), held-word (plateWords ps) h (wordsOfPlate * j + 2)) (plate-words-read ps j)

@@ -1,5 +1,4 @@
 -- What the code's tests of a plate say, carried to the job's mode and item type.
--- Assumes nothing.
 use mathlib.Core.Path.{_≡_, sym, _∙_}
 use mathlib.Core.Bool.{Bool, true}
 use Prim.Native.Nat.{_≤_}

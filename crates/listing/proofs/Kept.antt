@@ -1,5 +1,4 @@
 -- Document 01, "Plates and cuts": a residual is kept exactly where some item type may be cut from it, and then it has sides of at least 1.
--- Assumes nothing.
 use Prim.Native.Nat.{ℕ, zero, suc, _≤_, _<_}
 use native.Mathlib.Omega.{arith}
 use mathlib.Core.Path.{_≡_, refl}
@@ -40,9 +39,6 @@ module _ (job : Job) where
   pub not-kept : (p : Plate) → kept job p ≡ false → (i : ℕ) → CutFrom p i → ⊥
   not-kept p h i c = not-both (kept-by p i c) h
 
-  pub none-kept : (p : Plate) → ((i : ℕ) → CutFrom p i → ⊥) → kept job p ≡ false
-  none-kept p f = not-true-false (kept job p) (λ t. let r = kept-found p t in f (r .0) (r .1))
-
   module _ (sided : Sided job) where
     -- a plate from which an item type may be cut has sides of at least 1
     pub cut-sides : (p : Plate) (i : ℕ) → CutFrom p i → (1 ≤ p .width) × (1 ≤ p .height)
@@ -57,9 +53,6 @@ module _ (job : Job) where
     -- "a side of 0 is always waste"
     pub no-width : (p : Plate) → p .width ≡ 0 → kept job p ≡ false
     no-width p e = not-true-false (kept job p) (λ t. let s = kept-sides p t in omega arith)
-
-    pub no-height : (p : Plate) → p .height ≡ 0 → kept job p ≡ false
-    no-height p e = not-true-false (kept job p) (λ t. let s = kept-sides p t in omega arith)
 
     pub waste-not-kept : kept job waste ≡ false
     waste-not-kept = no-width waste refl

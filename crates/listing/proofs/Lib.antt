@@ -12,9 +12,11 @@ pub mod Reached
 pub mod Ends
 pub mod WalkModel
 pub mod RecordWords
+pub mod CodeCuts
 pub mod Along
 pub mod Fuel
 pub mod Limits
 pub mod ModelLaws
 pub mod Origin
+pub mod WalkLaws
 pub mod CodePlate

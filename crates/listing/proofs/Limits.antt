@@ -1,50 +1,23 @@
 -- The limits of the walk: what 6 and 7 mean exactly, and what a walk with larger limits says of one that is refused.
--- Assumes nothing.
 use Prim.Native.Nat.{ℕ, suc, _-_, _≤_, _<_}
 use native.Mathlib.Omega.{arith}
 use mathlib.Core.Path.{_≡_, refl, sym, _∙_, ap}
-use mathlib.Core.Logic.{_⊎_, inl, inr, _↔_}
-use mathlib.Core.Bool.{true}
-use mathlib.Core.List.{List}
-use lib.ListN.{length, getD, drop}
+use mathlib.Core.Logic.{_⊎_, inl, inr}
+use lib.ListN.{length, drop}
 use Rattle.job.specs.Verdict.{pass, refuse}
 use Rattle.job.specs.Job.{Job, itemAt}
 use Rattle.job.proofs.Tests.{at-most-or-above}
 use Rattle.job.proofs.CodeEnds.{Not5, not5-pass, not5-refuse}
-use Rattle.listing.specs.declared.plate.Plate.{Plate}
-use Rattle.listing.specs.declared.plate.Residuals.{Residuals}
-use Rattle.listing.specs.Plate.{waste, leaves, kept}
-use Rattle.listing.specs.Listing.{Listing, Walk, going, stopped, plateAt, entered, overItems, walkWithin, modelRow, maxPlates, maxCuts}
-use Rattle.listing.proofs.Numbers.{Entering, not-kept, met, fresh, entering}
-use Rattle.listing.proofs.Growth.{Grown, grown-same, grown-trans, entered-one, done-count}
-use Rattle.listing.proofs.Steps.{going-one, going-not-stopped, done-plates, walk-limits, row-going, row-stopped}
+use Rattle.listing.specs.Plate.{leaves}
+use Rattle.listing.specs.Listing.{Listing, Walk, going, stopped, plateAt, overItems, walkWithin, modelRow, maxPlates, maxCuts}
+use Rattle.listing.proofs.Growth.{Grown, grown-same, grown-trans, done-count}
+use Rattle.listing.proofs.Steps.{going-one, going-not-stopped, walk-limits, row-going, row-stopped}
 use Rattle.listing.proofs.Along.{plates-grown, items-grown}
 use Rattle.listing.proofs.Reached.{done, after, Few, onward, rest, rest-row, rest-end, reached-rest, reached-end, reached-seven, reached-six}
-use Rattle.listing.proofs.Ends.{Over, by-cut, by-plate, over-seven, over-six, Complete, Halted, walk-complete, walk-halted}
+use Rattle.listing.proofs.Ends.{Over, by-cut, by-plate, over-seven, over-six, Halted, walk-complete, walk-halted}
 
 module _ (P C : ℕ) (job : Job) where
-  -- a walk that has done every plate type goes on with the listing
-  pub complete-walk : (l : Listing) → Complete P C job l → walkWithin P C job ≡ going l
-  complete-walk l c = reached-end P C job (c .reached) (c .few) (c .none-left)
-
-  -- a walk that has come to a pair past a limit is refused there
-  pub halted-walk : (n : ℕ) → Halted P C job n → walkWithin P C job ≡ stopped n
-  halted-walk n h = go (h .passed)
-    where
-      go : Over P C n (h .listing) (after job (h .plate) (h .item) (h .listing)) → walkWithin P C job ≡ stopped n
-      go (by-cut e k) =
-          reached-seven P C job (h .reached) (h .few) (h .on-plate) (h .of-item) (h .allowed) (omega arith) ∙ ap stopped (sym e)
-      go (by-plate e k q) =
-          reached-six P C job (h .reached) (h .few) (h .on-plate) (h .of-item) (h .allowed) k q ∙ ap stopped (sym e)
-
   module _ (some : 1 ≤ P) where
-    -- exactly these are the ends of the walk
-    pub goes-exactly : (l : Listing) → (walkWithin P C job ≡ going l) ↔ Complete P C job l
-    goes-exactly l = (walk-complete P C job some l, complete-walk l)
-
-    pub stops-exactly : (n : ℕ) → (walkWithin P C job ≡ stopped n) ↔ Halted P C job n
-    stops-exactly n = (walk-halted P C job some n, halted-walk n)
-
     -- the walk keeps both limits, or is refused with 6 or 7
     pub walk-cases : ((l : Listing) × (walkWithin P C job ≡ going l) × Few P C l) ⊎ ((walkWithin P C job ≡ stopped 6) ⊎ (walkWithin P C job ≡ stopped 7))
     walk-cases = go (walkWithin P C job) refl
@@ -84,42 +57,6 @@ model-not5 job = go (row-cases job)
     go (inl e) = rw e not5-pass
     go (inr (inl e)) = rw e (not5-refuse 6 0 (λ q. omega arith))
     go (inr (inr e)) = rw e (not5-refuse 7 0 (λ q. omega arith))
-
--- a residual that is kept and is none of the plate types
-abbrev pub New : Job → Plate → List Plate → Type 0
-New job p ps = (kept job p ≡ true) × ((j : ℕ) → j < length ps → getD ps j waste ≡ p → ⊥)
-
--- only such a residual becomes a plate type
-pub entered-more : (job : Job) (p : Plate) (ps : List Plate) → length ps < length (entered job p ps .plates) → New job p ps
-entered-more job p ps h = go (entering job p ps)
-  where
-    go : Entering job p ps → New job p ps
-    go (not-kept a e) = absurd (omega (arith, rw e at h))
-    go (met k a l g e) = absurd (omega (arith, rw e at h))
-    go (fresh a f e) = (a, f)
-
--- the plate types pass their limit where the top, or after it the right, is kept and new when the limit is reached
-pub over-new :
-    (P : ℕ) (job : Job) (j i : ℕ) (l : Listing)
-    → length (l .plates) ≤ P
-    → P < length (after job j i l .plates)
-    → let r = leaves (job .mode) (itemAt job i) (plateAt l j) in
-    let ps = entered job (r .top) (l .plates) .plates in
-    ((length (l .plates) ≡ P) × New job (r .top) (l .plates)) ⊎ ((length ps ≡ P) × New job (r .right) ps)
-over-new P job j i l few over = go (at-most-or-above (length ps) P)
-  where
-    r : Residuals
-    r = leaves (job .mode) (itemAt job i) (plateAt l j)
-
-    ps : List Plate
-    ps = entered job (r .top) (l .plates) .plates
-
-    more : length (entered job (r .right) ps .plates) ≡ length (after job j i l .plates)
-    more = ap length (sym (done-plates job j i r l))
-
-    go : (length ps ≤ P) ⊎ (P < length ps) → ((length (l .plates) ≡ P) × New job (r .top) (l .plates)) ⊎ ((length ps ≡ P) × New job (r .right) ps)
-    go (inl h) = inr (omega (arith, more, entered-one job (r .right) ps), entered-more job (r .right) ps (omega (arith, more)))
-    go (inr h) = inl (omega (arith, entered-one job (r .top) (l .plates)), entered-more job (r .top) (l .plates) (omega arith))
 
 -- along the rest of a walk plate types and cuts keep their numbers
 pub rest-grown : (P C : ℕ) (job : Job) (j i : ℕ) (l l′ : Listing) → rest P C job j i l ≡ going l′ → Grown l l′

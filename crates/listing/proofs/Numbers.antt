@@ -1,8 +1,7 @@
 -- Document 01, "Numbering": the number of a residual among the plate types, and the plate types after it is entered.
--- Assumes nothing.
 use Prim.Native.Nat.{ℕ, zero, suc, _≤_, _<_}
 use native.Mathlib.Omega.{arith}
-use mathlib.Core.Path.{_≡_, refl, sym, _∙_, ap}
+use mathlib.Core.Path.{_≡_, refl, sym}
 use mathlib.Core.Logic.{_⊎_, inl, inr}
 use mathlib.Core.Bool.{Bool, true, false}
 use mathlib.Core.List.{List, [], _∷_, _++_}
@@ -13,37 +12,7 @@ use Rattle.job.proofs.Tests.{at-most-or-above}
 use Rattle.listing.specs.declared.plate.Plate.{Plate}
 use Rattle.listing.specs.Plate.{waste, same, kept}
 use Rattle.listing.specs.Listing.{numberIn, entered}
-use Rattle.listing.proofs.Plates.{same-equal, equal-same, same-differ, differ-same}
-
--- the first plate type is the one, or another
-pub number-here : (p q : Plate) (qs : List Plate) → same p q ≡ true → numberIn (q ∷ qs) p ≡ 0
-unfolding numberIn
-number-here p q qs h = rw (h, numberIn)
-
-pub number-next : (p q : Plate) (qs : List Plate) → same p q ≡ false → numberIn (q ∷ qs) p ≡ suc (numberIn qs p)
-unfolding numberIn
-number-next p q qs h = rw (h, numberIn)
-
--- the number is that of the first plate type that is the one
-pub number-first :
-    (ps : List Plate) (p : Plate) (k : ℕ)
-    → k < length ps
-    → getD ps k waste ≡ p
-    → ((j : ℕ) → j < k → getD ps j waste ≡ p → ⊥)
-    → numberIn ps p ≡ k
-number-first [] p k h e f = absurd (omega arith)
-number-first (q ∷ qs) p zero h e f = number-here p q qs (equal-same p q (sym e))
-number-first (q ∷ qs) p (suc k) h e f =
-    number-next p q qs (differ-same p q (λ d. f 0 (omega arith) (sym d)))
-    ∙ ap suc (number-first qs p k (omega arith) e (λ j l. f (suc j) (omega arith)))
-
--- a plate type that is not among them has the next number
-pub number-new : (ps : List Plate) (p : Plate) → ((j : ℕ) → j < length ps → getD ps j waste ≡ p → ⊥) → numberIn ps p ≡ length ps
-unfolding numberIn
-number-new [] p f = refl
-number-new (q ∷ qs) p f =
-    number-next p q qs (differ-same p q (λ d. f 0 (omega arith) (sym d)))
-    ∙ ap suc (number-new qs p (λ j l. f (suc j) (omega arith)))
+use Rattle.listing.proofs.Plates.{same-equal, same-differ}
 
 -- a number is at most the next number
 pub number-at-most : (ps : List Plate) (p : Plate) → numberIn ps p ≤ length ps

@@ -1,5 +1,4 @@
 -- Where residual types come from: each is the top or the right of a cut on a plate type with a lower number.
--- Assumes nothing.
 use Prim.Native.Nat.{ℕ, suc, _≤_, _<_}
 use native.Mathlib.Omega.{arith}
 use mathlib.Core.Path.{_≡_, ap}
@@ -11,19 +10,13 @@ use Rattle.job.proofs.Tests.{at-most-or-above}
 use Rattle.listing.specs.declared.plate.Plate.{Plate}
 use Rattle.listing.specs.declared.plate.Residuals.{Residuals}
 use Rattle.listing.specs.Plate.{leaves}
-use Rattle.listing.specs.Listing.{Listing, going, plateAt, cutAt, entered, walkWithin}
+use Rattle.listing.specs.Listing.{Listing, going, plateAt, entered, walkWithin}
+use Rattle.listing.specs.WalkLaws.{Left}
 use Rattle.listing.proofs.Numbers.{Entering, not-kept, met, fresh, entering}
 use Rattle.listing.proofs.Steps.{done-plates}
 use Rattle.listing.proofs.Growth.{done-count, done-cut, done-last}
 use Rattle.listing.proofs.Reached.{Reached, start, skipped, done, row, after}
 use Rattle.listing.proofs.Ends.{walk-complete}
-
--- plate type k is the top or the right of a cut on a plate type with a lower number
-pub record Left (l : Listing) (k : ℕ) : Type 0 where
-  pub cut : ℕ
-  pub listed : cut < length (l .cuts)
-  pub lower : cutAt l (suc cut) .plate < k
-  pub either : (cutAt l (suc cut) .top ≡ k) ⊎ (cutAt l (suc cut) .right ≡ k)
 
 -- a plate type that is added with a residual is the residual's
 entered-last :

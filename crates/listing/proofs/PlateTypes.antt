@@ -1,5 +1,4 @@
 -- What is true of the plate types at every place of the walk, and that a residual may be entered among them.
--- Assumes nothing.
 use Prim.Native.Nat.{ℕ, zero, suc, _+_, _≤_, _<_}
 use native.Mathlib.Omega.{arith}
 use mathlib.Core.Path.{_≡_, refl, sym, _∙_, ap}

@@ -1,17 +1,15 @@
 -- Document 01, "Plates and cuts": when two plates are of one type, and which item may be cut from which plate.
--- Assumes nothing.
-use Prim.Native.Nat.{ℕ, _≤_}
+use Prim.Native.Nat.{_≤_}
 use mathlib.Core.Path.{_≡_, refl, ap}
-use mathlib.Core.Logic.{_↔_}
 use mathlib.Core.Bool.{Bool, true, false, cond, not, _&&_, _||_}
 use lib.Dec.{leb, eqb}
 use borrow.Author.Tests.{eqb-true, eq-eqb, leb-true, le-leb}
 use Rattle.job.specs.declared.mode.Mode.{Mode}
 use Rattle.job.specs.declared.item.Item.{Item}
 use Rattle.job.specs.Mode.{three, exact}
-use Rattle.job.proofs.Tests.{not-both, not-true-false, and-left, and-right}
+use Rattle.job.proofs.Tests.{not-both, and-left, and-right}
 use Rattle.listing.specs.declared.plate.Plate.{Plate}
-use Rattle.listing.specs.Plate.{plate, same, exactFit, mayCut}
+use Rattle.listing.specs.Plate.{same, exactFit, mayCut}
 
 -- plates of one type are equal
 pub same-equal : (p q : Plate) → same p q ≡ true → p ≡ q
@@ -35,49 +33,8 @@ equal-same p q e =
       eq-eqb (p .stage) (q .stage) (ap (λ (r : Plate). r .stage) e),
     )
 
-pub same-plate : (p q : Plate) → (same p q ≡ true) ↔ (p ≡ q)
-same-plate p q = (same-equal p q, equal-same p q)
-
--- plates that differ are not of one type
-pub differ-same : (p q : Plate) → (p ≡ q → ⊥) → same p q ≡ false
-differ-same p q h = not-true-false (same p q) (λ t. h (same-equal p q t))
-
 pub same-differ : (p q : Plate) → same p q ≡ false → p ≡ q → ⊥
 same-differ p q h e = not-both (equal-same p q e) h
-
--- "in 2E at stage 2 its height equals h; in 3E at stage 3 its width equals w": no rule in 2N and 3N
-pub non-exact : (m : Mode) (item : Item) (p : Plate) → exact m ≡ false → exactFit m item p ≡ true
-unfolding exactFit
-non-exact m item p h = rw h
-
--- no rule at stage 1
-pub exact-one : (m : Mode) (item : Item) (w h : ℕ) → exactFit m item (plate w h 1) ≡ true
-unfolding exactFit
-exact-one m item w h = go (exact m) (three m)
-  where
-    go : (e t : Bool) → cond e (cond t true true) true ≡ true
-    go true true = refl
-    go true false = refl
-    go false t = refl
-
--- 2E at stage 2: the height
-pub exact-two : (m : Mode) (item : Item) (w h : ℕ) → exact m ≡ true → three m ≡ false → exactFit m item (plate w h 2) ≡ eqb (item .height) h
-unfolding exactFit
-exact-two m item w h e t = rw (e, t)
-
--- no rule at stage 2 of three stages
-pub exact-two-three : (m : Mode) (item : Item) (w h : ℕ) → three m ≡ true → exactFit m item (plate w h 2) ≡ true
-unfolding exactFit
-exact-two-three m item w h t = rw t (go (exact m))
-  where
-    go : (e : Bool) → cond e true true ≡ true
-    go true = refl
-    go false = refl
-
--- 3E at stage 3: the width
-pub exact-three : (m : Mode) (item : Item) (w h : ℕ) → exact m ≡ true → three m ≡ true → exactFit m item (plate w h 3) ≡ eqb (item .width) w
-unfolding exactFit
-exact-three m item w h e t = rw (e, t)
 
 -- the item may be cut from the plate
 pub record Permitted (m : Mode) (item : Item) (p : Plate) : Type 0 where
@@ -118,6 +75,3 @@ cut-may m item p r =
     go true true two true f g = g refl refl refl
     go true false false last f g = refl
     go true false true last f g = f refl refl refl
-
-pub may-be-cut : (m : Mode) (item : Item) (p : Plate) → (mayCut m item p ≡ true) ↔ Permitted m item p
-may-be-cut m item p = (may-cut m item p, cut-may m item p)

@@ -1,26 +1,20 @@
 -- The places of the walk, whatever its limits: the listing before item type i of plate type j; and the rest of the walk from such a place.
--- Assumes nothing.
 use Prim.Native.Nat.{ℕ, zero, suc, _-_, _≤_, _<_}
 use native.Mathlib.Omega.{arith}
 use mathlib.Core.Path.{_≡_, refl, sym, _∙_, ap}
 use mathlib.Core.Logic.{_⊎_, inl, inr}
 use mathlib.Core.Bool.{true, false}
-use mathlib.Core.List.{[], _∷_}
 use lib.Dec.{ltb}
 use lib.ListN.{length, drop}
 use borrow.Author.Tests.{lt-ltb, le-ltb}
 use Rattle.job.specs.Job.{Job, itemAt}
 use Rattle.job.specs.Admitted.{Sided}
 use Rattle.job.proofs.Tests.{not-both, at-most-or-above}
-use Rattle.listing.specs.Plate.{board, mayCut, leaves}
-use Rattle.listing.specs.Listing.{Listing, Walk, going, stopped, plateAt, cutDone, pair, overItems, overPlates, walkWithin}
+use Rattle.listing.specs.Plate.{mayCut, leaves}
+use Rattle.listing.specs.Listing.{Listing, Walk, going, stopped, plateAt, cutDone, pair, overItems, overPlates, walkWithin, walkStart}
 use Rattle.listing.proofs.Growth.{done-longer, done-plate, done-count}
 use Rattle.listing.proofs.Steps.{limited-going, limited-cuts, limited-plates, pair-skipped, pair-cut, items-drop-going, items-drop-stopped, items-drop-end, plates-going, plates-stopped, plates-end}
 use Rattle.listing.proofs.Walked.{Walked, walked-start, walked-skip, walked-row, walked-cut}
-
--- the board alone: where the walk begins
-abbrev pub begun : Job → Listing
-begun job = record { plates = board job ∷ []; cuts = [] }
 
 -- the listing after the pair of plate type j and item type i, which is permitted
 abbrev pub after : Job → ℕ → ℕ → Listing → Listing
@@ -29,7 +23,7 @@ after job j i l = cutDone job j i (leaves (job .mode) (itemAt job i) (plateAt l 
 module _ (job : Job) where
   -- the walk comes to item type i of plate type j with listing l; past the last item type it comes to the next plate type
   pub data Reached : ℕ → ℕ → Listing → Type 0 where
-    start : Reached 0 1 (begun job)
+    start : Reached 0 1 (walkStart job)
     skipped :
         {j i : ℕ} {l : Listing}
         → Reached j i l
@@ -171,7 +165,7 @@ module _ (P C : ℕ) (job : Job) where
   unfolding walkWithin
   reached-rest start f =
       let e : P ≡ P - 0 = omega arith in
-      ap (λ (fuel : ℕ). overPlates P C job fuel 0 (begun job)) e ∙ rest-plates 0 (begun job) (f .few-plates)
+      ap (λ (fuel : ℕ). overPlates P C job fuel 0 (walkStart job)) e ∙ rest-plates 0 (walkStart job) (f .few-plates)
   reached-rest (skipped {j = j} {i = i} {l = l} r a b c) f =
       reached-rest r f
       ∙ rest-going j i l l (reached-from-one job r) b a a refl (pair-skipped P C job j (plateAt l j) i (itemAt job i) l c)

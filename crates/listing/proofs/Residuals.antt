@@ -1,5 +1,4 @@
 -- Document 01, "Plates and cuts": what a cut leaves, by the stage and the mode; residuals are smaller than the plate, and their stages.
--- Assumes nothing.
 use Prim.Native.Nat.{ℕ, _+_, _-_, _≤_, _<_}
 use native.Mathlib.Omega.{arith}
 use mathlib.Core.Path.{_≡_, refl}
@@ -13,27 +12,6 @@ use Rattle.job.specs.Mode.{three}
 use Rattle.listing.specs.declared.plate.Plate.{Plate}
 use Rattle.listing.specs.declared.plate.Residuals.{Residuals}
 use Rattle.listing.specs.Plate.{plate, waste, residuals, leaves}
-
-module _ (m : Mode) (item : Item) (w h : ℕ) where
-  -- "Stage 1: top (w, h−hi, 1); right (w−wi, hi, 2)"
-  pub leaves-one : leaves m item (plate w h 1) ≡ residuals (plate w (h - item .height) 1) (plate (w - item .width) (item .height) 2)
-  unfolding leaves
-  leaves-one = refl
-
-  -- "Stage 2, two-stage modes: right (w−wi, hi, 2); what lies above is waste"
-  pub leaves-two : three m ≡ false → leaves m item (plate w h 2) ≡ residuals waste (plate (w - item .width) (item .height) 2)
-  unfolding leaves
-  leaves-two t = rw t
-
-  -- "Stage 2, three-stage modes: top (wi, h−hi, 3); right (w−wi, h, 2)"
-  pub leaves-two-three : three m ≡ true → leaves m item (plate w h 2) ≡ residuals (plate (item .width) (h - item .height) 3) (plate (w - item .width) h 2)
-  unfolding leaves
-  leaves-two-three t = rw t
-
-  -- "Stage 3: top (wi, h−hi, 3); what lies beside is waste"
-  pub leaves-three : leaves m item (plate w h 3) ≡ residuals (plate (item .width) (h - item .height) 3) waste
-  unfolding leaves
-  leaves-three = refl
 
 -- what a cut leaves of any plate, by cases; a stage that is neither 1 nor 2 is taken as stage 3
 pub data Leaving (m : Mode) (item : Item) (p : Plate) : Type 0 where

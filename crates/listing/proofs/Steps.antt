@@ -1,5 +1,4 @@
 -- The walk step by step: how each of its definitions computes where its tests are known.
--- Assumes nothing.
 use Prim.Native.Nat.{ℕ, zero, suc, _≤_, _<_}
 use native.Mathlib.Omega.{arith}
 use mathlib.Core.Path.{_≡_, refl}
@@ -25,12 +24,9 @@ going-not-stopped {w} {l} {n} e f = let z : _≡_ {A = ℕ} 0 1 = cc in omega ar
 pub going-one : {w : Walk} {l l′ : Listing} → w ≡ going l → w ≡ going l′ → l ≡ l′
 going-one e f = cc
 
-pub stopped-one : {w : Walk} {n n′ : ℕ} → w ≡ stopped n → w ≡ stopped n′ → n ≡ n′
-stopped-one e f = cc
-
 -- the cut of plate type j and item type i with residuals r: its top is numbered among the plate types, its right among those with the top
-abbrev pub cutOf : Job → ℕ → ℕ → Residuals → List Plate → Cut
-cutOf job j i r ps =
+abbrev pub cutMade : Job → ℕ → ℕ → Residuals → List Plate → Cut
+cutMade job j i r ps =
     let t = entered job (r .top) ps in
     record { plate = j; item = i; top = t .number; right = entered job (r .right) (t .plates) .number }
 
@@ -40,7 +36,7 @@ module _ (job : Job) (j i : ℕ) (r : Residuals) (l : Listing) where
   unfolding cutDone
   done-plates = refl
 
-  pub done-cuts : cutDone job j i r l .cuts ≡ l .cuts ++ (cutOf job j i r (l .plates) ∷ [])
+  pub done-cuts : cutDone job j i r l .cuts ≡ l .cuts ++ (cutMade job j i r (l .plates) ∷ [])
   unfolding cutDone
   done-cuts = refl
 

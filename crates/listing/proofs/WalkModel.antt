@@ -1,6 +1,5 @@
 -- The main theorem: the walk of document 01, where it is not refused, makes the model.
--- Assumes nothing.
-use Prim.Native.Nat.{ℕ, suc, _≤_, _<_}
+use Prim.Native.Nat.{ℕ, _≤_}
 use native.Mathlib.Omega.{arith}
 use mathlib.Core.Path.{_≡_}
 use mathlib.Core.Logic.{inl}
@@ -8,11 +7,8 @@ use lib.ListN.{length}
 use Rattle.job.specs.Verdict.{pass}
 use Rattle.job.specs.Job.{Job}
 use Rattle.job.specs.Admitted.{Sided}
-use Rattle.listing.specs.Plate.{board}
-use Rattle.listing.specs.Listing.{Listing, going, plateAt, cutAt, walkWithin, walk, modelRow, listingOf, maxPlates, maxCuts}
-use Rattle.listing.specs.Model.{Model, leftBy}
-use Rattle.listing.proofs.Residuals.{sides}
-use Rattle.listing.proofs.Kept.{top-smaller, right-smaller}
+use Rattle.listing.specs.Listing.{Listing, going, plateAt, walkWithin, walk, modelRow, listingOf, maxPlates, maxCuts}
+use Rattle.listing.specs.Model.{Model}
 use Rattle.listing.proofs.Steps.{row-listing}
 use Rattle.listing.proofs.Walked.{Walked}
 use Rattle.listing.proofs.Reached.{reached-walked}
@@ -52,25 +48,6 @@ module _ (job : Job) (sided : Sided job) where
       let v = reached-walked job sided (c .reached) in
       let s : c .place ≡ length (l .plates) = omega (arith, c .none-left, v .here) in
       rw s at v
-
-  -- the residuals of its cuts are smaller than the board, so none is of the board's type
-  pub residuals-below :
-      (P C : ℕ)
-      → 1 ≤ P
-      → (l : Listing)
-      → walkWithin P C job ≡ going l
-      → (c : ℕ)
-      → c < length (l .cuts)
-      → (sides (leftBy job l (cutAt l (suc c)) .top) < sides (board job)) × (sides (leftBy job l (cutAt l (suc c)) .right) < sides (board job))
-  unfolding plateAt
-  residuals-below P C h l e c b =
-      let v = walk-walked P C h l e in
-      let k = v .cuts-ok c b in
-      let p = plateAt l (cutAt l (suc c) .plate) in
-      let s = v .plates-ok .small (cutAt l (suc c) .plate) (k .on-plate) in
-      let t = top-smaller job sided p (cutAt l (suc c) .item) (k .fits) in
-      let r = right-smaller job sided p (cutAt l (suc c) .item) (k .fits) in
-      (omega (arith, s, t), omega (arith, s, r))
 
   -- a walk within limits that are at most those of document 01 makes the model
   pub walk-model-within : (P C : ℕ) → 1 ≤ P → P ≤ maxPlates → C ≤ maxCuts → (l : Listing) → walkWithin P C job ≡ going l → Model job l

@@ -1,5 +1,4 @@
 -- What is true of the listing at every place of the walk: before item type i of plate type j.
--- Assumes nothing.
 use Prim.Native.Nat.{ℕ, suc, _≤_, _<_}
 use native.Mathlib.Omega.{arith}
 use mathlib.Core.Path.{_≡_, refl, sym, _∙_}
@@ -16,7 +15,7 @@ use Rattle.listing.specs.Listing.{Cut, Listing, plateAt, cutAt, entered,
 use Rattle.listing.specs.Model.{Numbered, Before, leftBy}
 use Rattle.listing.proofs.Residuals.{sides}
 use Rattle.listing.proofs.Kept.{CutFrom, top-smaller, right-smaller, top-staged, right-staged}
-use Rattle.listing.proofs.Steps.{cutOf, done-plates}
+use Rattle.listing.proofs.Steps.{cutMade, done-plates}
 use Rattle.listing.proofs.Growth.{Longer, longer-same, entered-longer, done-longer, done-plate, done-count, done-cut, done-last}
 use Rattle.listing.proofs.PlateTypes.{PlatesOk, board-ok, entered-ok, entered-numbered}
 
@@ -154,7 +153,7 @@ module _ (job : Job) where
 
     -- the cut that is added
     abbrev added : Cut
-    added = cutOf job j i left (l .plates)
+    added = cutMade job j i left (l .plates)
 
     added-ok : CutOk next added
     added-ok =

@@ -1,9 +1,9 @@
 -- A buffer that holds words, as the code fills it: the words first, and 0 past them; and the plate type of a number, read from a buffer.
--- Assumes nothing.
 use Prim.Native.Nat.{ℕ, _+_, _*_}
 use mathlib.Core.Path.{_≡_}
 use mathlib.Core.List.{List}
 use lib.ListN.{length, getD}
+use Rattle.job.specs.Sizes.{wordsOfPlate}
 use Rattle.job.specs.Buffers.{filled}
 use Rattle.listing.specs.declared.plate.Plate.{Plate}
 use Rattle.listing.specs.Plate.{plate}
@@ -13,10 +13,10 @@ use Rattle.listing.specs.Listing.{Cut}
 pub record Holds (buffer ws : List ℕ) : Type 0 where
   pub words : buffer ≡ filled (length buffer) ws
 
--- plate type j by its three words
+-- plate type j by its words
 abbrev pub plateRead : List ℕ → ℕ → Plate
-plateRead buffer j = plate (getD buffer (3 * j) 0) (getD buffer (3 * j + 1) 0) (getD buffer (3 * j + 2) 0)
+plateRead buffer j = plate (getD buffer (wordsOfPlate * j) 0) (getD buffer (wordsOfPlate * j + 1) 0) (getD buffer (wordsOfPlate * j + 2) 0)
 
--- a cut by its four words
-abbrev pub cutOf : ℕ → ℕ → ℕ → ℕ → Cut
-cutOf j i t r = record { plate = j; item = i; top = t; right = r }
+-- a cut by its words
+abbrev pub cutOfWords : ℕ → ℕ → ℕ → ℕ → Cut
+cutOfWords j i t r = record { plate = j; item = i; top = t; right = r }

@@ -2,6 +2,8 @@
 pub mod Plate
 pub mod Listing
 pub mod Model
+pub mod WalkLaws
 pub mod Records
 pub mod Holds
+pub mod CutRead
 pub mod ListCall

@@ -1,12 +1,11 @@
 -- Document 01, "Where each number is given": what the listing call answers, and what it leaves in the plates and the cuts that it is lent.
--- Assumes nothing.
 use Prim.Native.Nat.{ℕ}
 use mathlib.Core.List.{List, [], _∷_}
 use lib.ListN.{length}
 use Rattle.job.specs.Verdict.{Verdict, _then_}
 use Rattle.job.specs.Buffers.{Answer, answer, ends, sized, platesSize, cutsSize}
 use Rattle.job.specs.Job.{jobOf, jobWords, admission}
-use Rattle.listing.specs.Listing.{Listing, modelRow, listingOf, residualTypes}
+use Rattle.listing.specs.Listing.{modelRow, listingOf, residualTypes}
 use Rattle.listing.specs.Records.{plateWords, cutWords}
 
 -- `ws` are the job's words, `plates` and `cuts` the lent buffers as they were

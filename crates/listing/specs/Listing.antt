@@ -1,23 +1,16 @@
 -- Document 01, "Plates and cuts": the walk that numbers plate types and cuts, and where it is refused, 6 and 7.
--- Assumes nothing.
 use Prim.Native.Nat.{ℕ, zero, suc, _-_}
-use mathlib.Core.Bool.{Bool, true, false}
+use mathlib.Core.Bool.{true, false}
 use mathlib.Core.List.{List, [], _∷_, _++_}
 use lib.Dec.{ltb}
 use lib.ListN.{length, getD}
+pub use Rattle.job.specs.Sizes.{maxPlates, maxCuts}
 use Rattle.job.specs.declared.item.Item.{Item}
 use Rattle.job.specs.Job.{Job}
 use Rattle.job.specs.Verdict.{Verdict, pass, refuse}
 use Rattle.listing.specs.declared.plate.Plate.{Plate}
 use Rattle.listing.specs.declared.plate.Residuals.{Residuals}
 use Rattle.listing.specs.Plate.{board, waste, same, mayCut, leaves, kept}
-
--- "at most 2,048 plate types, type 0 among them, and 8,192 cuts"
-abbrev pub maxPlates : ℕ
-maxPlates = 2048
-
-abbrev pub maxCuts : ℕ
-maxCuts = 8192
 
 -- a cut: the plate type and the item type of its pair, and the numbers of its top and its right, 0 if not kept
 pub record Cut : Type 0 where
@@ -79,6 +72,10 @@ cutDone job j i r l =
       cuts = l .cuts ++ (record { plate = j; item = i; top = t .number; right = u .number } ∷ []);
     }
 
+-- where the walk begins: the board alone
+abbrev pub walkStart : Job → Listing
+walkStart job = record { plates = board job ∷ []; cuts = [] }
+
 -- The walk, over its two limits, so that it can also be computed with small ones.
 module _ (plateLimit cutLimit : ℕ) (job : Job) where
   -- "a pair is counted as a cut before its residuals": where one pair passes both limits, 7 is met first
@@ -121,7 +118,7 @@ module _ (plateLimit cutLimit : ℕ) (job : Job) where
 
   -- the whole walk, from the board alone
   unfoldable pub walkWithin : Walk
-  walkWithin = overPlates plateLimit 0 (record { plates = board job ∷ []; cuts = [] })
+  walkWithin = overPlates plateLimit 0 (walkStart job)
 
 unfoldable pub walk : Job → Walk
 walk job = walkWithin maxPlates maxCuts job

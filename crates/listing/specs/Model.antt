@@ -1,6 +1,5 @@
 -- What a listing is, in plain statements: document 01's "Plates and cuts" and "Numbering", without the walk that makes one.
--- Assumes nothing.
-use Prim.Native.Nat.{ℕ, suc, _+_, _≤_, _<_}
+use Prim.Native.Nat.{ℕ, suc, _≤_, _<_}
 use mathlib.Core.Path.{_≡_}
 use mathlib.Core.Logic.{_⊎_}
 use mathlib.Core.Bool.{true, false}
@@ -10,7 +9,7 @@ use Rattle.job.specs.Job.{Job, itemAt}
 use Rattle.listing.specs.declared.plate.Plate.{Plate}
 use Rattle.listing.specs.declared.plate.Residuals.{Residuals}
 use Rattle.listing.specs.Plate.{board, mayCut, leaves, kept}
-use Rattle.listing.specs.Listing.{Cut, Listing, plateAt, cutAt, residualTypes, maxPlates, maxCuts}
+use Rattle.listing.specs.Listing.{Cut, Listing, plateAt, cutAt, maxPlates, maxCuts}
 
 -- r is the number of the residual q: that of its plate type where it is kept, else 0
 abbrev pub Numbered : Job → Listing → Plate → ℕ → Type 0

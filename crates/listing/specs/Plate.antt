@@ -1,8 +1,6 @@
 -- Document 01, "Plates and cuts": plate types, what may be cut from one, what the cut leaves, and which residuals are kept.
--- Assumes nothing.
 use Prim.Native.Nat.{ℕ, _-_}
-use mathlib.Core.Bool.{Bool, true, false, cond, not, _&&_, _||_}
-use mathlib.Core.List.{List}
+use mathlib.Core.Bool.{Bool, true, cond, not, _&&_, _||_}
 use lib.Dec.{leb, eqb}
 use Rattle.job.specs.declared.mode.Mode.{Mode}
 use Rattle.job.specs.declared.item.Item.{Item}

@@ -1,5 +1,4 @@
 -- Document 01, "Plates and cuts": records as 16-bit words, "a plate's width, height, stage; a cut's plate, item, top and right".
--- Assumes nothing.
 use Prim.Native.Nat.{ℕ}
 use mathlib.Core.List.{List, [], _∷_, flatMap}
 use Rattle.listing.specs.declared.plate.Plate.{Plate}

@@ -28,23 +28,13 @@ pub fn may_cut(mode: Mode, item: Item, p: Plate) -> bool
     if p.height < item.height {
         return false;
     }
-    let m = mode.0;
-    let stage = p.stage;
-    match m {
-        0 => {
-            if stage == 2 {
-                return item.height == p.height;
-            }
-            true
-        }
-        2 => {
-            if stage == 3 {
-                return item.width == p.width;
-            }
-            true
-        }
-        _ => true,
+    if !mode.exact() {
+        return true;
     }
+    if mode.three() {
+        return p.stage != 3 || item.width == p.width;
+    }
+    p.stage != 2 || item.height == p.height
 }
 
 // The top and the right residual of a cut, by the plate's stage and the mode: 0 and 1 are the two-stage modes, 2 and 3 the three-stage ones.
@@ -83,7 +73,7 @@ pub fn cut_leaves(mode: Mode, item: Item, p: Plate) -> Residuals
                     stage: 2,
                 },
             },
-            2..=3 | _ => Residuals {
+            2..=255 => Residuals {
                 top: Plate {
                     width: item.width,
                     height: up,

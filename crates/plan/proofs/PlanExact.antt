@@ -1,5 +1,4 @@
 -- Document 01, "Plan": what the plan test says in plain statements, both ways, and that words past the last cut play no part in it.
--- Assumes nothing.
 use Prim.Native.Nat.{ℕ, zero, suc, _+_, _-_, _≤_, _<_, zero-le}
 use native.Mathlib.Omega.{arith}
 use mathlib.Core.Path.{_≡_, refl, sym, ap}
@@ -17,7 +16,7 @@ use Rattle.job.proofs.Tests.{at-most-or-above}
 use Rattle.job.proofs.Decides.{passes-then, passes-limit, passes-places}
 use Rattle.listing.specs.Plate.{waste}
 use Rattle.listing.specs.Listing.{Cut, Listing}
-use Rattle.plan.specs.Plan.{countOf, ofItem, onPlate, leavesPlate, boards, total, short, overdrawn, countsRow, planRow}
+use Rattle.plan.specs.Plan.{countOf, ofItem, onPlate, leavesPlate, total, short, overdrawn, countsRow, planRow}
 use Rattle.plan.specs.Feasible.{Feasible, NonePast}
 
 one-more : (i : ℕ) → 1 + i ≡ suc i
@@ -98,7 +97,7 @@ total-take zero ns h = sym (total-none ns (λ c. h c (omega arith)))
 total-take (suc n) [] h = refl
 total-take (suc n) (m ∷ ns) h = omega (arith, total-take n ns (λ c p. h (suc c) (omega arith)))
 
--- a plan is accepted, and opens the boards that it opens, whether or not words that are 0 stand past its last cut
+-- a plan is accepted whether or not words that are 0 stand past its last cut
 module _ (job : Job) (l : Listing) (ns : List ℕ) (none : NonePast l ns) where
   pub accepted-take : Feasible job l ns ↔ Feasible job l (take (length (l .cuts)) ns)
   accepted-take = (to, from)
@@ -124,10 +123,6 @@ module _ (job : Job) (l : Listing) (ns : List ℕ) (none : NonePast l ns) where
             met = λ i p q. omega (arith, a .met i p q, same (ofItem i));
             covered = λ j p q. omega (arith, a .covered j p q, same (onPlate j), same (leavesPlate j));
           }
-
-  pub boards-take : boards l (take (length (l .cuts)) ns) ≡ boards l ns
-  unfolding boards
-  boards-take = countOf-take (onPlate 0) (l .cuts) ns
 
 -- the counts of some cuts are at most all counts together
 pub countOf-total : (test : Cut → Bool) (cs : List Cut) (ns : List ℕ) → countOf test cs ns ≤ total ns

@@ -1,5 +1,4 @@
 -- Document 01, "Prices": what the price test and "fewest" say in plain statements, both ways.
--- Assumes nothing.
 use Prim.Native.Nat.{ℕ, zero, suc, _*_, _-_, _≤_, _<_}
 use native.Mathlib.Omega.{arith}
 use mathlib.Core.Path.{_≡_, refl}
@@ -12,7 +11,7 @@ use Rattle.job.specs.Job.{Job}
 use Rattle.job.proofs.Decides.{passes-places}
 use Rattle.listing.specs.Listing.{Listing, cutAt, noCut}
 use Rattle.plan.specs.Prices.{Prices, residualPrice, priceLimit, worth, overLimit, pricesRow, priceSum, fewest}
-use Rattle.plan.specs.Feasible.{costs, DualFeasible}
+use Rattle.plan.specs.Feasible.{DualFeasible}
 
 -- the limit of a cut on type 0, and of a cut on a residual type
 pub limit-board : (ps : Prices) (j : ℕ) → j ≡ 0 → priceLimit ps j ≡ ps .denominator
@@ -33,7 +32,7 @@ module _ (l : Listing) (ps : Prices) where
     where
       to : pricesRow l ps ≡ pass → DualFeasible l ps
       to h =
-          let within : (c : ℕ) → c < length (l .cuts) → costs ps (cutAt l (suc c)) ≤ priceLimit ps (cutAt l (suc c) .plate)
+          let within : (c : ℕ) → c < length (l .cuts) → worth ps (cutAt l (suc c)) ≤ priceLimit ps (cutAt l (suc c) .plate)
           = λ c p. ltb-false _ _ (passes-places 14 (λ _ c. overLimit ps c) noCut 1 (l .cuts) .0 h c p) in
           record {
             on-board = λ c p e. omega (arith, within c p, limit-board ps (cutAt l (suc c) .plate) e);
@@ -45,7 +44,7 @@ module _ (l : Listing) (ps : Prices) where
           passes-places 14 (λ _ c. overLimit ps c) noCut 1 (l .cuts) .1
           (λ c p. le-ltb _ _ (at c p (cutAt l (suc c) .plate) refl))
         where
-          at : (c : ℕ) → c < length (l .cuts) → (j : ℕ) → cutAt l (suc c) .plate ≡ j → costs ps (cutAt l (suc c)) ≤ priceLimit ps (cutAt l (suc c) .plate)
+          at : (c : ℕ) → c < length (l .cuts) → (j : ℕ) → cutAt l (suc c) .plate ≡ j → worth ps (cutAt l (suc c)) ≤ priceLimit ps (cutAt l (suc c) .plate)
           at c p zero e = omega (arith, a .on-board c p e, limit-board ps (cutAt l (suc c) .plate) e)
           at c p (suc j) e = omega (arith, a .on-residual c p (omega arith), limit-residual ps (cutAt l (suc c) .plate) (omega arith))
 

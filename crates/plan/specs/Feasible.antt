@@ -1,14 +1,12 @@
 -- Demand 2's sentence on plans, and document 01's on prices, as plain statements: what the plan row and the prices row decide.
--- Assumes nothing.
-use Prim.Native.Nat.{ℕ, suc, _+_, _≤_, _<_}
+use Prim.Native.Nat.{ℕ, suc, _≤_, _<_}
 use mathlib.Core.Path.{_≡_}
 use mathlib.Core.List.{List}
 use lib.ListN.{length, getD}
-use Rattle.job.specs.declared.item.Item.{Item}
 use Rattle.job.specs.Job.{Job, itemAt, maxPieces}
-use Rattle.listing.specs.Listing.{Cut, Listing, cutAt}
+use Rattle.listing.specs.Listing.{Listing, cutAt}
 use Rattle.plan.specs.Plan.{countOf, ofItem, onPlate, leavesPlate, total}
-use Rattle.plan.specs.Prices.{Prices, itemPrice, residualPrice}
+use Rattle.plan.specs.Prices.{Prices, residualPrice, worth}
 
 -- "A plan is accepted exactly when each item type is cut at least as often as demanded, no residual type is cut more often than it arises and
 -- the counts add up to at most 4,000"
@@ -21,11 +19,7 @@ pub record Feasible (job : Job) (l : Listing) (ns : List ℕ) : Type 0 where
 abbrev pub NonePast : Listing → List ℕ → Type 0
 NonePast l ns = (c : ℕ) → length (l .cuts) ≤ c → getD ns c 0 ≡ 0
 
--- "the item's price plus the prices of its kept residuals"
-abbrev pub costs : Prices → Cut → ℕ
-costs ps c = itemPrice ps (c .item) + residualPrice ps (c .top) + residualPrice ps (c .right)
-
 -- prices are accepted exactly when for each cut that is "at most D for a cut on type 0, else at most the price of the plate cut"
 pub record DualFeasible (l : Listing) (ps : Prices) : Type 0 where
-  pub on-board : (c : ℕ) → c < length (l .cuts) → cutAt l (suc c) .plate ≡ 0 → costs ps (cutAt l (suc c)) ≤ ps .denominator
-  pub on-residual : (c : ℕ) → c < length (l .cuts) → 0 < cutAt l (suc c) .plate → costs ps (cutAt l (suc c)) ≤ residualPrice ps (cutAt l (suc c) .plate)
+  pub on-board : (c : ℕ) → c < length (l .cuts) → cutAt l (suc c) .plate ≡ 0 → worth ps (cutAt l (suc c)) ≤ ps .denominator
+  pub on-residual : (c : ℕ) → c < length (l .cuts) → 0 < cutAt l (suc c) .plate → worth ps (cutAt l (suc c)) ≤ residualPrice ps (cutAt l (suc c) .plate)

@@ -1,5 +1,4 @@
 -- Document 01, "Plan": a count for each cut, the boards that it opens, and when it is refused.
--- Assumes nothing.
 use Prim.Native.Nat.{ℕ, suc, _+_}
 use mathlib.Core.Bool.{Bool, cond, not, _||_}
 use mathlib.Core.List.{List, [], _∷_}
@@ -50,9 +49,12 @@ overdrawn l ns j p = ltb (countOf (leavesPlate j) (l .cuts) ns) (countOf (onPlat
 unfoldable pub countsRow : Listing → List ℕ → Verdict
 countsRow l ns = lowest 8 (λ _ n. not (eqb n 0)) (suc (length (l .cuts))) (drop (length (l .cuts)) ns)
 
--- the plan row from 10 on: 10 total above 4,000; 11 type short; 12 residual type overdrawn
+-- the plan row from 11 on: 11 type short; 12 residual type overdrawn
+abbrev pub balanceRow : Job → Listing → List ℕ → Verdict
+balanceRow job l ns = lowest 11 (short l ns) 1 (job .items) then lowest 12 (overdrawn l ns) 1 (drop 1 (l .plates))
+
+-- the plan row from 10 on: 10 total above 4,000, and then 11 and 12
 unfoldable pub planRow : Job → Listing → List ℕ → Verdict
 planRow job l ns =
     refuseIf (ltb maxPieces (total ns)) 10 0
-    then lowest 11 (short l ns) 1 (job .items)
-    then lowest 12 (overdrawn l ns) 1 (drop 1 (l .plates))
+    then balanceRow job l ns

@@ -1,5 +1,4 @@
 -- Document 01, "Where each number is given": what the plan test answers. What it leaves in plates and cuts is `platesEnd` and `cutsEnd`.
--- Assumes nothing.
 use Prim.Native.Nat.{ℕ}
 use mathlib.Core.List.{List, [], _∷_}
 use Rattle.job.specs.Verdict.{Verdict, _then_}

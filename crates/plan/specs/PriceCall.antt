@@ -1,12 +1,11 @@
 -- Document 01, "Where each number is given": what the price test answers. What it leaves in plates and cuts is `platesEnd` and `cutsEnd`.
--- Assumes nothing.
 use Prim.Native.Nat.{ℕ}
 use mathlib.Core.List.{List, [], _∷_}
 use Rattle.job.specs.Verdict.{Verdict, _then_}
 use Rattle.job.specs.Buffers.{Answer, answer, sized, platesSize, cutsSize}
 use Rattle.job.specs.Job.{jobOf, jobWords, admission}
 use Rattle.listing.specs.Listing.{modelRow, listingOf}
-use Rattle.plan.specs.Prices.{Prices, pricesOf, priceWords, pricesSized, pricesRow, priceSum}
+use Rattle.plan.specs.Prices.{pricesOf, priceWords, pricesSized, pricesRow, priceSum}
 
 -- `ws` are the job's words, `prices` the price words, `plates` and `cuts` the lent buffers as they were;
 -- "words of prices and layouts belong to the line row, after the job's words"

@@ -1,18 +1,14 @@
 -- Document 01, "Prices": a denominator and prices, when they are refused, and the bound that they give.
--- Assumes nothing.
 use Prim.Native.Nat.{ℕ, zero, suc, _+_, _*_, _-_}
 use mathlib.Core.Bool.{Bool, cond, not, _||_}
 use mathlib.Core.List.{List, [], _∷_}
 use lib.Dec.{ltb, eqb}
 use lib.ListN.{length, getD, take, drop}
+pub use Rattle.job.specs.Sizes.{maxPrice}
 use Rattle.job.specs.declared.item.Item.{Item}
 use Rattle.job.specs.Verdict.{Verdict, refuseIf, within, lowest}
 use Rattle.job.specs.Job.{Job}
 use Rattle.listing.specs.Listing.{Cut, Listing, residualTypes}
-
--- the greatest price, and the greatest denominator
-abbrev pub maxPrice : ℕ
-maxPrice = 9999
 
 -- the denominator D; a price for each item type and each residual type, both in order
 pub record Prices : Type 0 where
@@ -20,14 +16,13 @@ pub record Prices : Type 0 where
   pub items : List ℕ
   pub residuals : List ℕ
 
--- as words "prices are D, the n, the m"
+-- as words "prices are D, the n, the m": for n item types
+abbrev pub pricesAt : ℕ → List ℕ → Prices
+pricesAt n ws = record { denominator = getD ws 0 0; items = take n (drop 1 ws); residuals = drop (1 + n) ws }
+
+-- for those of a job
 unfoldable pub pricesOf : Job → List ℕ → Prices
-pricesOf job ws =
-    record {
-      denominator = getD ws 0 0;
-      items = take (length (job .items)) (drop 1 ws);
-      residuals = drop (1 + length (job .items)) ws;
-    }
+pricesOf job ws = pricesAt (length (job .items)) ws
 
 -- the lowest value of word k, from 1: D is at least 1, a price at least 0
 unfoldable pub lowestPrice : ℕ → ℕ

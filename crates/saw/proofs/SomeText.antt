@@ -1,13 +1,12 @@
 -- Some text has been read, part after part.
--- Assumes nothing.
 use mathlib.Core.List.{List, [], _++_}
 use Prim.Native.Nat.{ℕ}
-use Rattle.saw_reader.specs.declared.saw.SawReader.{SawReader}
-use Rattle.saw_lines.specs.SawKept.{Lent, Room}
-use Rattle.saw_reader.specs.SawFed.{Started, Fed}
-use Rattle.saw_reader.specs.Parts.{After, AsLong}
-use Rattle.saw_reader.proofs.SawSplits.{in-parts}
-use Rattle.saw_call.proofs.TextParts.{after-none, as-long, long-same}
+use Rattle.saw_text_reader.specs.declared.saw.SawReader.{SawReader}
+use Rattle.saw_text_lines.specs.SawKept.{Lent, Room}
+use Rattle.saw_text_reader.specs.SawFed.{Started, Fed}
+use Rattle.saw_text_reader.specs.Parts.{After, AsLong}
+use Rattle.saw_text_reader.proofs.SawSplits.{in-parts}
+use Rattle.saw_text_call.proofs.TextParts.{after-none, as-long, long-same}
 
 -- the state and the lent buffers are those after some bytes
 pub record SomeRead (f : SawReader) (b b₀ : Lent) : Type 0 where

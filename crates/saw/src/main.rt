@@ -4,15 +4,27 @@ ghost use mathlib.Core.List.{List};
 ghost use Prim.Native.Nat.{ℕ};
 ghost use Rattle.columns.specs.Group.{put};
 ghost use Rattle.texts.specs.SawText.{sawText};
-ghost use Rattle.saw_lines.specs.SawKept.{lent, Room};
-ghost use Rattle.saw_reader.specs.Parts.{After};
-ghost use Rattle.saw_ending.specs.Ending.{RoomToEnd};
-use saw_ending::finish::finish_listed;
-use saw_reader::saw::SawReader;
-use saw_reader::saw::feed;
-use saw_reader::saw::start;
+ghost use Rattle.saw_text_lines.specs.SawKept.{lent, Room};
+ghost use Rattle.saw_text_reader.specs.Parts.{After};
+ghost use Rattle.saw_text_ending.specs.SawEnd.{RoomToEnd};
+use job::sizes::COUNTS_SIZE;
+use job::sizes::CUTS_SIZE;
+use job::sizes::JOB_SIZE;
+use job::sizes::PLACEMENTS_SIZE;
+use job::sizes::PLATES_SIZE;
+use job::sizes::PRICES_SIZE;
+use saw_text_ending::finish::finish_listed;
+use saw_text_reader::saw::SawReader;
+use saw_text_reader::saw::feed;
+use saw_text_reader::saw::start;
+use texts_writing::sizes::LONGEST_SAW;
 
-// Reads the text, part after part, to its end. 57 parts of 65,536 bytes are more than the 3,700,342 that decide the answer to any text.
+// The bytes of a part, and the most parts that are read; `saw/Sizes` has the same as definitions. 57 parts of 65,536 bytes are more than the 3,700,342 that decide the answer to any text.
+const PART_SIZE: usize = 65_536;
+
+const MOST_PARTS: usize = 57;
+
+// Reads the text, part after part, to its end.
 fn read(
     part: &mut [u8],
     job: &mut [u16],
@@ -26,7 +38,7 @@ fn read(
 {
     let mut reader = start(job, plates, cuts, counts, prices);
     let mut parts: usize = 0;
-    while parts < 57 {
+    while parts < MOST_PARTS {
         let n = io::read_full(0, part);
         if n == 0 {
             return reader;
@@ -59,14 +71,14 @@ fn run(
 }
 
 fn main() {
-    let mut part = [0u8; 65536];
-    let mut job = [0u16; 125];
-    let mut plates = [0u16; 6144];
-    let mut cuts = [0u16; 32768];
-    let mut counts = [0u16; 8192];
-    let mut prices = [0u16; 2088];
-    let mut placements = [0u16; 28000];
-    let mut out = [0u8; 292046];
+    let mut part = [0u8; PART_SIZE];
+    let mut job = [0u16; JOB_SIZE];
+    let mut plates = [0u16; PLATES_SIZE];
+    let mut cuts = [0u16; CUTS_SIZE];
+    let mut counts = [0u16; COUNTS_SIZE];
+    let mut prices = [0u16; PRICES_SIZE];
+    let mut placements = [0u16; PLACEMENTS_SIZE];
+    let mut out = [0u8; LONGEST_SAW];
     run(
         &mut part,
         &mut job,

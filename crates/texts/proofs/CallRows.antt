@@ -1,5 +1,4 @@
 -- The rows of a text and those of the calls: the words that a text holds pass the calls' line rows, and what the text accepts the calls accept.
--- Assumes nothing.
 use Prim.Native.Nat.{ℕ, zero, suc, _+_, _-_, _≤_}
 use native.Mathlib.Omega.{arith}
 use mathlib.Core.Path.{_≡_, refl, ap, _∙_}
@@ -9,11 +8,15 @@ use mathlib.Core.Option.{some}
 use lib.Dec.{ltb, eqb}
 use lib.ListN.{length, drop, replicate, length-append, length-replicate}
 use lib.Seq.{drop-at}
-use borrow.Author.Tests.{le-ltb, eq-eqb, eqb-true}
+use borrow.Author.Tests.{eq-eqb, eqb-true}
 use Rattle.job.specs.Lists.{sumOf}
 use Rattle.job.specs.Verdict.{pass, _then_, refuseIf, lowest}
-use Rattle.job.specs.Buffers.{filled, sized, platesSize, cutsSize, countsSize}
+use Rattle.job.specs.Buffers.{filled, platesSize, cutsSize, countsSize}
 use Rattle.job.specs.Job.{Job, maxPieces, jobOf, jobWords, admission}
+use Rattle.job.proofs.Buffers.{sized-full}
+use Rattle.job.proofs.Tests.{not-both}
+use Rattle.job.proofs.Verdicts.{refuseIf-pass}
+use Rattle.job.proofs.CodeEnds.{then-pass}
 use Rattle.listing.specs.Listing.{Cut, Listing, modelRow, listingOf, residualTypes}
 use Rattle.plan.specs.Plan.{countOf, ofItem, onPlate, leavesPlate, total, short, overdrawn, countsRow, planRow}
 use Rattle.plan.specs.PlanCall.{planVerdict}
@@ -24,13 +27,7 @@ use Rattle.layouts.specs.LayoutsRow.{layoutsRow}
 use Rattle.layouts.specs.FoldCall.{foldVerdict}
 use Rattle.texts.specs.SawText.{Counted, PriceLines, Saw, countsFrom, planCounts, cutsNamed, cutsRising, priceLinesRow, sawRows}
 use Rattle.texts.specs.JobLines.{bodyLine}
-use Rattle.texts.specs.Held.{PricesHeld, SawHeld}
-use Rattle.texts.proofs.Basics.{not-both, then-parts, refuseIf-passed}
-
--- a buffer of its full size
-sized-full : (number size : ℕ) (buffer : List ℕ) → size ≤ length buffer → sized number size buffer ≡ pass
-unfolding sized
-sized-full number size buffer h = rw (le-ltb (length buffer) size h)
+use Rattle.texts.specs.Held.{PricesHeld, SawWhole}
 
 -- ---- the calls, of words that pass their own rows and buffers of their full sizes
 
@@ -80,7 +77,8 @@ count-zeros test [] (n ∷ ns) zs h = refl
 count-zeros test (c ∷ cs) [] zs h = absurd (omega arith)
 count-zeros test (c ∷ cs) (n ∷ ns) zs h = ap (λ (k : ℕ). cond (test c) n 0 + k) (count-zeros test cs ns zs (omega arith))
 
-total-zeros : (ns : List ℕ) (k : ℕ) → total (ns ++ replicate k 0) ≡ total ns
+-- zeros add nothing to the counts
+pub total-zeros : (ns : List ℕ) (k : ℕ) → total (ns ++ replicate k 0) ≡ total ns
 unfolding total sumOf
 total-zeros [] zero = refl
 total-zeros [] (suc k) = let e = total-zeros [] k in omega arith
@@ -123,7 +121,7 @@ pub model-sized :
     → pricesSized job l ws ≡ pass
 unfolding modelSized pricesSized
 model-sized job l n m ws e h =
-    let p = refuseIf-passed (not (eqb n (length (job .items))) || not (eqb m (residualTypes l))) 13 0 h in
+    let p = refuseIf-pass (not (eqb n (length (job .items))) || not (eqb m (residualTypes l))) 13 0 h in
     let (a, b) = both (eqb n (length (job .items))) (eqb m (residualTypes l)) p in
     let i : n ≡ length (job .items) = eqb-true n (length (job .items)) a in
     let j : m ≡ residualTypes l = eqb-true m (residualTypes l) b in
@@ -150,18 +148,18 @@ pub accepted-rows : (s : Saw) → sawRows s ≡ pass → Accepted s
 unfolding sawRows
 accepted-rows s h =
     let l : Listing = listingOf (jobOf (s .job)) in
-    let a = then-parts (admission (jobOf (s .job))) _ h in
-    let b = then-parts (modelRow (jobOf (s .job))) _ (a .1) in
-    let c = then-parts (cutsNamed l (bodyLine (s .job)) (s .plan)) _ (b .1) in
-    let d = then-parts (cutsRising l 0 (bodyLine (s .job)) (s .plan)) _ (c .1) in
-    let e = then-parts (planRow (jobOf (s .job)) l (planCounts l (s .plan))) _ (d .1) in
+    let a = then-pass (admission (jobOf (s .job))) _ h in
+    let b = then-pass (modelRow (jobOf (s .job))) _ (a .1) in
+    let c = then-pass (cutsNamed l (bodyLine (s .job)) (s .plan)) _ (b .1) in
+    let d = then-pass (cutsRising l 0 (bodyLine (s .job)) (s .plan)) _ (c .1) in
+    let e = then-pass (planRow (jobOf (s .job)) l (planCounts l (s .plan))) _ (d .1) in
     record { admitted = a .0; listed = b .0; named = c .0; rising = d .0; plan = e .0; prices = e .1 }
 
 filled-long : (size : ℕ) (ns : List ℕ) → size ≤ length (filled size ns)
 unfolding filled
 filled-long size ns = rw (length-append, length-replicate {A = ℕ} (size - length ns) 0) (omega arith)
 
-module _ (s : Saw) (h : SawHeld s) (a : Accepted s) (plates cuts : List ℕ) (p : platesSize ≤ length plates) (c : cutsSize ≤ length cuts) where
+module _ (s : Saw) (h : SawWhole s) (a : Accepted s) (plates cuts : List ℕ) (p : platesSize ≤ length plates) (c : cutsSize ≤ length cuts) where
   -- the plan test accepts the counts of the text
   pub accepted-plan : planVerdict (s .job) (filled countsSize (planCounts (listingOf (jobOf (s .job))) (s .plan))) plates cuts ≡ pass
   accepted-plan =
@@ -178,6 +176,6 @@ module _ (s : Saw) (h : SawHeld s) (a : Accepted s) (plates cuts : List ℕ) (p 
       let l : Listing = listingOf (jobOf (s .job)) in
       let w : PricesHeld (s .place) (some ps) = rw e at (h .prices) in
       let q : priceLinesRow (jobOf (s .job)) l (some ps) ≡ pass = rw e at (a .prices) in
-      let r = then-parts (modelSized (jobOf (s .job)) l (ps .types) (ps .residuals)) (pricesRow l (pricesOf (jobOf (s .job)) (ps .words))) q in
+      let r = then-pass (modelSized (jobOf (s .job)) l (ps .types) (ps .residuals)) (pricesRow l (pricesOf (jobOf (s .job)) (ps .words))) q in
       price-call (s .job) plates cuts (h .job) p c (ps .words) (w .1 .words)
       ∙ rw (a .admitted, a .listed, model-sized (jobOf (s .job)) l (ps .types) (ps .residuals) (ps .words) (w .1 .size) (r .0)) (r .1)

@@ -1,5 +1,4 @@
 -- The layouts row passes or not whatever number its first line has, so that a fold text is accepted just where the folding call is.
--- Assumes nothing.
 use Prim.Native.Nat.{ℕ, suc, _+_, _≤_}
 use mathlib.Core.Path.{_≡_, refl, sym, _∙_}
 use mathlib.Core.Bool.{Bool, true, false, _&&_}
@@ -9,16 +8,17 @@ use lib.ListN.{length}
 use Rattle.job.specs.Verdict.{pass, refuse, _then_, refuseIf, lowest}
 use Rattle.job.specs.Buffers.{platesSize, cutsSize, countsSize}
 use Rattle.job.specs.Job.{Job, maxPieces, jobOf, admission}
+use Rattle.job.proofs.Verdicts.{pass-not-refuse}
+use Rattle.job.proofs.CodeEnds.{then-pass}
 use Rattle.listing.specs.Listing.{modelRow}
 use Rattle.layouts.specs.Layout.{Strip, Board, stripHeight}
 use Rattle.layouts.specs.Placement.{Turn, turn, Placement, itemsOfStrip, itemsOfBoard, linesOf}
 use Rattle.layouts.specs.Lines.{rowsOf, sameTurn, follows, inTurn, turns, grouped}
-use Rattle.layouts.specs.LayoutsRow.{Laid, laidBoard, laidSet, lowestStrip, breaksStage, pastBoard, positioned, lacks, layoutsRow}
+use Rattle.layouts.specs.LayoutsRow.{Laid, laidAt, laidBoard, laidSet, lowestStrip, breaksStage, pastBoard, positioned, lacks, layoutsRow}
 use Rattle.layouts.specs.FoldCall.{foldVerdict}
 use Rattle.texts.specs.JobLines.{bodyLine}
 use Rattle.texts.specs.FoldText.{Fold, foldRows}
-use Rattle.texts.specs.Held.{FoldHeld}
-use Rattle.texts.proofs.Basics.{pass-not-refuse, then-parts}
+use Rattle.texts.specs.Held.{FoldWhole}
 use Rattle.texts.proofs.CallRows.{fold-call}
 
 -- 15
@@ -48,10 +48,7 @@ turns-any k j (r ∷ rs) h = go (sameTurn (r .turn) (turn 1 1 1 1)) h
     go false h = absurd (pass-not-refuse h refl)
 
 -- 16 and 17: a test of strips that does not look at their lines
-abbrev laid : ℕ → ℕ → Strip → Laid
-laid k y s = record { line = k; below = y; strip = s }
-
-module _ (number : ℕ) (bad : Laid → Bool) (same : (k j y : ℕ) (s : Strip) → bad (laid k y s) ≡ bad (laid j y s)) (job : Job) where
+module _ (number : ℕ) (bad : Laid → Bool) (same : (k j y : ℕ) (s : Strip) → bad (laidAt k y s) ≡ bad (laidAt j y s)) (job : Job) where
   board-any :
       (k j y : ℕ) (b : Board) (us vs : List Laid)
       → lowestStrip number bad (laidBoard job k y b ++ us) ≡ pass
@@ -61,17 +58,17 @@ module _ (number : ℕ) (bad : Laid → Bool) (same : (k j y : ℕ) (s : Strip) 
   board-any k j y [] us vs h f = f h
   board-any k j y (s ∷ ss) us vs h f =
       let n : ℕ = length (itemsOfStrip s) in
-      go (bad (laid k y s)) refl h (λ p. board-any (k + n) (j + n) (y + stripHeight job s) ss us vs p f)
+      go (bad (laidAt k y s)) refl h (λ p. board-any (k + n) (j + n) (y + stripHeight job s) ss us vs p f)
     where
       rest : ℕ → List Laid → List Laid
       rest i ts = laidBoard job (i + length (itemsOfStrip s)) (y + stripHeight job s) ss ++ ts
 
       go :
           (t : Bool)
-          → bad (laid k y s) ≡ t
+          → bad (laidAt k y s) ≡ t
           → elim t [ true ↦ refuse number k | false ↦ lowestStrip number bad (rest k us) ] ≡ pass
           → (lowestStrip number bad (rest k us) ≡ pass → lowestStrip number bad (rest j vs) ≡ pass)
-          → lowestStrip number bad (laid j y s ∷ rest j vs) ≡ pass
+          → lowestStrip number bad (laidAt j y s ∷ rest j vs) ≡ pass
       go true e h ih = absurd (pass-not-refuse h refl)
       go false e h ih = rw (same j k y s ∙ e, lowestStrip) (ih h)
 
@@ -101,11 +98,11 @@ positioned-any k j (r ∷ rs) (p ∷ ps) h = go (eqb (r .x) (p .x) && eqb (r .y)
 pub layouts-any : (k j : ℕ) (job : Job) (rs : List Placement) → layoutsRow k job rs ≡ pass → layoutsRow j job rs ≡ pass
 unfolding layoutsRow breaksStage pastBoard
 layouts-any k j job rs h =
-    let a = then-parts (refuseIf (ltb maxPieces (length rs)) 10 0) _ h in
-    let b = then-parts (turns k rs) _ (a .1) in
-    let c = then-parts (lowestStrip 16 (breaksStage job) (laidSet job k (grouped rs))) _ (b .1) in
-    let d = then-parts (lowestStrip 17 (pastBoard job) (laidSet job k (grouped rs))) _ (c .1) in
-    let e = then-parts (positioned k rs (linesOf job (grouped rs))) (lowest 11 (lacks rs) 1 (job .items)) (d .1) in
+    let a = then-pass (refuseIf (ltb maxPieces (length rs)) 10 0) _ h in
+    let b = then-pass (turns k rs) _ (a .1) in
+    let c = then-pass (lowestStrip 16 (breaksStage job) (laidSet job k (grouped rs))) _ (b .1) in
+    let d = then-pass (lowestStrip 17 (pastBoard job) (laidSet job k (grouped rs))) _ (c .1) in
+    let e = then-pass (positioned k rs (linesOf job (grouped rs))) (lowest 11 (lacks rs) 1 (job .items)) (d .1) in
     let stage = set-any 16 (breaksStage job) (λ i i′ y s. refl) job k j (grouped rs) (c .0) in
     let past = set-any 17 (pastBoard job) (λ i i′ y s. refl) job k j (grouped rs) (d .0) in
     let position = positioned-any k j rs (linesOf job (grouped rs)) (e .0) in
@@ -114,7 +111,7 @@ layouts-any k j job rs h =
 -- a fold text is accepted where its words are accepted by the folding call, and the other way round
 module _
     (f : Fold)
-    (h : FoldHeld f)
+    (h : FoldWhole f)
     (plates cuts counts : List ℕ)
     (p : platesSize ≤ length plates)
     (c : cutsSize ≤ length cuts)
@@ -130,13 +127,13 @@ module _
     pub text-accepted : foldRows f ≡ pass → foldVerdict (f .job) (f .layouts) plates cuts counts ≡ pass
     unfolding foldRows
     text-accepted a =
-        let x = then-parts (admission (jobOf (f .job))) _ a in
-        let y = then-parts (modelRow (jobOf (f .job))) (layoutsRow (bodyLine (f .job)) (jobOf (f .job)) (rowsOf (f .layouts))) (x .1) in
+        let x = then-pass (admission (jobOf (f .job))) _ a in
+        let y = then-pass (modelRow (jobOf (f .job))) (layoutsRow (bodyLine (f .job)) (jobOf (f .job)) (rowsOf (f .layouts))) (x .1) in
         call ∙ rw (x .0, y .0) (layouts-any (bodyLine (f .job)) 1 (jobOf (f .job)) (rowsOf (f .layouts)) (y .1))
 
     pub call-accepted : foldVerdict (f .job) (f .layouts) plates cuts counts ≡ pass → foldRows f ≡ pass
     unfolding foldRows
     call-accepted a =
-        let x = then-parts (admission (jobOf (f .job))) _ (sym call ∙ a) in
-        let y = then-parts (modelRow (jobOf (f .job))) (layoutsRow 1 (jobOf (f .job)) (rowsOf (f .layouts))) (x .1) in
+        let x = then-pass (admission (jobOf (f .job))) _ (sym call ∙ a) in
+        let y = then-pass (modelRow (jobOf (f .job))) (layoutsRow 1 (jobOf (f .job)) (rowsOf (f .layouts))) (x .1) in
         rw (x .0, y .0) (layouts-any 1 (bodyLine (f .job)) (jobOf (f .job)) (rowsOf (f .layouts)) (y .1))

@@ -1,5 +1,4 @@
 -- What a fold text holds, both ways: its lines are those of its job words and layout words, and from these lines they are read back.
--- Assumes nothing.
 use Prim.Native.Nat.{ℕ, suc, _*_}
 use native.Mathlib.Omega.{arith}
 use mathlib.Core.Path.{_≡_, refl, sym, ap, _∙_, subst}
@@ -8,17 +7,20 @@ use mathlib.Core.Bool.{true}
 use mathlib.Core.List.{List, [], _∷_, _++_, map, append-assoc, append-nil}
 use lib.ListN.{length, drop, length-append}
 use borrow.Author.Tests.{not-false}
+use Rattle.job.specs.Sizes.{wordsOfPlacement}
 use Rattle.job.specs.Verdict.{pass, lowest}
 use Rattle.job.specs.Job.{jobOf}
-use Rattle.layouts.specs.Placement.{Placement, placementWords}
+use Rattle.job.proofs.Tests.{not-both}
+use Rattle.layouts.specs.Placement.{Placement, placementWords, placementOf}
 use Rattle.layouts.specs.Lines.{rowsOf, rowRight}
+use Rattle.columns.specs.Widths.{mostNumbers}
 use Rattle.texts.specs.Shape.{layoutLine}
 use Rattle.texts.specs.JobLines.{Place, first, types, body, itemPrices, platePrices, done, typesOf, afterType}
-use Rattle.texts.specs.FoldText.{Fold, foldAdmits, foldAfter, foldComplete, foldGrammar}
+use Rattle.texts.specs.FoldText.{Fold, foldAdmits, foldAfter, foldComplete, foldGrammar, foldOf}
 use Rattle.texts.specs.Admitted.{InLimits, OfShape, Admitted, Runs}
 use Rattle.texts.specs.TextOf.{jobRows, placementRow, foldRowsOf}
-use Rattle.texts.specs.Held.{FoldHeld, FoldBothWays}
-use Rattle.texts.proofs.Basics.{not-both, lowest-more, lowest-parts}
+use Rattle.texts.specs.Held.{FoldWhole, FoldBothWays}
+use Rattle.texts.proofs.Basics.{lowest-more, lowest-parts}
 use Rattle.texts.proofs.Lists.{map-append}
 use Rattle.texts.proofs.ShapeLaws.{narrow-layout, shape-fits, Kinds, Shorter}
 use Rattle.texts.proofs.Running.{Plain, runs-append, runs-keep}
@@ -27,11 +29,7 @@ use Rattle.texts.proofs.JobLaws.{JobWhole, job-passes, passes-job, job-
 use Rattle.texts.proofs.JobText.{AtTypes, JobAt, first-read, types-read}
 use Rattle.texts.proofs.JobRuns.{Opens, job-runs}
 use Rattle.texts.proofs.WordGroups.{sevens}
-use Rattle.texts.proofs.LayoutRows.{placementOf, badRow, rows-append, words-rows, row-right, right-row, layouts-pass, pass-layouts, seven-words}
-
--- a fold text by its parts
-abbrev pub fold : Place → List ℕ → List ℕ → Fold
-fold p ws us = record { place = p; job = ws; layouts = us }
+use Rattle.texts.proofs.LayoutRows.{badRow, rows-append, words-rows, row-right, right-row, layouts-pass, pass-layouts, seven-words}
 
 -- ---- from lines to what they give
 
@@ -39,7 +37,7 @@ fold p ws us = record { place = p; job = ws; layouts = us }
 pub record LaidOut (rows : List (List ℕ)) (f : Fold) : Type 0 where
   pub job : JobWhole (f .job)
   pub count : ℕ
-  pub size : length (f .layouts) ≡ 7 * count
+  pub size : length (f .layouts) ≡ wordsOfPlacement * count
   pub right : lowest 2 (badRow (jobOf (f .job))) 1 (rowsOf (f .layouts)) ≡ pass
   pub lines : rows ≡ foldRowsOf f
 
@@ -57,7 +55,7 @@ abbrev pub FoldAt : List (List ℕ) → Fold → Type 0
 FoldAt rows f = FoldForm (f .place) rows f
 
 -- the job's lines bring a fold text to its body, with no layouts yet
-from-job : (p : Place) (rows : List (List ℕ)) (ws : List ℕ) → JobAt p rows ws → FoldForm p rows (fold p ws [])
+from-job : (p : Place) (rows : List (List ℕ)) (ws : List ℕ) → JobAt p rows ws → FoldForm p rows (foldOf p ws [])
 unfolding foldRowsOf rowsOf lowest
 from-job first rows ws j = j
 from-job (types i) rows ws j = j
@@ -69,9 +67,9 @@ from-job done rows ws j = absurd j
 -- one line 7 more
 layout-more :
     (rows : List (List ℕ)) (ws us : List ℕ) (b s k p i x y : ℕ)
-    → LaidOut rows (fold body ws us)
+    → LaidOut rows (foldOf body ws us)
     → InLimits (layoutLine (typesOf ws) .limits) (b ∷ s ∷ k ∷ p ∷ i ∷ x ∷ y ∷ [])
-    → LaidOut (rows ++ ((7 ∷ b ∷ s ∷ k ∷ p ∷ i ∷ x ∷ y ∷ []) ∷ [])) (fold body ws (us ++ (b ∷ s ∷ k ∷ p ∷ i ∷ x ∷ y ∷ [])))
+    → LaidOut (rows ++ ((7 ∷ b ∷ s ∷ k ∷ p ∷ i ∷ x ∷ y ∷ []) ∷ [])) (foldOf body ws (us ++ (b ∷ s ∷ k ∷ p ∷ i ∷ x ∷ y ∷ [])))
 unfolding foldRowsOf rowsOf placementRow
 layout-more rows ws us b s k p i x y l h =
     let q : Placement = placementOf b s k p i x y in
@@ -92,12 +90,12 @@ layout-more rows ws us b s k p i x y l h =
 
 layout-read :
     (rows : List (List ℕ)) (ws us ns : List ℕ)
-    → LaidOut rows (fold body ws us)
+    → LaidOut rows (foldOf body ws us)
     → OfShape (layoutLine (typesOf ws)) ns
-    → LaidOut (rows ++ (ns ∷ [])) (fold body ws (us ++ drop 1 ns))
+    → LaidOut (rows ++ (ns ∷ [])) (foldOf body ws (us ++ drop 1 ns))
 layout-read rows ws us ns l o = rw (o .numbers) (seven (o .others) (o .limits))
   where
-    seven : (vs : List ℕ) → InLimits (layoutLine (typesOf ws) .limits) vs → LaidOut (rows ++ ((7 ∷ vs) ∷ [])) (fold body ws (us ++ vs))
+    seven : (vs : List ℕ) → InLimits (layoutLine (typesOf ws) .limits) vs → LaidOut (rows ++ ((7 ∷ vs) ∷ [])) (foldOf body ws (us ++ vs))
     seven [] h = absurd h
     seven (a ∷ []) h = absurd (h .2)
     seven (a ∷ b ∷ []) h = absurd (h .2 .2)
@@ -110,9 +108,9 @@ layout-read rows ws us ns l o = rw (o .numbers) (seven (o .others) (o .limits))
 
 fold-step :
     (p : Place) (ws us : List ℕ) (rows : List (List ℕ)) (ns : List ℕ)
-    → FoldForm p rows (fold p ws us)
-    → Admitted (foldAdmits (fold p ws us)) ns
-    → FoldAt (rows ++ (ns ∷ [])) (foldAfter (fold p ws us) ns)
+    → FoldForm p rows (foldOf p ws us)
+    → Admitted (foldAdmits (foldOf p ws us)) ns
+    → FoldAt (rows ++ (ns ∷ [])) (foldAfter (foldOf p ws us) ns)
 unfolding foldAdmits foldAfter
 fold-step first ws us rows ns h (inl a) = from-job (types 1) (rows ++ (ns ∷ [])) (drop 1 ns) (first-read rows ns h a)
 fold-step first ws us rows ns h (inr a) = absurd a
@@ -132,7 +130,7 @@ fold-at rows f r =
 
 -- ---- from what is held to lines
 
-shapes : (p : Place) (ws us : List ℕ) → Kinds (foldAdmits (fold p ws us)) × Shorter 9 (foldAdmits (fold p ws us))
+shapes : (p : Place) (ws us : List ℕ) → Kinds (foldAdmits (foldOf p ws us)) × Shorter (suc mostNumbers) (foldAdmits (foldOf p ws us))
 unfolding foldAdmits
 shapes first ws us = omega arith
 shapes (types i) ws us = omega arith
@@ -146,7 +144,7 @@ pub fold-plain : Plain foldGrammar
 fold-plain = record { kinds = λ f. shapes (f .place) (f .job) (f .layouts) .0; short = λ f. shapes (f .place) (f .job) (f .layouts) .1 }
 
 -- a fold text begins with the job's lines
-pub fold-opens : Opens foldGrammar (λ p ws. fold p ws [])
+pub fold-opens : Opens foldGrammar (λ p ws. foldOf p ws [])
 unfolding foldAdmits foldAfter
 fold-opens = record { start = refl; admits-first = refl; admits-types = λ i ws. refl; after-first = λ ns. refl; after-types = λ i ws ns. refl }
 
@@ -155,9 +153,9 @@ pub layouts-run :
     (ws us : List ℕ) (k : ℕ) (ps : List Placement)
     → JobWhole ws
     → lowest 2 (badRow (jobOf ws)) k ps ≡ pass
-    → Runs foldGrammar (fold body ws us) (map placementRow ps) (fold body ws (us ++ placementWords ps))
+    → Runs foldGrammar (foldOf body ws us) (map placementRow ps) (foldOf body ws (us ++ placementWords ps))
 unfolding foldAdmits foldAfter placementWords mathlib.Core.List.flatMap placementRow
-layouts-run ws us k [] j h = ap (fold body ws) (sym (append-nil us))
+layouts-run ws us k [] j h = ap (foldOf body ws) (sym (append-nil us))
 layouts-run ws us k (p ∷ ps) j h =
     let q = lowest-parts 2 (badRow (jobOf ws)) k p ps h in
     let n = board-types ws (j .board) in
@@ -168,25 +166,25 @@ layouts-run ws us k (p ∷ ps) j h =
     )
 
 -- all that a fold text holds
-pub fold-runs : (f : Fold) → FoldHeld f → Runs foldGrammar (foldGrammar .start) (foldRowsOf f) f
+pub fold-runs : (f : Fold) → FoldWhole f → Runs foldGrammar (foldGrammar .start) (foldRowsOf f) f
 unfolding foldRowsOf
 fold-runs f h =
     let j = passes-job (f .job) (h .job) in
     let size = seven-words (jobOf (f .job)) (f .layouts) (h .layouts) in
     let words = words-rows (sevens (length (rowsOf (f .layouts))) (f .layouts) size) in
     let r = layouts-run (f .job) [] 1 (rowsOf (f .layouts)) j (pass-layouts (jobOf (f .job)) (f .layouts) (h .layouts)) in
-    let e : fold body (f .job) (placementWords (rowsOf (f .layouts))) ≡ f = λ i. fold (sym (h .place) i) (f .job) (words i) in
-    runs-append foldGrammar (foldGrammar .start) (fold body (f .job) []) f (jobRows (f .job)) (map placementRow (rowsOf (f .layouts)))
-    (job-runs foldGrammar (λ p ws. fold p ws []) fold-opens (f .job) j)
-    (subst (λ (t : Fold). Runs foldGrammar (fold body (f .job) []) (map placementRow (rowsOf (f .layouts))) t) e r)
+    let e : foldOf body (f .job) (placementWords (rowsOf (f .layouts))) ≡ f = λ i. foldOf (sym (h .place) i) (f .job) (words i) in
+    runs-append foldGrammar (foldGrammar .start) (foldOf body (f .job) []) f (jobRows (f .job)) (map placementRow (rowsOf (f .layouts)))
+    (job-runs foldGrammar (λ p ws. foldOf p ws []) fold-opens (f .job) j)
+    (subst (λ (t : Fold). Runs foldGrammar (foldOf body (f .job) []) (map placementRow (rowsOf (f .layouts))) t) e r)
 
 -- ---- whole texts
 
 complete-held :
     (p : Place) (ws us : List ℕ) (rows : List (List ℕ))
-    → FoldForm p rows (fold p ws us)
-    → foldComplete (fold p ws us) ≡ true
-    → FoldHeld (fold p ws us) × (rows ≡ foldRowsOf (fold p ws us))
+    → FoldForm p rows (foldOf p ws us)
+    → foldComplete (foldOf p ws us) ≡ true
+    → FoldWhole (foldOf p ws us) × (rows ≡ foldRowsOf (foldOf p ws us))
 unfolding foldComplete
 complete-held first ws us rows h c = absurd (not-both c refl)
 complete-held (types i) ws us rows h c = absurd (not-both c refl)
@@ -198,13 +196,13 @@ complete-held (itemPrices i) ws us rows h c = absurd h
 complete-held (platePrices j) ws us rows h c = absurd h
 complete-held done ws us rows h c = absurd h
 
-fold-complete : (f : Fold) → FoldHeld f → foldComplete f ≡ true
+fold-complete : (f : Fold) → FoldWhole f → foldComplete f ≡ true
 unfolding foldComplete
 fold-complete f h = rw (h .place, foldComplete)
 
 -- fold texts both ways
 pub fold-both-ways : FoldBothWays
 fold-both-ways =
-    both-ways foldGrammar fold-plain FoldHeld foldRowsOf
+    both-ways foldGrammar fold-plain FoldWhole foldRowsOf
     (λ nss f r c. complete-held (f .place) (f .job) (f .layouts) nss (fold-at nss f r) c)
     (λ f h. (fold-runs f h, fold-complete f h))

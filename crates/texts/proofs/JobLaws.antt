@@ -1,6 +1,5 @@
 -- Lines 1 and 2 and the job's words: the words that the lines give pass the words' own line row, and job words that pass it are lines again.
--- Assumes nothing.
-use Prim.Native.Nat.{ℕ, suc, _+_, _*_, _≤_, _<_}
+use Prim.Native.Nat.{ℕ, suc, _*_, _≤_, _<_}
 use native.Mathlib.Omega.{arith}
 use mathlib.Core.Path.{_≡_, refl, ap, _∙_}
 use mathlib.Core.Bool.{Bool, true, false, not, _&&_}
@@ -9,14 +8,17 @@ use lib.Dec.{eqb}
 use lib.ListN.{length, getD, drop, length-append, length-drop, List·getD-append}
 use lib.Seq.{drop-append-le}
 use borrow.Author.Tests.{eqb-true, eq-eqb}
+use Rattle.job.specs.Sizes.{wordsOfHead, wordsOfItem, jobSize}
 use Rattle.job.specs.declared.item.Item.{Item}
 use Rattle.job.specs.Verdict.{Verdict, pass, _then_, refuseIf, within, lowest}
 use Rattle.job.specs.Job.{maxSide, maxTypes, maxPieces, item, itemsOf, jobOf, boardRight, itemRight, jobWords}
+use Rattle.job.proofs.Tests.{within-limits}
+use Rattle.job.proofs.CodeEnds.{then-pass}
 use Rattle.texts.specs.Shape.{jobLine, itemLine}
 use Rattle.texts.specs.JobLines.{typesOf}
 use Rattle.texts.specs.Admitted.{InLimits}
 use Rattle.texts.proofs.WordGroups.{Threes, no-type, one-type, threes}
-use Rattle.texts.proofs.Basics.{and-parts, within-parts, within-both, then-parts, unless-passed, lowest-more}
+use Rattle.texts.proofs.Basics.{and-parts, within-parts, unless-passed, lowest-more}
 
 -- a type with a word outside its limits
 abbrev pub badItem : ℕ → Item → Bool
@@ -24,9 +26,9 @@ badItem k it = not (itemRight it)
 
 -- the job's words after line 1 and k lines 2
 pub record JobSoFar (k : ℕ) (ws : List ℕ) : Type 0 where
-  pub size : length ws ≡ 5 + 3 * k
+  pub size : length ws ≡ jobSize k
   pub board : boardRight ws ≡ true
-  pub items : lowest 2 badItem 1 (itemsOf (drop 5 ws)) ≡ pass
+  pub items : lowest 2 badItem 1 (itemsOf (drop wordsOfHead ws)) ≡ pass
 
 -- words with all their types
 abbrev pub JobWhole : List ℕ → Type 0
@@ -37,18 +39,18 @@ JobWhole ws = JobSoFar (typesOf ws) ws
 -- words with all their types pass
 pub job-passes : (ws : List ℕ) → JobWhole ws → jobWords ws ≡ pass
 unfolding jobWords jobOf
-job-passes ws j = rw (eq-eqb (length ws) (5 + 3 * getD ws 4 0) (j .size), j .board) (j .items)
+job-passes ws j = rw (eq-eqb (length ws) (jobSize (getD ws 4 0)) (j .size), j .board) (j .items)
 
 -- and words that pass have all their types
 pub passes-job : (ws : List ℕ) → jobWords ws ≡ pass → JobWhole ws
 unfolding jobWords jobOf
 passes-job ws h =
-    let whole : Bool = eqb (length ws) (5 + 3 * getD ws 4 0) in
-    let items : Verdict = lowest 2 badItem 1 (itemsOf (drop 5 ws)) in
-    let a = then-parts (refuseIf (not whole) 1 0) (refuseIf (not (boardRight ws)) 2 0 then items) h in
-    let b = then-parts (refuseIf (not (boardRight ws)) 2 0) items (a .1) in
+    let whole : Bool = eqb (length ws) (jobSize (getD ws 4 0)) in
+    let items : Verdict = lowest 2 badItem 1 (itemsOf (drop wordsOfHead ws)) in
+    let a = then-pass (refuseIf (not whole) 1 0) (refuseIf (not (boardRight ws)) 2 0 then items) h in
+    let b = then-pass (refuseIf (not (boardRight ws)) 2 0) items (a .1) in
     record {
-      size = eqb-true (length ws) (5 + 3 * getD ws 4 0) (unless-passed whole 1 0 (a .0));
+      size = eqb-true (length ws) (jobSize (getD ws 4 0)) (unless-passed whole 1 0 (a .0));
       board = unless-passed (boardRight ws) 2 0 (b .0);
       items = b .1;
     }
@@ -76,23 +78,23 @@ job-first (a ∷ b ∷ []) h = absurd (h .2 .2)
 job-first (a ∷ b ∷ c ∷ []) h = absurd (h .2 .2 .2)
 job-first (a ∷ b ∷ c ∷ d ∷ []) h = absurd (h .2 .2 .2 .2)
 job-first (a ∷ b ∷ c ∷ d ∷ n ∷ []) h =
-    let p = within-both 2 3 a (omega arith) (omega arith) in
-    let q = within-both 0 1 b (omega arith) (omega arith) in
-    let r = within-both 1 maxSide c (omega arith) (omega arith) in
-    let s = within-both 1 maxSide d (omega arith) (omega arith) in
-    let t = within-both 1 maxTypes n (omega arith) (omega arith) in
+    let p = within-limits 2 3 a (omega arith) (omega arith) in
+    let q = within-limits 0 1 b (omega arith) (omega arith) in
+    let r = within-limits 1 maxSide c (omega arith) (omega arith) in
+    let s = within-limits 1 maxSide d (omega arith) (omega arith) in
+    let t = within-limits 1 maxTypes n (omega arith) (omega arith) in
     record { size = refl; board = rw (p, q, r, s, t); items = refl }
 job-first (a ∷ b ∷ c ∷ d ∷ n ∷ v ∷ vs) h = absurd (h .2 .2 .2 .2 .2)
 
 -- further words leave the first five as they are
-pub board-append : (ws us : List ℕ) → 5 ≤ length ws → boardRight (ws ++ us) ≡ boardRight ws
+pub board-append : (ws us : List ℕ) → wordsOfHead ≤ length ws → boardRight (ws ++ us) ≡ boardRight ws
 unfolding boardRight
 board-append ws us h =
-    let a : (i : ℕ) → i < 5 → getD (ws ++ us) i 0 ≡ getD ws i 0 = λ i l. List·getD-append ws us 0 i (omega arith) in
+    let a : (i : ℕ) → i < wordsOfHead → getD (ws ++ us) i 0 ≡ getD ws i 0 = λ i l. List·getD-append ws us 0 i (omega arith) in
     rw (a 0 (omega arith), a 1 (omega arith), a 2 (omega arith), a 3 (omega arith), a 4 (omega arith))
 
 -- and so the number of types
-pub types-append : (ws us : List ℕ) → 5 ≤ length ws → typesOf (ws ++ us) ≡ typesOf ws
+pub types-append : (ws us : List ℕ) → wordsOfHead ≤ length ws → typesOf (ws ++ us) ≡ typesOf ws
 types-append ws us h = List·getD-append ws us 0 4 (omega arith)
 
 -- line 2
@@ -103,24 +105,24 @@ job-next i k ws (a ∷ []) j h = absurd (h .2)
 job-next i k ws (a ∷ b ∷ []) j h = absurd (h .2 .2)
 job-next i k ws (a ∷ b ∷ d ∷ []) j h =
     let size = j .size in
-    let l : length (drop 5 ws) ≡ 3 * k = length-drop 5 ws ∙ omega arith in
+    let l : length (drop wordsOfHead ws) ≡ wordsOfItem * k = length-drop wordsOfHead ws ∙ omega arith in
     let vs : List ℕ = a ∷ b ∷ d ∷ [] in
-    let e = ap itemsOf (drop-append-le 5 ws vs (omega arith)) ∙ items-append (threes k (drop 5 ws) l) vs in
-    let p = within-both 1 maxSide a (omega arith) (omega arith) in
-    let q = within-both 1 maxSide b (omega arith) (omega arith) in
-    let r = within-both 1 maxPieces d (omega arith) (omega arith) in
+    let e = ap itemsOf (drop-append-le wordsOfHead ws vs (omega arith)) ∙ items-append (threes k (drop wordsOfHead ws) l) vs in
+    let p = within-limits 1 maxSide a (omega arith) (omega arith) in
+    let q = within-limits 1 maxSide b (omega arith) (omega arith) in
+    let r = within-limits 1 maxPieces d (omega arith) (omega arith) in
     let good : not (itemRight (item a b d)) ≡ false = rw (p, q, r) in
     record {
       size = rw (length-append ws vs) (omega arith);
       board = board-append ws vs (omega arith) ∙ j .board;
-      items = rw e (lowest-more 2 badItem 1 (itemsOf (drop 5 ws)) (item a b d) (j .items) good);
+      items = rw e (lowest-more 2 badItem 1 (itemsOf (drop wordsOfHead ws)) (item a b d) (j .items) good);
     }
 job-next i k ws (a ∷ b ∷ d ∷ v ∷ vs) j h = absurd (h .2 .2 .2)
 
 -- the words hold as many types as they say, 1 to 40
 pub job-types : (ws : List ℕ) → JobWhole ws → length (jobOf ws .items) ≡ typesOf ws
 unfolding jobOf
-job-types ws j = let size = j .size in items-length (threes (typesOf ws) (drop 5 ws) (length-drop 5 ws ∙ omega arith))
+job-types ws j = let size = j .size in items-length (threes (typesOf ws) (drop wordsOfHead ws) (length-drop wordsOfHead ws ∙ omega arith))
 
 -- 1 to 40 types
 pub board-types : (ws : List ℕ) → boardRight ws ≡ true → (1 ≤ typesOf ws) × (typesOf ws ≤ maxTypes)

@@ -1,11 +1,12 @@
 -- The lines 1 and 2 of job words: one more of them, how many they are, and how many bytes.
--- Assumes nothing.
 use Prim.Native.Nat.{ℕ, suc, _+_, _*_}
 use native.Mathlib.Omega.{arith}
 use mathlib.Core.Path.{_≡_, refl, ap, _∙_}
 use mathlib.Core.List.{List, [], _∷_, _++_}
 use lib.ListN.{length, take, drop, length-drop}
 use lib.Seq.{drop-append-le, take-append-le, length-take-le}
+use Rattle.job.specs.Sizes.{wordsOfHead, wordsOfItem, jobSize}
+use Rattle.texts.specs.Widths.{jobLineBytes, typeLineBytes}
 use Rattle.texts.specs.TextOf.{itemRows, jobRows}
 use Rattle.texts.proofs.WordGroups.{Threes, no-type, one-type, threes}
 use Rattle.texts.proofs.Lists.{bytesOf, bytes-cons}
@@ -21,18 +22,18 @@ itemRows-append i (one-type {a = a} {b = b} {c = c} {k = k} t) us =
 -- one line 2 more
 pub jobRows-more :
     (k : ℕ) (ws : List ℕ) (w h d : ℕ)
-    → length ws ≡ 5 + 3 * k
+    → length ws ≡ jobSize k
     → jobRows (ws ++ (w ∷ h ∷ d ∷ [])) ≡ jobRows ws ++ ((2 ∷ suc k ∷ w ∷ h ∷ d ∷ []) ∷ [])
 unfolding jobRows itemRows
 jobRows-more k ws w h d e =
-    let l : length (drop 5 ws) ≡ 3 * k = length-drop 5 ws ∙ omega arith in
+    let l : length (drop wordsOfHead ws) ≡ wordsOfItem * k = length-drop wordsOfHead ws ∙ omega arith in
     let s : 1 + k ≡ suc k = omega arith in
-    let q = itemRows-append 1 (threes k (drop 5 ws) l) (w ∷ h ∷ d ∷ []) in
-    rw (take-append-le 5 ws (w ∷ h ∷ d ∷ []) (omega arith), drop-append-le 5 ws (w ∷ h ∷ d ∷ []) (omega arith))
-    (ap (λ (l : List (List ℕ)). (1 ∷ take 5 ws) ∷ l) (rw s at q))
+    let q = itemRows-append 1 (threes k (drop wordsOfHead ws) l) (w ∷ h ∷ d ∷ []) in
+    rw (take-append-le wordsOfHead ws (w ∷ h ∷ d ∷ []) (omega arith), drop-append-le wordsOfHead ws (w ∷ h ∷ d ∷ []) (omega arith))
+    (ap (λ (l : List (List ℕ)). (1 ∷ take wordsOfHead ws) ∷ l) (rw s at q))
 
 -- 46 bytes for each
-itemRows-size : (i : ℕ) {ws : List ℕ} {k : ℕ} → Threes ws k → (length (itemRows i ws) ≡ k) × (length (bytesOf (itemRows i ws)) ≡ 46 * k)
+itemRows-size : (i : ℕ) {ws : List ℕ} {k : ℕ} → Threes ws k → (length (itemRows i ws) ≡ k) × (length (bytesOf (itemRows i ws)) ≡ typeLineBytes * k)
 unfolding itemRows mathlib.Core.List.flatMap
 itemRows-size i no-type = (refl, refl)
 itemRows-size i (one-type {a = a} {b = b} {c = c} {ws = ws} t) =
@@ -40,9 +41,9 @@ itemRows-size i (one-type {a = a} {b = b} {c = c} {ws = ws} t) =
     (ap suc (r .0), bytes-cons (2 ∷ i ∷ a ∷ b ∷ c ∷ []) (itemRows (suc i) ws) ∙ omega arith)
 
 -- one line for the board and one for each type; 55 bytes and 46 for each
-pub jobRows-size : (k : ℕ) (ws : List ℕ) → length ws ≡ 5 + 3 * k → (length (jobRows ws) ≡ suc k) × (length (bytesOf (jobRows ws)) ≡ 55 + 46 * k)
+pub jobRows-size : (k : ℕ) (ws : List ℕ) → length ws ≡ jobSize k → (length (jobRows ws) ≡ suc k) × (length (bytesOf (jobRows ws)) ≡ jobLineBytes + typeLineBytes * k)
 unfolding jobRows
 jobRows-size k ws h =
-    let r = itemRows-size 1 (threes k (drop 5 ws) (length-drop 5 ws ∙ omega arith)) in
-    let t : length (take 5 ws) ≡ 5 = length-take-le 5 ws (omega arith) in
-    (ap suc (r .0), bytes-cons (1 ∷ take 5 ws) (itemRows 1 (drop 5 ws)) ∙ omega arith)
+    let r = itemRows-size 1 (threes k (drop wordsOfHead ws) (length-drop wordsOfHead ws ∙ omega arith)) in
+    let t : length (take wordsOfHead ws) ≡ wordsOfHead = length-take-le wordsOfHead ws (omega arith) in
+    (ap suc (r .0), bytes-cons (1 ∷ take wordsOfHead ws) (itemRows 1 (drop wordsOfHead ws)) ∙ omega arith)

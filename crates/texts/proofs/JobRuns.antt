@@ -1,5 +1,4 @@
 -- Job words that pass are read back from their lines: a text that begins with them stands at its body with these words.
--- Assumes nothing.
 use Prim.Native.Nat.{ℕ, suc, _+_, _≤_}
 use native.Mathlib.Omega.{arith}
 use mathlib.Core.Path.{_≡_, refl, sym, ap, _∙_}
@@ -10,6 +9,7 @@ use lib.Dec.{eqb}
 use lib.ListN.{length, take, drop, length-append, length-drop, take-append-drop}
 use lib.Seq.{length-take-le, getD-take}
 use borrow.Author.Tests.{eq-eqb, ne-eqb, not-false}
+use Rattle.job.specs.Sizes.{wordsOfHead, wordsOfItem}
 use Rattle.job.specs.Verdict.{pass, within, lowest}
 use Rattle.job.specs.Job.{maxSide, maxTypes, maxPieces, item, itemsOf, boardRight, itemRight}
 use Rattle.texts.specs.Shape.{jobLine, itemLine}
@@ -31,7 +31,7 @@ pub record Opens {S : Type 0} (g : Grammar S) (at : Place → List ℕ → S) : 
   pub after-types : (i : ℕ) (ws ns : List ℕ) → g .after (at (types i) ws) ns ≡ at (afterType (typesOf ws) i) (ws ++ drop 2 ns)
 
 -- the five words of the board as a line 1
-board-shape : (ws : List ℕ) → length ws ≡ 5 → boardRight ws ≡ true → OfShape jobLine (1 ∷ ws)
+board-shape : (ws : List ℕ) → length ws ≡ wordsOfHead → boardRight ws ≡ true → OfShape jobLine (1 ∷ ws)
 unfolding boardRight
 board-shape [] e h = absurd (omega arith)
 board-shape (a ∷ []) e h = absurd (omega arith)
@@ -80,7 +80,7 @@ module _ {S : Type 0} (g : Grammar S) (at : Place → List ℕ → S) (o : Opens
       (k : ℕ) (ws : List ℕ) {us : List ℕ} {m : ℕ}
       → Threes us m
       → 1 ≤ m
-      → 5 ≤ length ws
+      → wordsOfHead ≤ length ws
       → typesOf ws ≡ k + m
       → typesOf ws ≤ maxTypes
       → lowest 2 badItem (suc k) (itemsOf us) ≡ pass
@@ -97,7 +97,7 @@ module _ {S : Type 0} (g : Grammar S) (at : Place → List ℕ → S) (o : Opens
       let more : eqb (suc k) (typesOf ws) ≡ false = ne-eqb (suc k) (typesOf ws) (λ q. omega arith) in
       let ws′ : List ℕ = ws ++ (a ∷ b ∷ c ∷ []) in
       let same : typesOf ws′ ≡ typesOf ws = types-append ws (a ∷ b ∷ c ∷ []) l in
-      let size : length ws′ ≡ length ws + 3 = length-append ws (a ∷ b ∷ c ∷ []) in
+      let size : length ws′ ≡ length ws + wordsOfItem = length-append ws (a ∷ b ∷ c ∷ []) in
       let r = items-run (suc k) ws′ (one-type s) (omega arith) (omega arith) (omega arith) (omega arith) (p .1) in
       let right = not-false (itemRight (item a b c)) (p .0) in
       item-runs (suc k) ws a b c (itemRows (suc (suc k)) us) (at body (ws ++ (a ∷ b ∷ c ∷ us))) right (omega arith)
@@ -109,15 +109,15 @@ module _ {S : Type 0} (g : Grammar S) (at : Place → List ℕ → S) (o : Opens
   job-runs ws j =
       let size = j .size in
       let n = board-types ws (j .board) in
-      let five : length (take 5 ws) ≡ 5 = length-take-le 5 ws (omega arith) in
-      let same : typesOf (take 5 ws) ≡ typesOf ws = getD-take 5 ws 4 0 (omega arith) in
-      let whole = take-append-drop 5 ws in
-      let board : boardRight (take 5 ws) ≡ true = sym (board-append (take 5 ws) (drop 5 ws) (omega arith)) ∙ ap boardRight whole ∙ j .board in
-      let shape = board-shape (take 5 ws) five board in
-      let rest = threes (typesOf ws) (drop 5 ws) (length-drop 5 ws ∙ omega arith) in
-      let r = items-run 0 (take 5 ws) rest (n .0) (omega arith) (omega arith) (omega arith) (j .items) in
+      let five : length (take wordsOfHead ws) ≡ wordsOfHead = length-take-le wordsOfHead ws (omega arith) in
+      let same : typesOf (take wordsOfHead ws) ≡ typesOf ws = getD-take wordsOfHead ws 4 0 (omega arith) in
+      let whole = take-append-drop wordsOfHead ws in
+      let board : boardRight (take wordsOfHead ws) ≡ true = sym (board-append (take wordsOfHead ws) (drop wordsOfHead ws) (omega arith)) ∙ ap boardRight whole ∙ j .board in
+      let shape = board-shape (take wordsOfHead ws) five board in
+      let rest = threes (typesOf ws) (drop wordsOfHead ws) (length-drop wordsOfHead ws ∙ omega arith) in
+      let r = items-run 0 (take wordsOfHead ws) rest (n .0) (omega arith) (omega arith) (omega arith) (j .items) in
       rw (o .start) (
         rw (o .admits-first) (inl shape),
-        shape-fits jobLine (1 ∷ take 5 ws) narrow-job shape,
-        rw (o .after-first (1 ∷ take 5 ws)) (rw whole at r),
+        shape-fits jobLine (1 ∷ take wordsOfHead ws) narrow-job shape,
+        rw (o .after-first (1 ∷ take wordsOfHead ws)) (rw whole at r),
       )

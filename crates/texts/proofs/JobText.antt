@@ -1,6 +1,5 @@
 -- The beginning of a text, lines 1 and 2: what they give is the job's words, and job words are read back from their lines; one law for both texts.
--- Assumes nothing.
-use Prim.Native.Nat.{ℕ, suc, _+_, _*_, _≤_}
+use Prim.Native.Nat.{ℕ, suc, _≤_}
 use native.Mathlib.Omega.{arith}
 use mathlib.Core.Path.{_≡_, refl, sym, ap, _∙_, subst}
 use mathlib.Core.Bool.{Bool, true, false, cond}
@@ -10,6 +9,7 @@ use lib.ListN.{length, take, drop}
 use lib.Seq.{take-all}
 use lib.ListN.{drop-of-length-le}
 use borrow.Author.Tests.{eqb-true, eqb-false}
+use Rattle.job.specs.Sizes.{wordsOfHead, jobSize}
 use Rattle.texts.specs.Shape.{jobLine, itemLine}
 use Rattle.texts.specs.JobLines.{Place, first, types, body, itemPrices, platePrices, done, typesOf, afterType}
 use Rattle.texts.specs.Admitted.{InLimits, OfShape}
@@ -40,8 +40,8 @@ unfolding jobRows itemRows
 first-read rows ns e o =
     let j = job-first (o .others) (o .limits) in
     let size = j .size in
-    let t : take 5 (o .others) ≡ o .others = take-all 5 (o .others) (omega arith) in
-    let d : drop 5 (o .others) ≡ [] = drop-of-length-le (o .others) {i = 5} (omega arith) in
+    let t : take wordsOfHead (o .others) ≡ o .others = take-all wordsOfHead (o .others) (omega arith) in
+    let d : drop wordsOfHead (o .others) ≡ [] = drop-of-length-le (o .others) {i = wordsOfHead} (omega arith) in
     rw (e, o .numbers)
     (record { before = 0; next = refl; high = board-types (o .others) (j .board) .0; words = j; lines = rw (t, d) refl })
 
@@ -54,7 +54,7 @@ pub types-read :
 unfolding afterType
 types-read i rows ws ns a o = rw (o .numbers) (three (o .others) (o .limits))
   where
-    size : length ws ≡ 5 + 3 * a .before
+    size : length ws ≡ jobSize (a .before)
     size = a .words .size
 
     three :

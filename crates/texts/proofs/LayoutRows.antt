@@ -1,5 +1,4 @@
 -- The lines 7 of layout words: one more of them, how many they are, how many bytes, and their limits as those of layout words.
--- Assumes nothing.
 use Prim.Native.Nat.{ℕ, suc, _*_, _/_, _%_}
 use native.Mathlib.Omega.{arith}
 use mathlib.Core.Path.{_≡_, refl, ap, _∙_}
@@ -8,20 +7,20 @@ use mathlib.Core.List.{List, [], _∷_, _++_, map}
 use lib.Dec.{eqb}
 use lib.ListN.{length}
 use borrow.Author.Tests.{eqb-true, eq-eqb}
+use Rattle.job.specs.Sizes.{wordsOfPlacement}
 use Rattle.job.specs.Verdict.{pass, refuseIf, within, lowest}
 use Rattle.job.specs.Job.{Job, maxSide, maxPieces}
-use Rattle.layouts.specs.Placement.{Placement, turn, placementWords}
+use Rattle.job.proofs.Tests.{within-limits}
+use Rattle.job.proofs.CodeEnds.{then-pass}
+use Rattle.layouts.specs.Placement.{Placement, placementWords, placementOf}
 use Rattle.layouts.specs.Lines.{rowsOf, rowRight, layoutWords}
+use Rattle.texts.specs.Widths.{placementLineBytes}
 use Rattle.texts.specs.Shape.{layoutLine}
 use Rattle.texts.specs.Admitted.{InLimits, OfShape}
 use Rattle.texts.specs.TextOf.{placementRow}
 use Rattle.texts.proofs.WordGroups.{Sevens, no-line, one-line, sevens}
-use Rattle.texts.proofs.Basics.{and-parts, within-parts, within-both, then-parts, unless-passed}
+use Rattle.texts.proofs.Basics.{and-parts, within-parts, unless-passed}
 use Rattle.texts.proofs.Lists.{bytesOf, bytes-cons}
-
--- a placement of the seven numbers of a line
-abbrev pub placementOf : ℕ → ℕ → ℕ → ℕ → ℕ → ℕ → ℕ → Placement
-placementOf b s k p i x y = record { turn = turn b s k p; item = i; x = x; y = y }
 
 -- a line with a number outside its limits
 abbrev pub badRow : Job → ℕ → Placement → Bool
@@ -50,7 +49,7 @@ words-rows (one-line {a = a} {b = b} {c = c} {d = d} {e = e} {f = f} {g = g} s) 
 -- as many lines as placements, of 73 bytes each
 pub placementRows-size :
     (ps : List Placement)
-    → (length (map placementRow ps) ≡ length ps) × (length (bytesOf (map placementRow ps)) ≡ 73 * length ps)
+    → (length (map placementRow ps) ≡ length ps) × (length (bytesOf (map placementRow ps)) ≡ placementLineBytes * length ps)
 unfolding placementRow mathlib.Core.List.flatMap
 placementRows-size [] = (refl, refl)
 placementRows-size (p ∷ ps) =
@@ -65,13 +64,13 @@ pub row-right :
     → rowRight job (placementOf b s k p i x y) ≡ true
 unfolding rowRight
 row-right job n b s k p i x y e h =
-    let B = within-both 1 maxPieces b (omega arith) (omega arith) in
-    let S = within-both 1 maxPieces s (omega arith) (omega arith) in
-    let K = within-both 1 maxPieces k (omega arith) (omega arith) in
-    let P = within-both 1 maxPieces p (omega arith) (omega arith) in
-    let I = within-both 1 n i (omega arith) (omega arith) in
-    let X = within-both 0 maxSide x (omega arith) (omega arith) in
-    let Y = within-both 0 maxSide y (omega arith) (omega arith) in
+    let B = within-limits 1 maxPieces b (omega arith) (omega arith) in
+    let S = within-limits 1 maxPieces s (omega arith) (omega arith) in
+    let K = within-limits 1 maxPieces k (omega arith) (omega arith) in
+    let P = within-limits 1 maxPieces p (omega arith) (omega arith) in
+    let I = within-limits 1 n i (omega arith) (omega arith) in
+    let X = within-limits 0 maxSide x (omega arith) (omega arith) in
+    let Y = within-limits 0 maxSide y (omega arith) (omega arith) in
     rw (e, B, S, K, P, I, X, Y)
 
 -- and the other way round
@@ -107,23 +106,23 @@ right-row job n q e h =
 -- the words' own row, by lines
 pub layouts-pass :
     (job : Job) (k : ℕ) (ws : List ℕ)
-    → length ws ≡ 7 * k
+    → length ws ≡ wordsOfPlacement * k
     → lowest 2 (badRow job) 1 (rowsOf ws) ≡ pass
     → layoutWords job ws ≡ pass
 unfolding layoutWords
-layouts-pass job k ws e h = rw (eq-eqb (length ws % 7) 0 (omega arith)) h
+layouts-pass job k ws e h = rw (eq-eqb (length ws % wordsOfPlacement) 0 (omega arith)) h
 
 -- and each line of words that pass is within its limits
 pub pass-layouts : (job : Job) (ws : List ℕ) → layoutWords job ws ≡ pass → lowest 2 (badRow job) 1 (rowsOf ws) ≡ pass
 unfolding layoutWords
 pass-layouts job ws h =
-    then-parts (refuseIf (not (eqb (length ws % 7) 0)) 1 (suc (length ws / 7))) (lowest 2 (badRow job) 1 (rowsOf ws)) h .1
+    then-pass (refuseIf (not (eqb (length ws % wordsOfPlacement) 0)) 1 (suc (length ws / wordsOfPlacement))) (lowest 2 (badRow job) 1 (rowsOf ws)) h .1
 
 -- seven words a line
-pub seven-words : (job : Job) (ws : List ℕ) → layoutWords job ws ≡ pass → length ws ≡ 7 * length (rowsOf ws)
+pub seven-words : (job : Job) (ws : List ℕ) → layoutWords job ws ≡ pass → length ws ≡ wordsOfPlacement * length (rowsOf ws)
 unfolding layoutWords
 seven-words job ws h =
-    let p = then-parts (refuseIf (not (eqb (length ws % 7) 0)) 1 (suc (length ws / 7))) (lowest 2 (badRow job) 1 (rowsOf ws)) h in
-    let e : length ws % 7 ≡ 0 = eqb-true (length ws % 7) 0 (unless-passed (eqb (length ws % 7) 0) 1 (suc (length ws / 7)) (p .0)) in
-    let k = rows-length (sevens (length ws / 7) ws (omega arith)) in
+    let p = then-pass (refuseIf (not (eqb (length ws % wordsOfPlacement) 0)) 1 (suc (length ws / wordsOfPlacement))) (lowest 2 (badRow job) 1 (rowsOf ws)) h in
+    let e : length ws % wordsOfPlacement ≡ 0 = eqb-true (length ws % wordsOfPlacement) 0 (unless-passed (eqb (length ws % wordsOfPlacement) 0) 1 (suc (length ws / wordsOfPlacement)) (p .0)) in
+    let k = rows-length (sevens (length ws / wordsOfPlacement) ws (omega arith)) in
     omega arith

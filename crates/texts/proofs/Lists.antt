@@ -1,23 +1,12 @@
 -- Lists of lines: what one line after another comes to.
--- Assumes nothing.
-use Prim.Native.Nat.{ℕ, _+_, _*_}
+use Prim.Native.Nat.{ℕ, _+_}
 use mathlib.Core.Path.{_≡_, refl, ap, _∙_}
-use mathlib.Core.List.{List, [], _∷_, _++_, map, flatMap, append-assoc, append-nil}
+use mathlib.Core.List.{List, [], _∷_, _++_, map, flatMap}
 use lib.ListN.{length, length-append}
+use Rattle.job.proofs.Records.{words-append, words-last}
+use Rattle.columns.specs.Widths.{lineBytes}
 use Rattle.columns.specs.Line.{lineOf}
 use Rattle.columns.proofs.LineLaws.{length-line}
-
-module _ {A B : Type 0} (f : A → List B) where
-  -- one list after another
-  pub flatMap-append : (as′ bs : List A) → flatMap f (as′ ++ bs) ≡ flatMap f as′ ++ flatMap f bs
-  unfolding flatMap
-  flatMap-append [] bs = refl
-  flatMap-append (a ∷ as′) bs = rw (flatMap-append as′ bs, append-assoc)
-
-  -- one element
-  pub flatMap-one : (a : A) → flatMap f (a ∷ []) ≡ f a
-  unfolding flatMap
-  flatMap-one a = append-nil (f a)
 
 module _ {A B : Type 0} (f : A → B) where
   -- one list after another
@@ -31,13 +20,13 @@ bytesOf nss = flatMap lineOf nss
 
 -- one line more
 pub bytes-more : (nss : List (List ℕ)) (ns : List ℕ) → bytesOf (nss ++ (ns ∷ [])) ≡ bytesOf nss ++ lineOf ns
-bytes-more nss ns = flatMap-append lineOf nss (ns ∷ []) ∙ ap (λ (l : List ℕ). bytesOf nss ++ l) (flatMap-one lineOf ns)
+bytes-more nss ns = words-last lineOf nss ns
 
 -- how many they are
-pub bytes-cons : (ns : List ℕ) (nss : List (List ℕ)) → length (bytesOf (ns ∷ nss)) ≡ 9 * length ns + 1 + length (bytesOf nss)
+pub bytes-cons : (ns : List ℕ) (nss : List (List ℕ)) → length (bytesOf (ns ∷ nss)) ≡ lineBytes (length ns) + length (bytesOf nss)
 unfolding flatMap
 bytes-cons ns nss = length-append (lineOf ns) (bytesOf nss) ∙ ap (λ (k : ℕ). k + length (bytesOf nss)) (length-line ns)
 
 -- one list of lines after another
 pub bytes-append : (as′ bs : List (List ℕ)) → length (bytesOf (as′ ++ bs)) ≡ length (bytesOf as′) + length (bytesOf bs)
-bytes-append as′ bs = ap length (flatMap-append lineOf as′ bs) ∙ length-append (bytesOf as′) (bytesOf bs)
+bytes-append as′ bs = ap length (words-append lineOf as′ bs) ∙ length-append (bytesOf as′) (bytesOf bs)

@@ -1,5 +1,4 @@
 -- How much of a text decides: 3,700,342 bytes of a saw text, 7,299,883 bytes of a fold text.
--- Assumes nothing.
 use Prim.Native.Nat.{ℕ, suc, _+_, _*_, _≤_, _<_}
 use native.Mathlib.Omega.{arith}
 use mathlib.Core.Path.{_≡_, ap, _∙_}
@@ -9,10 +8,12 @@ use lib.ListN.{length, take, length-append}
 use Rattle.job.specs.Verdict.{pass}
 use Rattle.job.specs.Job.{maxTypes}
 use Rattle.layouts.specs.Lines.{rowsOf}
+use Rattle.texts.specs.TextLaws.{longestSawText, longestFoldText}
+use Rattle.texts.specs.Widths.{jobLineBytes, typeLineBytes, planLineBytes, placementLineBytes}
 use Rattle.texts.specs.Reader.{maxLines, longestLine, started, fed, textRow}
 use Rattle.texts.specs.JobLines.{Place, first, types, body, itemPrices, platePrices, done, typesOf}
-use Rattle.texts.specs.SawText.{Counted, PriceLines, Saw, sawAdmits, sawGrammar, sawRows, sawLines, sawWritten, sawText}
-use Rattle.texts.specs.FoldText.{Fold, foldGrammar, foldRows, foldLines, foldWritten, foldText}
+use Rattle.texts.specs.SawText.{Counted, PriceLines, Saw, sawAdmits, sawGrammar, sawRows, sawLines, sawWritten, sawText, sawOf}
+use Rattle.texts.specs.FoldText.{Fold, foldGrammar, foldRows, foldLines, foldWritten, foldText, foldOf}
 use Rattle.texts.specs.TextOf.{jobRows, planRows, priceRows, placementRow, sawRowsOf, foldRowsOf}
 use Rattle.texts.proofs.Lists.{bytesOf, bytes-append}
 use Rattle.texts.proofs.JobLaws.{JobWhole, board-types}
@@ -20,8 +21,8 @@ use Rattle.texts.proofs.JobRows.{jobRows-size}
 use Rattle.texts.proofs.JobText.{AtTypes}
 use Rattle.texts.proofs.PlanRows.{planRows-size, priceRows-bound}
 use Rattle.texts.proofs.LayoutRows.{placementRows-size}
-use Rattle.texts.proofs.SawRead.{saw, Past, SawForm, saw-at}
-use Rattle.texts.proofs.FoldTexts.{fold, LaidOut, FoldForm, fold-at}
+use Rattle.texts.proofs.SawRead.{Past, SawForm, saw-at}
+use Rattle.texts.proofs.FoldTexts.{LaidOut, FoldForm, fold-at}
 use Rattle.texts.proofs.Prefix.{Longer, Enough, text-bytes, decided}
 
 -- the bytes of some lines of a text: 55 for line 1, 46 for each of n lines 2, at most w for each of m further lines
@@ -29,10 +30,10 @@ pub record Sizes (n m w : ℕ) (rows : List (List ℕ)) : Type 0 where
   pub some-types : 1 ≤ n
   pub few-types : n ≤ maxTypes
   pub count : length rows ≡ suc n + m
-  pub bytes : length (bytesOf rows) ≤ 55 + 46 * n + w * m
+  pub bytes : length (bytesOf rows) ≤ jobLineBytes + typeLineBytes * n + w * m
 
 -- before the body there are at most 40 lines
-types-size : (i : ℕ) (rows : List (List ℕ)) (ws : List ℕ) → AtTypes i rows ws → length (bytesOf rows) ≤ 55 + 46 * 40
+types-size : (i : ℕ) (rows : List (List ℕ)) (ws : List ℕ) → AtTypes i rows ws → length (bytesOf rows) ≤ jobLineBytes + typeLineBytes * maxTypes
 types-size i rows ws a =
     let s = jobRows-size (a .before) ws (a .words .size) in
     let n = board-types ws (a .words .board) in
@@ -59,7 +60,7 @@ sizes ws tail rows m w j e c b =
 past-size :
     (rows : List (List ℕ)) (s : Saw)
     → Past rows s
-    → Sizes (typesOf (s .job)) (length (s .plan) + length (priceRows (s .prices))) 37 rows
+    → Sizes (typesOf (s .job)) (length (s .plan) + length (priceRows (s .prices))) planLineBytes rows
 unfolding sawRowsOf
 past-size rows s p =
     let ps : List (List ℕ) = planRows (s .plan) in
@@ -68,42 +69,42 @@ past-size rows s p =
     let q = priceRows-bound (s .prices) in
     let c : length (ps ++ qs) ≡ length (s .plan) + length qs = length-append ps qs ∙ omega arith in
     let b : length (bytesOf (ps ++ qs)) ≡ length (bytesOf ps) + length (bytesOf qs) = bytes-append ps qs in
-    sizes (s .job) (ps ++ qs) rows (length (s .plan) + length qs) 37 (p .job) (p .lines) c (omega arith)
+    sizes (s .job) (ps ++ qs) rows (length (s .plan) + length qs) planLineBytes (p .job) (p .lines) c (omega arith)
 
 -- 55 bytes for line 1, 46 for each of 40 lines 2, 37 for each of 99,958 lines 3, and one more
 abbrev pub sawEnough : ℕ
-sawEnough = 3700342
+sawEnough = suc longestSawText
 
 saw-full :
     (p : Place) (ws : List ℕ) (rs : List Counted) (o : Option PriceLines) (rows : List (List ℕ))
-    → SawForm p rows (saw p ws rs o)
+    → SawForm p rows (sawOf p ws rs o)
     → length rows ≤ maxLines
     → length (bytesOf rows) < sawEnough
 unfolding mathlib.Core.List.flatMap
 saw-full first ws rs o rows h l = rw h (omega arith)
 saw-full (types i) ws rs o rows h l = let s = types-size i rows ws h in omega arith
-saw-full body ws rs o rows h l = let s = past-size rows (saw body ws rs o) (h .0) in omega arith
-saw-full (itemPrices i) ws rs o rows h l = let s = past-size rows (saw (itemPrices i) ws rs o) (h .0) in omega arith
-saw-full (platePrices j) ws rs o rows h l = let s = past-size rows (saw (platePrices j) ws rs o) (h .0) in omega arith
-saw-full done ws rs o rows h l = let s = past-size rows (saw done ws rs o) (h .0) in omega arith
+saw-full body ws rs o rows h l = let s = past-size rows (sawOf body ws rs o) (h .0) in omega arith
+saw-full (itemPrices i) ws rs o rows h l = let s = past-size rows (sawOf (itemPrices i) ws rs o) (h .0) in omega arith
+saw-full (platePrices j) ws rs o rows h l = let s = past-size rows (sawOf (platePrices j) ws rs o) (h .0) in omega arith
+saw-full done ws rs o rows h l = let s = past-size rows (sawOf done ws rs o) (h .0) in omega arith
 
 -- where the bytes end within a line of the body or of the prices, more than 37 of its bytes are there
-past-long : (rows : List (List ℕ)) (s : Saw) (k : ℕ) → Past rows s → length rows < maxLines → length (bytesOf rows) + k ≡ sawEnough → 37 < k
+past-long : (rows : List (List ℕ)) (s : Saw) (k : ℕ) → Past rows s → length rows < maxLines → length (bytesOf rows) + k ≡ sawEnough → planLineBytes < k
 past-long rows s k p l e = let z = past-size rows s p in omega arith
 
 saw-long :
     (p : Place) (ws : List ℕ) (rs : List Counted) (o : Option PriceLines) (rows : List (List ℕ)) (k : ℕ)
-    → SawForm p rows (saw p ws rs o)
+    → SawForm p rows (sawOf p ws rs o)
     → length rows < maxLines
     → length (bytesOf rows) + k ≡ sawEnough
     → k < longestLine
-    → Longer k (sawAdmits (saw p ws rs o))
+    → Longer k (sawAdmits (sawOf p ws rs o))
 unfolding sawAdmits mathlib.Core.List.flatMap
 saw-long first ws rs o rows k h l e u = let z : length (bytesOf rows) ≡ 0 = ap (λ (t : List (List ℕ)). length (bytesOf t)) h in absurd (omega arith)
 saw-long (types i) ws rs o rows k h l e u = let s = types-size i rows ws h in absurd (omega arith)
-saw-long body ws rs o rows k h l e u = let q = past-long rows (saw body ws rs o) k (h .0) l e in omega arith
-saw-long (itemPrices i) ws rs o rows k h l e u = let q = past-long rows (saw (itemPrices i) ws rs o) k (h .0) l e in omega arith
-saw-long (platePrices j) ws rs o rows k h l e u = let q = past-long rows (saw (platePrices j) ws rs o) k (h .0) l e in omega arith
+saw-long body ws rs o rows k h l e u = let q = past-long rows (sawOf body ws rs o) k (h .0) l e in omega arith
+saw-long (itemPrices i) ws rs o rows k h l e u = let q = past-long rows (sawOf (itemPrices i) ws rs o) k (h .0) l e in omega arith
+saw-long (platePrices j) ws rs o rows k h l e u = let q = past-long rows (sawOf (platePrices j) ws rs o) k (h .0) l e in omega arith
 saw-long done ws rs o rows k h l e u = tt
 
 -- so they are enough for a saw text
@@ -115,39 +116,39 @@ saw-enough =
     }
 
 -- a saw text that passes has at most 3,700,341 bytes
-pub saw-bytes : (bs : List ℕ) → textRow sawGrammar (fed sawGrammar (started sawGrammar) bs) ≡ pass → length bs ≤ 3700341
+pub saw-bytes : (bs : List ℕ) → textRow sawGrammar (fed sawGrammar (started sawGrammar) bs) ≡ pass → length bs ≤ longestSawText
 saw-bytes bs h = omega (arith, text-bytes sawGrammar sawEnough saw-enough bs h)
 
 -- the first 3,700,342 bytes of a saw text decide it, and so do any more
-pub saw-prefix : (n : ℕ) (bs : List ℕ) → sawEnough ≤ n → sawText (take n bs) ≡ sawText bs
+pub saw-prefix : (n : ℕ) (bs : List ℕ) → longestSawText < n → sawText (take n bs) ≡ sawText bs
 unfolding sawText sawWritten
-saw-prefix n bs h = decided sawGrammar sawEnough n bs saw-enough h sawRows sawLines
+saw-prefix n bs h = decided sawGrammar sawEnough n bs saw-enough (omega arith) sawRows sawLines
 
 -- ---- fold texts
 
 laid-size :
     (rows : List (List ℕ)) (f : Fold)
     → LaidOut rows f
-    → Sizes (typesOf (f .job)) (length (rowsOf (f .layouts))) 73 rows
+    → Sizes (typesOf (f .job)) (length (rowsOf (f .layouts))) placementLineBytes rows
 unfolding foldRowsOf
 laid-size rows f p =
     let ps : List (List ℕ) = map placementRow (rowsOf (f .layouts)) in
     let r = placementRows-size (rowsOf (f .layouts)) in
-    sizes (f .job) ps rows (length (rowsOf (f .layouts))) 73 (p .job) (p .lines) (r .0) (omega arith)
+    sizes (f .job) ps rows (length (rowsOf (f .layouts))) placementLineBytes (p .job) (p .lines) (r .0) (omega arith)
 
 -- 55 bytes for line 1, 46 for one line 2, 73 for each of 99,997 lines 7, and one more
 abbrev pub foldEnough : ℕ
-foldEnough = 7299883
+foldEnough = suc longestFoldText
 
 fold-full :
     (p : Place) (ws us : List ℕ) (rows : List (List ℕ))
-    → FoldForm p rows (fold p ws us)
+    → FoldForm p rows (foldOf p ws us)
     → length rows ≤ maxLines
     → length (bytesOf rows) < foldEnough
 unfolding mathlib.Core.List.flatMap
 fold-full first ws us rows h l = rw h (omega arith)
 fold-full (types i) ws us rows h l = let s = types-size i rows ws h in omega arith
-fold-full body ws us rows h l = let s = laid-size rows (fold body ws us) h in omega arith
+fold-full body ws us rows h l = let s = laid-size rows (foldOf body ws us) h in omega arith
 fold-full (itemPrices i) ws us rows h l = absurd h
 fold-full (platePrices j) ws us rows h l = absurd h
 fold-full done ws us rows h l = absurd h
@@ -155,14 +156,14 @@ fold-full done ws us rows h l = absurd h
 -- the bytes never end within a line: it would be longer than every kind
 fold-long :
     (p : Place) (ws us : List ℕ) (rows : List (List ℕ)) (k : ℕ)
-    → FoldForm p rows (fold p ws us)
+    → FoldForm p rows (foldOf p ws us)
     → length rows < maxLines
     → length (bytesOf rows) + k ≡ foldEnough
     → longestLine ≤ k
 unfolding mathlib.Core.List.flatMap
 fold-long first ws us rows k h l e = let z : length (bytesOf rows) ≡ 0 = ap (λ (t : List (List ℕ)). length (bytesOf t)) h in omega arith
 fold-long (types i) ws us rows k h l e = let s = types-size i rows ws h in omega arith
-fold-long body ws us rows k h l e = let s = laid-size rows (fold body ws us) h in omega arith
+fold-long body ws us rows k h l e = let s = laid-size rows (foldOf body ws us) h in omega arith
 fold-long (itemPrices i) ws us rows k h l e = absurd h
 fold-long (platePrices j) ws us rows k h l e = absurd h
 fold-long done ws us rows k h l e = absurd h
@@ -176,10 +177,10 @@ fold-enough =
     }
 
 -- a fold text that passes has at most 7,299,882 bytes
-pub fold-bytes : (bs : List ℕ) → textRow foldGrammar (fed foldGrammar (started foldGrammar) bs) ≡ pass → length bs ≤ 7299882
+pub fold-bytes : (bs : List ℕ) → textRow foldGrammar (fed foldGrammar (started foldGrammar) bs) ≡ pass → length bs ≤ longestFoldText
 fold-bytes bs h = omega (arith, text-bytes foldGrammar foldEnough fold-enough bs h)
 
 -- the first 7,299,883 bytes of a fold text decide it, and so do any more
-pub fold-prefix : (n : ℕ) (bs : List ℕ) → foldEnough ≤ n → foldText (take n bs) ≡ foldText bs
+pub fold-prefix : (n : ℕ) (bs : List ℕ) → longestFoldText < n → foldText (take n bs) ≡ foldText bs
 unfolding foldText foldWritten
-fold-prefix n bs h = decided foldGrammar foldEnough n bs fold-enough h foldRows foldLines
+fold-prefix n bs h = decided foldGrammar foldEnough n bs fold-enough (omega arith) foldRows foldLines

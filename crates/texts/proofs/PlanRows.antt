@@ -1,5 +1,4 @@
 -- The lines 3 of a plan and the lines 4, 5 and 6 of prices: one more of them, how many they are, and how many bytes.
--- Assumes nothing.
 use Prim.Native.Nat.{ℕ, suc, _+_, _-_, _*_, _≤_}
 use native.Mathlib.Omega.{arith}
 use mathlib.Core.Path.{_≡_, refl, ap, _∙_}
@@ -11,11 +10,13 @@ use lib.ListN.{length, getD, drop, List·getD-append}
 use lib.Seq.{drop-append-le}
 use borrow.Author.Tests.{ne-eqb}
 use Rattle.job.specs.Verdict.{pass, within}
+use Rattle.job.proofs.Tests.{within-limits}
 use Rattle.plan.specs.Prices.{maxPrice, lowestPrice, priceWords}
+use Rattle.texts.specs.Widths.{planLineBytes, pricesLineBytes, priceLineBytes}
 use Rattle.texts.specs.SawText.{Counted, PriceLines, withPrice}
 use Rattle.texts.specs.TextOf.{planRows, priceRowsFrom, priceRows}
 use Rattle.texts.specs.Held.{InPlan, PlanLimits}
-use Rattle.texts.proofs.Basics.{within-both, lowest-append, lowest-one}
+use Rattle.texts.proofs.Basics.{lowest-both, lowest-one}
 use Rattle.texts.proofs.Lists.{bytesOf, bytes-cons}
 
 -- ---- lines 3
@@ -27,7 +28,7 @@ planRows-more [] r = refl
 planRows-more (s ∷ rs) r = ap (λ (l : List (List ℕ)). (3 ∷ s .plate ∷ s .item ∷ s .count ∷ []) ∷ l) (planRows-more rs r)
 
 -- a line for each, of 37 bytes
-pub planRows-size : (rs : List Counted) → (length (planRows rs) ≡ length rs) × (length (bytesOf (planRows rs)) ≡ 37 * length rs)
+pub planRows-size : (rs : List Counted) → (length (planRows rs) ≡ length rs) × (length (bytesOf (planRows rs)) ≡ planLineBytes * length rs)
 unfolding planRows mathlib.Core.List.flatMap
 planRows-size [] = (refl, refl)
 planRows-size (r ∷ rs) =
@@ -63,7 +64,7 @@ row-length n k x = go (leb k n)
     go true = refl
     go false = refl
 
-from-size : (n k : ℕ) (xs : List ℕ) → (length (priceRowsFrom n k xs) ≡ length xs) × (length (bytesOf (priceRowsFrom n k xs)) ≡ 28 * length xs)
+from-size : (n k : ℕ) (xs : List ℕ) → (length (priceRowsFrom n k xs) ≡ length xs) × (length (bytesOf (priceRowsFrom n k xs)) ≡ priceLineBytes * length xs)
 unfolding priceRowsFrom mathlib.Core.List.flatMap
 from-size n k [] = (refl, refl)
 from-size n k (x ∷ xs) =
@@ -84,8 +85,8 @@ priceRows-more ps x k e =
     let f = from-append (ps .types) 1 (drop 1 (ps .words)) (x ∷ []) in
     rw (d, first) (ap (λ (l : List (List ℕ)). (4 ∷ getD (ps .words) 0 0 ∷ ps .types ∷ ps .residuals ∷ []) ∷ l) (rw place at f))
 
--- at most 37 bytes for each line
-pub priceRows-bound : (o : Option PriceLines) → length (bytesOf (priceRows o)) ≤ 37 * length (priceRows o)
+-- at most the bytes of a line 4 for each line
+pub priceRows-bound : (o : Option PriceLines) → length (bytesOf (priceRows o)) ≤ pricesLineBytes * length (priceRows o)
 unfolding priceRows mathlib.Core.List.flatMap
 priceRows-bound none = omega arith
 priceRows-bound (some ps) =
@@ -96,12 +97,12 @@ priceRows-bound (some ps) =
 -- the denominator passes as a word
 pub denominator-passes : (x : ℕ) → 1 ≤ x → x ≤ maxPrice → priceWords (x ∷ []) ≡ pass
 unfolding priceWords lowestPrice
-denominator-passes x l h = lowest-one 2 (λ k y. not (within (cond (eqb k 1) 1 0) maxPrice y)) 1 x (rw (within-both 1 maxPrice x l h))
+denominator-passes x l h = lowest-one 2 (λ k y. not (within (cond (eqb k 1) 1 0) maxPrice y)) 1 x (rw (within-limits 1 maxPrice x l h))
 
 -- one more price passes as a word
 pub price-passes : (ws : List ℕ) (x : ℕ) → 1 ≤ length ws → x ≤ maxPrice → priceWords ws ≡ pass → priceWords (ws ++ (x ∷ [])) ≡ pass
 unfolding priceWords lowestPrice
 price-passes ws x l h p =
     let later : eqb (1 + length ws) 1 ≡ false = ne-eqb (1 + length ws) 1 (λ q. omega arith) in
-    lowest-append 2 (λ k y. not (within (cond (eqb k 1) 1 0) maxPrice y)) 1 ws (x ∷ []) p
-    (lowest-one 2 (λ k y. not (within (cond (eqb k 1) 1 0) maxPrice y)) (1 + length ws) x (rw (later, within-both 0 maxPrice x (omega arith) h)))
+    lowest-both 2 (λ k y. not (within (cond (eqb k 1) 1 0) maxPrice y)) 1 ws (x ∷ []) p
+    (lowest-one 2 (λ k y. not (within (cond (eqb k 1) 1 0) maxPrice y)) (1 + length ws) x (rw (later, within-limits 0 maxPrice x (omega arith) h)))

@@ -1,5 +1,4 @@
 -- A long text is decided by its beginning: once refused it stays so, and a line too long for its place is refused however it ends.
--- Assumes nothing.
 use Prim.Native.Nat.{ℕ, suc, _+_, _*_, _≤_, _<_}
 use native.Mathlib.Omega.{arith}
 use mathlib.Core.Path.{_≡_, refl, sym, ap, _∙_, subst}
@@ -12,7 +11,8 @@ use lib.ListN.{length, take, drop, length-append, take-append-drop}
 use lib.Seq.{length-take-le, take-all, take-take}
 use borrow.Author.Tests.{ltb-true, ltb-false, leb-true, leb-false, eqb-true, eqb-false}
 use Rattle.job.specs.Verdict.{Verdict, pass, refuse, _then_}
-use Rattle.columns.specs.Line.{lineOf, readLine}
+use Rattle.columns.specs.Widths.{groupBytes, lineBytes}
+use Rattle.columns.specs.Line.{readLine}
 use Rattle.columns.proofs.LineLaws.{length-line}
 use Rattle.columns.proofs.ReadLaws.{written-read}
 use Rattle.texts.specs.Shape.{Shape, lineRow}
@@ -27,10 +27,10 @@ use Rattle.texts.proofs.WholeTexts.{row-text, row-refused, row-begun, f
 -- p bytes are more than any of the shapes has before its byte 10
 abbrev pub Longer : ℕ → List Shape → Type 0
 Longer p [] = Unit {0}
-Longer p (s ∷ ss) = (9 * groupsOf s < p) × Longer p ss
+Longer p (s ∷ ss) = (groupBytes * groupsOf s < p) × Longer p ss
 
 -- then p bytes in groups of nine are more groups than any of them has
-longer-shorter : (p k : ℕ) (ss : List Shape) → p ≡ 9 * k → Longer p ss → Shorter k ss
+longer-shorter : (p k : ℕ) (ss : List Shape) → p ≡ groupBytes * k → Longer p ss → Shorter k ss
 longer-shorter p k [] e h = tt
 longer-shorter p k (s ∷ ss) e h = (omega arith, longer-shorter p k ss e (h .1))
 
@@ -43,22 +43,6 @@ module _ {S : Type 0} (g : Grammar S) where
   -- the answer to a text, where f are the rows after the line row and h what is written of a text that passes them
   abbrev pub answerTo : (S → Verdict) → (S → List ℕ) → Reader S → List ℕ
   answerTo f h r = written (textRow g r then f (r .state)) (h (r .state))
-
-  -- a beginning that is refused decides the text
-  pub refused-prefix :
-      (as′ bs : List ℕ) (n p : ℕ)
-      → fed g (started g) as′ .verdict ≡ refuse n p
-      → fed g (started g) (as′ ++ bs) ≡ fed g (started g) as′
-  refused-prefix as′ bs n p h = fed-append g (started g) as′ bs ∙ fed-refused g (fed g (started g) as′) bs n p h
-
-  -- with whatever follows the line row, it is answered by its refusal
-  pub refused-answer :
-      (as′ bs : List ℕ) (n p : ℕ)
-      → fed g (started g) as′ .verdict ≡ refuse n p
-      → (f : S → Verdict) (h : S → List ℕ)
-      → answerTo f h (fed g (started g) (as′ ++ bs)) ≡ lineOf (9 ∷ n ∷ p ∷ [])
-  unfolding written textRow
-  refused-answer as′ bs n p e f h = rw (refused-prefix as′ bs n p e, e)
 
   -- 99,999 lines and one byte more decide the text
   pub lines-prefix :
@@ -91,7 +75,7 @@ module _ {S : Type 0} (g : Grammar S) where
       line-too-long r (readLine (r .pending ++ (10 ∷ [])))
       (λ ns e.
       let w = written-read (r .pending ++ (10 ∷ [])) ns e in
-      let k : length (r .pending) + 1 ≡ 9 * length ns + 1 = sym (length-append (r .pending) (10 ∷ [])) ∙ ap length (w .0) ∙ length-line ns in
+      let k : length (r .pending) + 1 ≡ lineBytes (length ns) = sym (length-append (r .pending) (10 ∷ [])) ∙ ap length (w .0) ∙ length-line ns in
       longer-shorter (length (r .pending)) (length ns) (g .admits (r .state)) (omega arith) h)
 
   -- however it goes on, the line is 1

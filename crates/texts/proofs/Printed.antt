@@ -1,5 +1,4 @@
 -- The saw program's output is read back: lines 7 as the placements, line 8 as boards, sum, D and fewest; and its lines 7 are a fold text.
--- Assumes nothing.
 use Prim.Native.Nat.{ℕ, zero, suc, _+_, _*_, _≤_, _<_}
 use native.Mathlib.Omega.{arith}
 use native.Mathlib.Nat.{mul-le-mul-right}
@@ -14,6 +13,9 @@ use Rattle.job.specs.declared.item.Item.{Item}
 use Rattle.job.specs.Lists.{all, sumOf}
 use Rattle.job.specs.Verdict.{pass, refuseIf, within, lowest}
 use Rattle.job.specs.Job.{Job, maxPieces, jobOf, jobWords, larger, demanded, admission}
+use Rattle.job.proofs.Verdicts.{refuseIf-pass}
+use Rattle.job.proofs.CodeEnds.{then-pass}
+use Rattle.job.proofs.Records.{words-append}
 use Rattle.plan.specs.Prices.{maxPrice, pricesOf, lowestPrice, priceWords, priced, priceSum, fewest}
 use Rattle.layouts.specs.Placement.{Placement, placementWords}
 use Rattle.layouts.specs.Lines.{rowRight, setOf}
@@ -25,14 +27,14 @@ use Rattle.texts.specs.Shape.{layoutLine}
 use Rattle.texts.specs.JobLines.{Place, body, typesOf}
 use Rattle.texts.specs.Reader.{started, fed, textRow, written}
 use Rattle.texts.specs.SawText.{Counted, PriceLines, Saw, sawGrammar, sawRows, placementLine, resultLine, sawLines, sawWritten, sawText}
-use Rattle.texts.specs.FoldText.{Fold, foldComplete, foldGrammar, countLines, foldLines}
+use Rattle.texts.specs.FoldText.{Fold, foldComplete, foldGrammar, countLines, foldLines, foldOf}
 use Rattle.texts.specs.Admitted.{Text}
 use Rattle.texts.specs.TextOf.{jobRows, planRows, placementRow}
-use Rattle.texts.specs.Held.{PricesHeld, SawHeld}
+use Rattle.texts.specs.Held.{PricesHeld, SawWhole}
 use Rattle.texts.specs.Printed.{linesIn, AllFit, resultRow, sawHolds, sawRun, printedRows, countedOf, PrintedBack}
 use Rattle.texts.proofs.SawDemand.{saw-placed, saw-boards}
-use Rattle.texts.proofs.Basics.{within-parts, then-parts, refuseIf-passed, lowest-parts, all-parts, all-lowest}
-use Rattle.texts.proofs.Lists.{bytesOf, bytes-more, flatMap-append}
+use Rattle.texts.proofs.Basics.{within-parts, lowest-parts, all-parts, all-lowest}
+use Rattle.texts.proofs.Lists.{bytesOf, bytes-more}
 use Rattle.texts.proofs.ReaderLaws.{standing}
 use Rattle.texts.proofs.LinesIn.{lines-both-ways}
 use Rattle.texts.proofs.ShapeLaws.{narrow-layout, shape-fits}
@@ -43,7 +45,7 @@ use Rattle.texts.proofs.JobRuns.{job-runs}
 use Rattle.texts.proofs.Running.{runs-append}
 use Rattle.texts.proofs.WholeTexts.{text-read, text-row}
 use Rattle.texts.proofs.SawTexts.{saw-both-ways}
-use Rattle.texts.proofs.FoldTexts.{fold, fold-plain, fold-opens, layouts-run}
+use Rattle.texts.proofs.FoldTexts.{fold-plain, fold-opens, layouts-run}
 
 -- ---- the output is lines of numbers
 
@@ -134,8 +136,8 @@ priced-capped m (it ∷ items) (p ∷ ps) c =
 admitted-demands : (job : Job) → admission job ≡ pass → demanded job ≤ maxPieces
 unfolding admission
 admitted-demands job h =
-    let p = then-parts (lowest 3 (λ _ it. larger job it) 1 (job .items)) (refuseIf (ltb maxPieces (demanded job)) 4 0) h in
-    ltb-false maxPieces (demanded job) (refuseIf-passed (ltb maxPieces (demanded job)) 4 0 (p .1))
+    let p = then-pass (lowest 3 (λ _ it. larger job it) 1 (job .items)) (refuseIf (ltb maxPieces (demanded job)) 4 0) h in
+    ltb-false maxPieces (demanded job) (refuseIf-pass (ltb maxPieces (demanded job)) 4 0 (p .1))
 
 -- ---- the numbers fit nine columns
 
@@ -171,11 +173,11 @@ fit-append (ms ∷ mss) nss f g = (f .0, fit-append mss nss (f .1) g)
 
 rows-admission : (s : Saw) → sawRows s ≡ pass → admission (jobOf (s .job)) ≡ pass
 unfolding sawRows
-rows-admission s h = then-parts (admission (jobOf (s .job))) _ h .0
+rows-admission s h = then-pass (admission (jobOf (s .job))) _ h .0
 
 printed-back :
     (s : Saw)
-    → SawHeld s
+    → SawWhole s
     → sawRows s ≡ pass
     → all (rowRight (jobOf (s .job))) (sawRun s .placements) ≡ true
     → sawRun s .last .turn .board ≤ maxPieces
@@ -210,7 +212,7 @@ fold-text :
     → jobWords ws ≡ pass
     → all (rowRight (jobOf ws)) ps ≡ true
     → length ps ≤ maxPieces
-    → Text foldGrammar (bytesOf (jobRows ws) ++ flatMap placementLine ps) (fold body ws (placementWords ps))
+    → Text foldGrammar (bytesOf (jobRows ws) ++ flatMap placementLine ps) (foldOf body ws (placementWords ps))
 unfolding foldComplete
 fold-text ws ps h a l =
     let j = passes-job ws h in
@@ -218,11 +220,11 @@ fold-text ws ps h a l =
     let k = fold-count ws ps j in
     record {
       lines = jobRows ws ++ map placementRow ps;
-      bytes = ap (λ (l : List ℕ). bytesOf (jobRows ws) ++ l) (placement-lines ps) ∙ sym (flatMap-append lineOf (jobRows ws) (map placementRow ps));
+      bytes = ap (λ (l : List ℕ). bytesOf (jobRows ws) ++ l) (placement-lines ps) ∙ sym (words-append lineOf (jobRows ws) (map placementRow ps));
       few = omega arith;
       runs =
-          runs-append foldGrammar (foldGrammar .start) (fold body ws []) (fold body ws (placementWords ps)) (jobRows ws) (map placementRow ps)
-          (job-runs foldGrammar (λ p us. fold p us []) fold-opens ws j)
+          runs-append foldGrammar (foldGrammar .start) (foldOf body ws []) (foldOf body ws (placementWords ps)) (jobRows ws) (map placementRow ps)
+          (job-runs foldGrammar (λ p us. foldOf p us []) fold-opens ws j)
           (layouts-run ws [] 1 ps j (all-lowest (rowRight (jobOf ws)) 2 1 ps a));
       whole = refl;
     }
@@ -240,8 +242,8 @@ printed =
       counts = fold-lines;
       folds = λ ws ps h a l.
           let t = fold-text ws ps h a l in (
-            text-read foldGrammar fold-plain (bytesOf (jobRows ws) ++ flatMap placementLine ps) (fold body ws (placementWords ps)) t
-                ∙ ap (standing foldGrammar (fold body ws (placementWords ps))) (fold-count ws ps (passes-job ws h)),
-            text-row foldGrammar fold-plain (bytesOf (jobRows ws) ++ flatMap placementLine ps) (fold body ws (placementWords ps)) t,
+            text-read foldGrammar fold-plain (bytesOf (jobRows ws) ++ flatMap placementLine ps) (foldOf body ws (placementWords ps)) t
+                ∙ ap (standing foldGrammar (foldOf body ws (placementWords ps))) (fold-count ws ps (passes-job ws h)),
+            text-row foldGrammar fold-plain (bytesOf (jobRows ws) ++ flatMap placementLine ps) (foldOf body ws (placementWords ps)) t,
           );
     }

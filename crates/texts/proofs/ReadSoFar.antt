@@ -1,5 +1,4 @@
 -- What a reader has read: lines of its grammar, the line that has begun, and how it stands where a line was refused.
--- Assumes nothing.
 use Prim.Native.Nat.{ℕ, suc, _≤_, _<_}
 use native.Mathlib.Omega.{arith}
 use mathlib.Core.Path.{_≡_, refl, sym, ap, _∙_, subst}
@@ -11,12 +10,12 @@ use lib.Dec.{ltb, eqb}
 use lib.ListN.{length, length-append}
 use borrow.Author.Tests.{ltb-true, ltb-false, eqb-true, eqb-false}
 use Rattle.job.specs.Verdict.{Verdict, pass, refuse}
+use Rattle.job.proofs.Verdicts.{pass-not-refuse}
 use Rattle.columns.specs.Line.{lineOf, readLine}
 use Rattle.columns.proofs.ReadLaws.{written-read, Inner, inner-append}
 use Rattle.texts.specs.Shape.{numbersRow, lineRow}
 use Rattle.texts.specs.Reader.{Grammar, Reader, maxLines, longestLine, started, refusedAs, lineRead, byteRead, fed}
 use Rattle.texts.specs.Admitted.{Admitted, Runs}
-use Rattle.texts.proofs.Basics.{pass-not-refuse}
 use Rattle.texts.proofs.Lists.{bytesOf, bytes-more}
 use Rattle.texts.proofs.ShapeLaws.{row-admitted, row-refuses}
 use Rattle.texts.proofs.ReaderLaws.{standing, Open, holding, byte-refused, byte-over, byte-end, byte-kept, byte-long}
@@ -26,11 +25,11 @@ module _ {S : Type 0} (g : Grammar S) where
   -- how a reader stands, whatever it was fed
   pub record Sound (r : Reader S) : Type 0 where
     -- at most 99,999 lines
-    pub few : r .lines ≤ 99999
+    pub few : r .lines ≤ maxLines
     -- a line has begun only where the text is not refused and may go on
     pub begun : 0 < length (r .pending) → Open g r
     -- the line that has begun is at most 72 bytes, none of them 10
-    pub short : length (r .pending) ≤ 72
+    pub short : length (r .pending) < longestLine
     pub inner : Inner (r .pending)
     -- a refusal of the line row is 1 or 2, and names the line after those admitted
     pub named : (n p : ℕ) → r .verdict ≡ refuse n p → ((n ≡ 1) ⊎ (n ≡ 2)) × (p ≡ suc (r .lines))
@@ -46,7 +45,7 @@ module _ {S : Type 0} (g : Grammar S) where
     pub left : r .verdict ≡ pass → rest ≡ r .pending
 
   -- where no line has begun
-  standing-sound : (t : S) (n : ℕ) → n ≤ 99999 → Sound (standing g t n)
+  standing-sound : (t : S) (n : ℕ) → n ≤ maxLines → Sound (standing g t n)
   standing-sound t n h =
       record {
         few = h;

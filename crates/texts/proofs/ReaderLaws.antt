@@ -1,5 +1,4 @@
 -- A text read in parts: one part after another is the whole, a refused text stays as it is, and a whole line is read at once.
--- Assumes nothing.
 use Prim.Native.Nat.{ℕ, suc, _+_, _≤_, _<_}
 use native.Mathlib.Omega.{arith}
 use mathlib.Core.Path.{_≡_, refl, sym, ap, _∙_}
@@ -10,6 +9,7 @@ use lib.Dec.{ltb}
 use lib.ListN.{length, length-append}
 use borrow.Author.Tests.{ne-eqb, lt-ltb, le-ltb, ltb-true, ltb-false}
 use Rattle.job.specs.Verdict.{pass, refuse}
+use Rattle.columns.specs.Widths.{mostNumbers}
 use Rattle.columns.specs.Line.{groups, lineOf, Fit, readLine}
 use Rattle.columns.proofs.LineLaws.{length-groups}
 use Rattle.columns.proofs.ReadLaws.{read-written, Inner, inner-groups}
@@ -99,12 +99,12 @@ module _ {S : Type 0} (g : Grammar S) where
   open-holding r bs o = record { passed = refl; few = o .few }
 
   -- a part of a line is kept
-  pub fed-kept : (r : Reader S) (bs : List ℕ) → Open r → Inner bs → length (r .pending) + length bs < 73 → fed g r bs ≡ holding r (r .pending ++ bs)
+  pub fed-kept : (r : Reader S) (bs : List ℕ) → Open r → Inner bs → length (r .pending) + length bs < longestLine → fed g r bs ≡ holding r (r .pending ++ bs)
   unfolding fed
   fed-kept r [] o i h = λ m. record { state = r .state; lines = r .lines; pending = sym (append-nil (r .pending)) m; verdict = o .passed m }
   fed-kept r (b ∷ bs) o i h =
       let r′ : Reader S = holding r (r .pending ++ (b ∷ [])) in
-      let l : length (r .pending ++ (b ∷ [])) + length bs < 73 = rw length-append (omega arith) in
+      let l : length (r .pending ++ (b ∷ [])) + length bs < longestLine = rw length-append (omega arith) in
       rw (byte-kept r b o (i .0) (omega arith))
       (fed-kept r′ bs (open-holding r (r .pending ++ (b ∷ [])) o) (i .1) l ∙ ap (holding r) (append-assoc (r .pending) (b ∷ []) bs))
 
@@ -113,7 +113,7 @@ module _ {S : Type 0} (g : Grammar S) where
       (r : Reader S) (bs : List ℕ)
       → Open r
       → Inner bs
-      → length (r .pending) + length bs < 73
+      → length (r .pending) + length bs < longestLine
       → fed g r (bs ++ (10 ∷ [])) ≡ lineRead g r (readLine (r .pending ++ bs ++ (10 ∷ [])))
   unfolding fed
   fed-line r bs o i h =
@@ -127,8 +127,8 @@ module _ {S : Type 0} (g : Grammar S) where
       (r : Reader S) (bs : List ℕ)
       → Open r
       → Inner bs
-      → length (r .pending) < 73
-      → 73 ≤ length (r .pending) + length bs
+      → length (r .pending) < longestLine
+      → longestLine ≤ length (r .pending) + length bs
       → (cs : List ℕ)
       → fed g r (bs ++ cs) ≡ refusedAs g r (refuse 1 (suc (r .lines)))
   unfolding fed
@@ -141,8 +141,8 @@ module _ {S : Type 0} (g : Grammar S) where
           → ((r′ : Reader S)
           → Open r′
           → Inner bs
-          → length (r′ .pending) < 73
-          → 73 ≤ length (r′ .pending) + length bs
+          → length (r′ .pending) < longestLine
+          → longestLine ≤ length (r′ .pending) + length bs
           → (cs : List ℕ)
           → fed g r′ (bs ++ cs) ≡ refusedAs g r′ (refuse 1 (suc (r′ .lines))))
           → fed g (byteRead g r b) (bs ++ cs) ≡ refusedAs g r (refuse 1 (suc (r .lines)))
@@ -157,8 +157,8 @@ module _ {S : Type 0} (g : Grammar S) where
           rw (byte-long r b o (i .0) p) (fed-refused (refusedAs g r (refuse 1 (suc (r .lines)))) (bs ++ cs) 1 (suc (r .lines)) refl)
 
   -- the line that is written of at most eight numbers is read at once
-  pub fed-written : (r : Reader S) (ns : List ℕ) → Open r → r .pending ≡ [] → Fit ns → length ns ≤ 8 → fed g r (lineOf ns) ≡ lineRead g r (some ns)
+  pub fed-written : (r : Reader S) (ns : List ℕ) → Open r → r .pending ≡ [] → Fit ns → length ns ≤ mostNumbers → fed g r (lineOf ns) ≡ lineRead g r (some ns)
   unfolding lineOf
   fed-written r ns o e f l =
-      let h : length (r .pending) + length (groups ns) < 73 = rw (e, length-groups ns) (omega arith) in
+      let h : length (r .pending) + length (groups ns) < longestLine = rw (e, length-groups ns) (omega arith) in
       fed-line r (groups ns) o (inner-groups ns) h ∙ ap (lineRead g r) (rw e (read-written ns f))

@@ -1,5 +1,4 @@
 -- Lines that run, one admitted after another: what each of them keeps holds at the end, and written they bring the reader as far.
--- Assumes nothing.
 use Prim.Native.Nat.{ℕ, suc, _+_, _≤_, _<_}
 use native.Mathlib.Omega.{arith}
 use mathlib.Core.Path.{_≡_, refl, ap, _∙_, subst}
@@ -8,6 +7,7 @@ use mathlib.Core.List.{List, [], _∷_, _++_, flatMap, append-assoc, append-nil}
 use mathlib.Core.Option.{some}
 use lib.ListN.{length}
 use Rattle.job.specs.Verdict.{pass}
+use Rattle.columns.specs.Widths.{mostNumbers}
 use Rattle.columns.specs.Line.{lineOf}
 use Rattle.texts.specs.Shape.{Shape, lineRow}
 use Rattle.texts.specs.Reader.{Grammar, Reader, maxLines, lineRead, fed}
@@ -19,7 +19,7 @@ use Rattle.texts.proofs.ReaderLaws.{standing, Open, fed-append, fed-wri
 -- the shapes of a grammar: each kind stands once among those admitted, and no line has more than eight numbers
 pub record Plain {S : Type 0} (g : Grammar S) : Type 0 where
   pub kinds : (s : S) → Kinds (g .admits s)
-  pub short : (s : S) → Shorter 9 (g .admits s)
+  pub short : (s : S) → Shorter (suc mostNumbers) (g .admits s)
 
 module _ {S : Type 0} (g : Grammar S) where
   -- lines that run, and then others from where they bring the text
@@ -69,7 +69,7 @@ module _ {S : Type 0} (g : Grammar S) where
       n = omega arith
   runs-read p (ns ∷ nss) r t v e runs l =
       let r′ : Reader S = standing g (g .after (r .state) ns) (suc (r .lines)) in
-      let k = admitted-short (g .admits (r .state)) ns 9 (p .short (r .state)) (runs .0) in
+      let k = admitted-short (g .admits (r .state)) ns (suc mostNumbers) (p .short (r .state)) (runs .0) in
       let o : Open g r = record { passed = v; few = omega arith } in
       let h : fed g r (lineOf ns) ≡ r′ = fed-written g r ns o e (runs .1) (omega arith) ∙ line-read p r ns (runs .0) in
       let n : suc (r .lines) + length nss ≡ r .lines + suc (length nss) = omega arith in

@@ -1,8 +1,7 @@
 -- Demand 3 of an accepted saw text: its plan unfolds into layouts that keep the rules, and so its lines 7 and 8 are within their limits.
--- Assumes nothing.
 use Prim.Native.Nat.{ℕ, _≤_}
 use native.Mathlib.Omega.{arith}
-use mathlib.Core.Path.{_≡_, refl, sym, _∙_, ap}
+use mathlib.Core.Path.{_≡_, ap}
 use mathlib.Core.Bool.{true}
 use mathlib.Core.List.{List}
 use lib.ListN.{length, List·getD-eq-default}
@@ -14,22 +13,20 @@ use Rattle.job.proofs.Verdicts.{then-both}
 use Rattle.job.proofs.Admission.{admitted-words, admitted-job}
 use Rattle.listing.specs.Listing.{Listing, modelRow, listingOf}
 use Rattle.plan.specs.Plan.{onPlate, boards, total, countsRow, planRow}
-use Rattle.plan.specs.Feasible.{Feasible}
 use Rattle.plan.proofs.PlanExact.{plan-exact, counts-exact, countOf-total}
 use Rattle.layouts.specs.Placement.{linesOf, itemsOfSet}
 use Rattle.layouts.specs.Lines.{rowRight}
-use Rattle.layouts.specs.Unfold.{Run}
 use Rattle.layouts.specs.Demand3.{Listed, Accepted, Unfolds}
 use Rattle.layouts.proofs.lists.Every.{every-all}
 use Rattle.layouts.proofs.row.RowLines.{lines-length}
 use Rattle.layouts.proofs.row.RowWords.{RowOk, right-exact, lines-right}
 use Rattle.layouts.proofs.demand.Demand3.{demand3}
 use Rattle.texts.specs.SawText.{Saw, planCounts, sawRows}
-use Rattle.texts.specs.Held.{SawHeld}
+use Rattle.texts.specs.Held.{SawWhole}
 use Rattle.texts.specs.Printed.{sawRun}
 use Rattle.texts.proofs.CallRows.{accepted-rows, counts-length}
 
-module _ (s : Saw) (held : SawHeld s) (rows : sawRows s ≡ pass) where
+module _ (s : Saw) (held : SawWhole s) (rows : sawRows s ≡ pass) where
   abbrev job : Job
   job = jobOf (s .job)
 

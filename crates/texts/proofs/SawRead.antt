@@ -1,5 +1,4 @@
 -- What a saw text holds so far: its lines are those of the job's words, the plan and the prices that it holds, all within their limits.
--- Assumes nothing.
 use Prim.Native.Nat.{ℕ, zero, suc, _+_, _-_, _≤_}
 use native.Mathlib.Omega.{arith}
 use mathlib.Core.Path.{_≡_, refl, sym, ap, _∙_, subst}
@@ -10,12 +9,13 @@ use mathlib.Core.Option.{Option, none, some}
 use lib.Dec.{leb, eqb}
 use lib.ListN.{length, getD, drop, length-append}
 use borrow.Author.Tests.{eqb-true, eqb-false, le-leb, lt-leb}
+use Rattle.job.specs.Sizes.{maxResiduals}
 use Rattle.job.specs.Verdict.{pass}
 use Rattle.job.specs.Job.{maxTypes}
 use Rattle.plan.specs.Prices.{maxPrice, priceWords}
 use Rattle.texts.specs.Shape.{planLine, pricesLine}
 use Rattle.texts.specs.JobLines.{Place, first, types, body, itemPrices, platePrices, done, typesOf, afterType}
-use Rattle.texts.specs.SawText.{Counted, PriceLines, Saw, sawAdmits, afterItemPrice, afterPlatePrice, withPrice, bodyRead, sawAfter, sawGrammar}
+use Rattle.texts.specs.SawText.{Counted, PriceLines, Saw, sawAdmits, afterItemPrice, afterPlatePrice, withPrice, bodyRead, sawAfter, sawGrammar, sawOf}
 use Rattle.texts.specs.Admitted.{InLimits, OfShape, Admitted, Runs}
 use Rattle.texts.specs.TextOf.{jobRows, planRows, priceRowsFrom, priceRows, sawRowsOf}
 use Rattle.texts.specs.Held.{PlanLimits}
@@ -23,10 +23,6 @@ use Rattle.texts.proofs.Running.{runs-keep}
 use Rattle.texts.proofs.JobLaws.{JobWhole}
 use Rattle.texts.proofs.JobText.{AtTypes, JobAt, first-read, types-read}
 use Rattle.texts.proofs.PlanRows.{planRows-more, plan-limits-more, priceRow, priceRows-more, denominator-passes, price-passes}
-
--- a saw text by its parts
-abbrev pub saw : Place → List ℕ → List Counted → Option PriceLines → Saw
-saw p ws rs ps = record { place = p; job = ws; plan = rs; prices = ps }
 
 -- past the job's lines: the job is whole, the plan is within its limits, and the lines are those of what is held
 pub record Past (rows : List (List ℕ)) (s : Saw) : Type 0 where
@@ -38,7 +34,7 @@ pub record Past (rows : List (List ℕ)) (s : Saw) : Type 0 where
 pub record Priced (k : ℕ) (ps : PriceLines) : Type 0 where
   pub low : 1 ≤ ps .types
   pub high : ps .types ≤ maxTypes
-  pub residuals : ps .residuals ≤ 2047
+  pub residuals : ps .residuals ≤ maxResiduals
   pub size : length (ps .words) ≡ k
   pub words : priceWords (ps .words) ≡ pass
 
@@ -69,7 +65,7 @@ abbrev pub SawAt : List (List ℕ) → Saw → Type 0
 SawAt rows s = SawForm (s .place) rows s
 
 -- the job's lines bring a saw text to its body, with no plan and no prices yet
-from-job : (p : Place) (rows : List (List ℕ)) (ws : List ℕ) → JobAt p rows ws → SawForm p rows (saw p ws [] none)
+from-job : (p : Place) (rows : List (List ℕ)) (ws : List ℕ) → JobAt p rows ws → SawForm p rows (sawOf p ws [] none)
 unfolding sawRowsOf planRows priceRows
 from-job first rows ws j = j
 from-job (types i) rows ws j = j
@@ -81,14 +77,14 @@ from-job done rows ws j = absurd j
 -- ---- the lines, one more of them
 
 -- without prices
-no-prices : (ws : List ℕ) (rs : List Counted) (p : Place) → sawRowsOf (saw p ws rs none) ≡ jobRows ws ++ planRows rs
+no-prices : (ws : List ℕ) (rs : List Counted) (p : Place) → sawRowsOf (sawOf p ws rs none) ≡ jobRows ws ++ planRows rs
 unfolding sawRowsOf priceRows
 no-prices ws rs p = ap (λ (l : List (List ℕ)). jobRows ws ++ l) (append-nil (planRows rs))
 
 -- a line 3 more
 more-plan :
     (ws : List ℕ) (rs : List Counted) (r : Counted) (p q : Place)
-    → sawRowsOf (saw p ws rs none) ++ ((3 ∷ r .plate ∷ r .item ∷ r .count ∷ []) ∷ []) ≡ sawRowsOf (saw q ws (rs ++ (r ∷ [])) none)
+    → sawRowsOf (sawOf p ws rs none) ++ ((3 ∷ r .plate ∷ r .item ∷ r .count ∷ []) ∷ []) ≡ sawRowsOf (sawOf q ws (rs ++ (r ∷ [])) none)
 more-plan ws rs r p q =
     rw (no-prices ws rs p, no-prices ws (rs ++ (r ∷ [])) q, planRows-more rs r)
     (append-assoc (jobRows ws) (planRows rs) ((3 ∷ r .plate ∷ r .item ∷ r .count ∷ []) ∷ []))
@@ -97,7 +93,7 @@ more-plan ws rs r p q =
 first-price :
     (ws : List ℕ) (rs : List Counted) (ps : PriceLines) (p q : Place)
     → drop 1 (ps .words) ≡ []
-    → sawRowsOf (saw p ws rs none) ++ ((4 ∷ getD (ps .words) 0 0 ∷ ps .types ∷ ps .residuals ∷ []) ∷ []) ≡ sawRowsOf (saw q ws rs (some ps))
+    → sawRowsOf (sawOf p ws rs none) ++ ((4 ∷ getD (ps .words) 0 0 ∷ ps .types ∷ ps .residuals ∷ []) ∷ []) ≡ sawRowsOf (sawOf q ws rs (some ps))
 unfolding sawRowsOf priceRows priceRowsFrom
 first-price ws rs ps p q e =
     rw (e, no-prices ws rs p)
@@ -107,7 +103,7 @@ first-price ws rs ps p q e =
 more-price :
     (ws : List ℕ) (rs : List Counted) (ps : PriceLines) (x k : ℕ) (p q : Place)
     → length (ps .words) ≡ suc k
-    → sawRowsOf (saw p ws rs (some ps)) ++ (priceRow (ps .types) (suc k) x ∷ []) ≡ sawRowsOf (saw q ws rs (some (withPrice ps x)))
+    → sawRowsOf (sawOf p ws rs (some ps)) ++ (priceRow (ps .types) (suc k) x ∷ []) ≡ sawRowsOf (sawOf q ws rs (some (withPrice ps x)))
 unfolding sawRowsOf
 more-price ws rs ps x k p q e =
     let row : List (List ℕ) = priceRow (ps .types) (suc k) x ∷ [] in
@@ -119,13 +115,13 @@ more-price ws rs ps x k p q e =
 -- a line 3
 plan-read :
     (rows : List (List ℕ)) (ws : List ℕ) (rs : List Counted) (ns : List ℕ)
-    → Past rows (saw body ws rs none)
+    → Past rows (sawOf body ws rs none)
     → OfShape (planLine (typesOf ws)) ns
-    → SawAt (rows ++ (ns ∷ [])) (bodyRead (saw body ws rs none) ns)
+    → SawAt (rows ++ (ns ∷ [])) (bodyRead (sawOf body ws rs none) ns)
 unfolding bodyRead
 plan-read rows ws rs ns p o = rw (o .numbers) (three (o .others) (o .limits))
   where
-    three : (vs : List ℕ) → InLimits (planLine (typesOf ws) .limits) vs → SawAt (rows ++ ((3 ∷ vs) ∷ [])) (bodyRead (saw body ws rs none) (3 ∷ vs))
+    three : (vs : List ℕ) → InLimits (planLine (typesOf ws) .limits) vs → SawAt (rows ++ ((3 ∷ vs) ∷ [])) (bodyRead (sawOf body ws rs none) (3 ∷ vs))
     three [] h = absurd h
     three (a ∷ []) h = absurd (h .2)
     three (a ∷ b ∷ []) h = absurd (h .2 .2)
@@ -143,13 +139,13 @@ plan-read rows ws rs ns p o = rw (o .numbers) (three (o .others) (o .limits))
 -- line 4
 prices-read :
     (rows : List (List ℕ)) (ws : List ℕ) (rs : List Counted) (ns : List ℕ)
-    → Past rows (saw body ws rs none)
+    → Past rows (sawOf body ws rs none)
     → OfShape pricesLine ns
-    → SawAt (rows ++ (ns ∷ [])) (bodyRead (saw body ws rs none) ns)
+    → SawAt (rows ++ (ns ∷ [])) (bodyRead (sawOf body ws rs none) ns)
 unfolding bodyRead
 prices-read rows ws rs ns p o = rw (o .numbers) (three (o .others) (o .limits))
   where
-    three : (vs : List ℕ) → InLimits (pricesLine .limits) vs → SawAt (rows ++ ((4 ∷ vs) ∷ [])) (bodyRead (saw body ws rs none) (4 ∷ vs))
+    three : (vs : List ℕ) → InLimits (pricesLine .limits) vs → SawAt (rows ++ ((4 ∷ vs) ∷ [])) (bodyRead (sawOf body ws rs none) (4 ∷ vs))
     three [] h = absurd h
     three (a ∷ []) h = absurd (h .2)
     three (a ∷ b ∷ []) h = absurd (h .2 .2)
@@ -175,11 +171,11 @@ prices-read rows ws rs ns p o = rw (o .numbers) (three (o .others) (o .limits))
 -- one price more, of k
 price-more :
     (k : ℕ) (rows : List (List ℕ)) (p q : Place) (ws : List ℕ) (rs : List Counted) (ps : PriceLines) (x : ℕ)
-    → Past rows (saw p ws rs (some ps))
+    → Past rows (sawOf p ws rs (some ps))
     → Priced k ps
     → 1 ≤ k
     → x ≤ maxPrice
-    → Past (rows ++ (priceRow (ps .types) k x ∷ [])) (saw q ws rs (some (withPrice ps x))) × Priced (suc k) (withPrice ps x)
+    → Past (rows ++ (priceRow (ps .types) k x ∷ [])) (sawOf q ws rs (some (withPrice ps x))) × Priced (suc k) (withPrice ps x)
 price-more zero rows p q ws rs ps x h w l e = absurd (omega arith)
 price-more (suc k) rows p q ws rs ps x h w l e =
     let size = w .size in (
@@ -213,18 +209,18 @@ module _ (rows : List (List ℕ)) (ws : List ℕ) (rs : List Counted) (ps : Pric
   -- a line 5
   item-price-read :
       (i : ℕ)
-      → Past rows (saw (itemPrices i) ws rs (some ps))
+      → Past rows (sawOf (itemPrices i) ws rs (some ps))
       → Priced i ps
       → 1 ≤ i
       → i ≤ ps .types
-      → SawAt (rows ++ ((5 ∷ i ∷ x ∷ []) ∷ [])) (saw (afterItemPrice (ps .types) (ps .residuals) i) ws rs (some (withPrice ps x)))
+      → SawAt (rows ++ ((5 ∷ i ∷ x ∷ []) ∷ [])) (sawOf (afterItemPrice (ps .types) (ps .residuals) i) ws rs (some (withPrice ps x)))
   unfolding afterItemPrice
   item-price-read i h w l u = go (eqb i (ps .types)) refl (eqb (ps .residuals) 0) refl
     where
       row : priceRow (ps .types) i x ≡ 5 ∷ i ∷ x ∷ []
       row = rw (le-leb i (ps .types) u)
 
-      more : (q : Place) → Past (rows ++ ((5 ∷ i ∷ x ∷ []) ∷ [])) (saw q ws rs (some (withPrice ps x))) × Priced (suc i) (withPrice ps x)
+      more : (q : Place) → Past (rows ++ ((5 ∷ i ∷ x ∷ []) ∷ [])) (sawOf q ws rs (some (withPrice ps x))) × Priced (suc i) (withPrice ps x)
       more q = rw row at (price-more i rows (itemPrices i) q ws rs ps x h w l e)
 
       go :
@@ -232,7 +228,7 @@ module _ (rows : List (List ℕ)) (ws : List ℕ) (rs : List Counted) (ps : Pric
           → eqb i (ps .types) ≡ a
           → (b : Bool)
           → eqb (ps .residuals) 0 ≡ b
-          → SawAt (rows ++ ((5 ∷ i ∷ x ∷ []) ∷ [])) (saw (afterItemPrice (ps .types) (ps .residuals) i) ws rs (some (withPrice ps x)))
+          → SawAt (rows ++ ((5 ∷ i ∷ x ∷ []) ∷ [])) (sawOf (afterItemPrice (ps .types) (ps .residuals) i) ws rs (some (withPrice ps x)))
       go true p true q =
           let n : suc i ≡ 1 + ps .types + ps .residuals = omega (arith, eqb-true i (ps .types) p, eqb-true (ps .residuals) 0 q) in
           rw (p, q) (more done .0, priced-as (suc i) (1 + ps .types + ps .residuals) (withPrice ps x) n (more done .1))
@@ -246,11 +242,11 @@ module _ (rows : List (List ℕ)) (ws : List ℕ) (rs : List Counted) (ps : Pric
   -- a line 6
   plate-price-read :
       (j : ℕ)
-      → Past rows (saw (platePrices j) ws rs (some ps))
+      → Past rows (sawOf (platePrices j) ws rs (some ps))
       → Priced (ps .types + j) ps
       → 1 ≤ j
       → j ≤ ps .residuals
-      → SawAt (rows ++ ((6 ∷ j ∷ x ∷ []) ∷ [])) (saw (afterPlatePrice (ps .residuals) j) ws rs (some (withPrice ps x)))
+      → SawAt (rows ++ ((6 ∷ j ∷ x ∷ []) ∷ [])) (sawOf (afterPlatePrice (ps .residuals) j) ws rs (some (withPrice ps x)))
   unfolding afterPlatePrice
   plate-price-read j h w l u = go (eqb j (ps .residuals)) refl
     where
@@ -262,13 +258,13 @@ module _ (rows : List (List ℕ)) (ws : List ℕ) (rs : List Counted) (ps : Pric
 
       more :
           (q : Place)
-          → Past (rows ++ ((6 ∷ j ∷ x ∷ []) ∷ [])) (saw q ws rs (some (withPrice ps x))) × Priced (suc (ps .types + j)) (withPrice ps x)
+          → Past (rows ++ ((6 ∷ j ∷ x ∷ []) ∷ [])) (sawOf q ws rs (some (withPrice ps x))) × Priced (suc (ps .types + j)) (withPrice ps x)
       more q = rw row at (price-more (ps .types + j) rows (platePrices j) q ws rs ps x h w (omega (arith, l)) e)
 
       go :
           (a : Bool)
           → eqb j (ps .residuals) ≡ a
-          → SawAt (rows ++ ((6 ∷ j ∷ x ∷ []) ∷ [])) (saw (afterPlatePrice (ps .residuals) j) ws rs (some (withPrice ps x)))
+          → SawAt (rows ++ ((6 ∷ j ∷ x ∷ []) ∷ [])) (sawOf (afterPlatePrice (ps .residuals) j) ws rs (some (withPrice ps x)))
       go true p =
           let n : suc (ps .types + j) ≡ 1 + ps .types + ps .residuals = omega (arith, eqb-true j (ps .residuals) p) in
           rw p (more done .0, priced-as (suc (ps .types + j)) (1 + ps .types + ps .residuals) (withPrice ps x) n (more done .1))
@@ -280,7 +276,7 @@ module _ (rows : List (List ℕ)) (ws : List ℕ) (rs : List Counted) (ps : Pric
 -- ---- every line
 
 saw-step : (p : Place) (ws : List ℕ) (rs : List Counted) (o : Option PriceLines) (rows : List (List ℕ)) (ns : List ℕ)
-    → SawForm p rows (saw p ws rs o) → Admitted (sawAdmits (saw p ws rs o)) ns → SawAt (rows ++ (ns ∷ [])) (sawAfter (saw p ws rs o) ns)
+    → SawForm p rows (sawOf p ws rs o) → Admitted (sawAdmits (sawOf p ws rs o)) ns → SawAt (rows ++ (ns ∷ [])) (sawAfter (sawOf p ws rs o) ns)
 unfolding sawAdmits sawAfter
 saw-step first ws rs o rows ns h (inl a) = from-job (types 1) (rows ++ (ns ∷ [])) (drop 1 ns) (first-read rows ns h a)
 saw-step first ws rs o rows ns h (inr a) = absurd a
@@ -292,12 +288,12 @@ saw-step body ws rs none rows ns h (inr (inr a)) = absurd a
 saw-step body ws rs (some ps) rows ns h a = absurd (h .1)
 saw-step (itemPrices i) ws rs none rows ns h a = absurd (h .1)
 saw-step (itemPrices i) ws rs (some ps) rows ns h (inl a) =
-    price-only 5 i ns (λ ns. SawAt (rows ++ (ns ∷ [])) (sawAfter (saw (itemPrices i) ws rs (some ps)) ns)) a
+    price-only 5 i ns (λ ns. SawAt (rows ++ (ns ∷ [])) (sawAfter (sawOf (itemPrices i) ws rs (some ps)) ns)) a
     (λ x e. item-price-read rows ws rs ps x e i (h .0) (h .1 .0) (h .1 .1) (h .1 .2))
 saw-step (itemPrices i) ws rs (some ps) rows ns h (inr a) = absurd a
 saw-step (platePrices j) ws rs none rows ns h a = absurd (h .1)
 saw-step (platePrices j) ws rs (some ps) rows ns h (inl a) =
-    price-only 6 j ns (λ ns. SawAt (rows ++ (ns ∷ [])) (sawAfter (saw (platePrices j) ws rs (some ps)) ns)) a
+    price-only 6 j ns (λ ns. SawAt (rows ++ (ns ∷ [])) (sawAfter (sawOf (platePrices j) ws rs (some ps)) ns)) a
     (λ x e. plate-price-read rows ws rs ps x e j (h .0) (h .1 .0) (h .1 .1) (h .1 .2))
 saw-step (platePrices j) ws rs (some ps) rows ns h (inr a) = absurd a
 saw-step done ws rs o rows ns h a = absurd a

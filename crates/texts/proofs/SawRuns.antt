@@ -1,5 +1,4 @@
 -- A saw text is read back from what it holds: the lines of a job, a plan and prices within their limits bring the text to just these.
--- Assumes nothing.
 use Prim.Native.Nat.{ℕ, suc, _+_, _-_, _≤_, _<_}
 use native.Mathlib.Omega.{arith}
 use mathlib.Core.Path.{_≡_, refl, sym, ap, _∙_}
@@ -10,29 +9,30 @@ use mathlib.Core.Option.{Option, none, some}
 use lib.Dec.{leb, eqb}
 use lib.ListN.{length, getD, drop, length-append}
 use borrow.Author.Tests.{leb-true, leb-false, le-leb, lt-leb, eqb-true, eqb-false, not-false}
+use Rattle.job.specs.Sizes.{maxResiduals}
 use Rattle.job.specs.Verdict.{pass, within, lowest}
 use Rattle.job.specs.Job.{maxTypes}
 use Rattle.plan.specs.Prices.{maxPrice, lowestPrice, priceWords}
+use Rattle.columns.specs.Widths.{mostNumbers}
 use Rattle.columns.specs.Line.{Fit}
 use Rattle.texts.specs.Shape.{planLine, pricesLine}
 use Rattle.texts.specs.JobLines.{Place, first, types, body, itemPrices, platePrices, done, typesOf}
-use Rattle.texts.specs.SawText.{Counted, PriceLines, Saw, sawAdmits, afterItemPrice, afterPlatePrice, bodyRead, sawAfter, sawGrammar}
+use Rattle.texts.specs.SawText.{Counted, PriceLines, Saw, sawAdmits, afterItemPrice, afterPlatePrice, bodyRead, sawAfter, sawGrammar, sawOf}
 use Rattle.texts.specs.Admitted.{OfShape, Runs}
 use Rattle.texts.specs.TextOf.{jobRows, planRows, priceRowsFrom, priceRows, sawRowsOf}
-use Rattle.texts.specs.Held.{PlanLimits, PricesWhole, PricesHeld, SawHeld}
+use Rattle.texts.specs.Held.{PlanLimits, PricesWhole, PricesHeld, SawWhole}
 use Rattle.texts.proofs.Basics.{within-parts, lowest-parts}
 use Rattle.texts.proofs.ShapeLaws.{narrow-plan, narrow-prices, shape-fits, Kinds, Shorter}
 use Rattle.texts.proofs.Running.{Plain, runs-append}
 use Rattle.texts.proofs.JobLaws.{passes-job, board-types}
 use Rattle.texts.proofs.JobRuns.{Opens, job-runs}
 use Rattle.texts.proofs.PlanRows.{priceRow}
-use Rattle.texts.proofs.SawRead.{saw}
 
 -- ---- the grammar
 
 shapes :
     (p : Place) (ws : List ℕ) (rs : List Counted) (o : Option PriceLines)
-    → Kinds (sawAdmits (saw p ws rs o)) × Shorter 9 (sawAdmits (saw p ws rs o))
+    → Kinds (sawAdmits (sawOf p ws rs o)) × Shorter (suc mostNumbers) (sawAdmits (sawOf p ws rs o))
 unfolding sawAdmits
 shapes first ws rs o = omega arith
 shapes (types i) ws rs o = omega arith
@@ -50,7 +50,7 @@ saw-plain =
     }
 
 -- a saw text begins with the job's lines
-pub saw-opens : Opens sawGrammar (λ p ws. saw p ws [] none)
+pub saw-opens : Opens sawGrammar (λ p ws. sawOf p ws [] none)
 unfolding sawAdmits sawAfter
 saw-opens = record { start = refl; admits-first = refl; admits-types = λ i ws. refl; after-first = λ ns. refl; after-types = λ i ws ns. refl }
 
@@ -60,9 +60,9 @@ plan-runs :
     (ws : List ℕ) (before rs : List Counted)
     → typesOf ws ≤ maxTypes
     → PlanLimits (typesOf ws) rs
-    → Runs sawGrammar (saw body ws before none) (planRows rs) (saw body ws (before ++ rs) none)
+    → Runs sawGrammar (sawOf body ws before none) (planRows rs) (sawOf body ws (before ++ rs) none)
 unfolding planRows sawAdmits sawAfter bodyRead
-plan-runs ws before [] n h = ap (λ (l : List Counted). saw body ws l none) (sym (append-nil before))
+plan-runs ws before [] n h = ap (λ (l : List Counted). sawOf body ws l none) (sym (append-nil before))
 plan-runs ws before (r ∷ rs) n h =
     let vs : List ℕ = r .plate ∷ r .item ∷ r .count ∷ [] in
     let shape : OfShape (planLine (typesOf ws)) (3 ∷ vs) = record { others = vs; numbers = refl; limits = omega arith } in (
@@ -118,21 +118,21 @@ price-shape :
     → OfShape (record { kind = kind; running = i ∷ []; limits = record { low = 0; high = maxPrice } ∷ [] }) (kind ∷ i ∷ x ∷ [])
 price-shape kind i x h = record { others = x ∷ []; numbers = refl; limits = omega arith }
 
-module _ (ws : List ℕ) (rs : List Counted) (n m : ℕ) (nh : n ≤ maxTypes) (mh : m ≤ 2047) where
+module _ (ws : List ℕ) (rs : List Counted) (n m : ℕ) (nh : n ≤ maxTypes) (mh : m ≤ maxResiduals) where
   held : List ℕ → Option PriceLines
   held us = some (record { types = n; residuals = m; words = us })
 
   -- one line of prices, the k-th
   price-runs : (k : ℕ) (us : List ℕ) (x : ℕ) (rows : List (List ℕ)) (t : Saw) → 1 ≤ k → k ≤ n + m → x ≤ maxPrice
-      → Runs sawGrammar (saw (placeAt n m (suc k)) ws rs (held (us ++ (x ∷ [])))) rows t
-      → Runs sawGrammar (saw (placeAt n m k) ws rs (held us)) (priceRow n k x ∷ rows) t
+      → Runs sawGrammar (sawOf (placeAt n m (suc k)) ws rs (held (us ++ (x ∷ [])))) rows t
+      → Runs sawGrammar (sawOf (placeAt n m k) ws rs (held us)) (priceRow n k x ∷ rows) t
   unfolding held placeAt sawAdmits sawAfter Fit
   price-runs k us x rows t l h e r = go (leb k n) refl
     where
       go :
           (a : Bool)
           → leb k n ≡ a
-          → Runs sawGrammar (saw (placeAt n m k) ws rs (held us)) (priceRow n k x ∷ rows) t
+          → Runs sawGrammar (sawOf (placeAt n m k) ws rs (held us)) (priceRow n k x ∷ rows) t
       go true p =
           let q = leb-true k n p in
           rw p (inl (price-shape 5 k x e), omega arith, rw (after-item n m k q) r)
@@ -148,7 +148,7 @@ module _ (ws : List ℕ) (rs : List Counted) (n m : ℕ) (nh : n ≤ maxTypes) (
       → length us ≡ k
       → k + length xs ≡ 1 + n + m
       → lowest 2 (λ j y. not (within (lowestPrice j) maxPrice y)) (suc k) xs ≡ pass
-      → Runs sawGrammar (saw (placeAt n m k) ws rs (held us)) (priceRowsFrom n k xs) (saw done ws rs (held (us ++ xs)))
+      → Runs sawGrammar (sawOf (placeAt n m k) ws rs (held us)) (priceRowsFrom n k xs) (sawOf done ws rs (held (us ++ xs)))
   unfolding priceRowsFrom held placeAt
   prices-run k us [] l e s h =
       let p : leb k n ≡ false = lt-leb k n (omega arith) in
@@ -158,16 +158,16 @@ module _ (ws : List ℕ) (rs : List Counted) (n m : ℕ) (nh : n ≤ maxTypes) (
       let p = lowest-parts 2 (λ j y. not (within (lowestPrice j) maxPrice y)) (suc k) x xs h in
       let b = within-parts (lowestPrice (suc k)) maxPrice x (not-false (within (lowestPrice (suc k)) maxPrice x) (p .0)) in
       let z : length (us ++ (x ∷ [])) ≡ suc k = length-append us (x ∷ []) ∙ omega arith in
-      price-runs k us x (priceRowsFrom n (suc k) xs) (saw done ws rs (held (us ++ (x ∷ xs)))) l (omega arith) (b .1)
+      price-runs k us x (priceRowsFrom n (suc k) xs) (sawOf done ws rs (held (us ++ (x ∷ xs)))) l (omega arith) (b .1)
       (rw append-assoc at (prices-run (suc k) (us ++ (x ∷ [])) xs (omega arith) z (omega arith) (p .1)))
 
 -- lines 4, 5 and 6
 line-4-runs :
     (ws : List ℕ) (rs : List Counted) (n m : ℕ) (us : List ℕ)
     → PricesWhole (record { types = n; residuals = m; words = us })
-    → Runs sawGrammar (saw body ws rs none)
+    → Runs sawGrammar (sawOf body ws rs none)
     ((4 ∷ getD us 0 0 ∷ n ∷ m ∷ []) ∷ priceRowsFrom n 1 (drop 1 us))
-    (saw done ws rs (some (record { types = n; residuals = m; words = us })))
+    (sawOf done ws rs (some (record { types = n; residuals = m; words = us })))
 unfolding sawAdmits sawAfter bodyRead priceWords lowestPrice held placeAt
 line-4-runs ws rs n m [] w = let e = w .size in absurd (omega arith)
 line-4-runs ws rs n m (d ∷ xs) w =
@@ -183,19 +183,19 @@ line-4-runs ws rs n m (d ∷ xs) w =
 pub prices-runs :
     (ws : List ℕ) (rs : List Counted) (p : Place) (o : Option PriceLines)
     → PricesHeld p o
-    → Runs sawGrammar (saw body ws rs none) (priceRows o) (saw p ws rs o)
+    → Runs sawGrammar (sawOf body ws rs none) (priceRows o) (sawOf p ws rs o)
 unfolding priceRows
-prices-runs ws rs p none h = ap (λ (q : Place). saw q ws rs none) (sym h)
+prices-runs ws rs p none h = ap (λ (q : Place). sawOf q ws rs none) (sym h)
 prices-runs ws rs p (some ps) h = rw (h .0) (line-4-runs ws rs (ps .types) (ps .residuals) (ps .words) (h .1))
 
 -- all that a saw text holds
-pub saw-runs : (s : Saw) → SawHeld s → Runs sawGrammar (sawGrammar .start) (sawRowsOf s) s
+pub saw-runs : (s : Saw) → SawWhole s → Runs sawGrammar (sawGrammar .start) (sawRowsOf s) s
 unfolding sawRowsOf
 saw-runs s h =
     let j = passes-job (s .job) (h .job) in
     let n = board-types (s .job) (j .board) in
-    runs-append sawGrammar (sawGrammar .start) (saw body (s .job) [] none) s (jobRows (s .job)) (planRows (s .plan) ++ priceRows (s .prices))
-    (job-runs sawGrammar (λ p ws. saw p ws [] none) saw-opens (s .job) j)
-    (runs-append sawGrammar (saw body (s .job) [] none) (saw body (s .job) (s .plan) none) s (planRows (s .plan)) (priceRows (s .prices))
+    runs-append sawGrammar (sawGrammar .start) (sawOf body (s .job) [] none) s (jobRows (s .job)) (planRows (s .plan) ++ priceRows (s .prices))
+    (job-runs sawGrammar (λ p ws. sawOf p ws [] none) saw-opens (s .job) j)
+    (runs-append sawGrammar (sawOf body (s .job) [] none) (sawOf body (s .job) (s .plan) none) s (planRows (s .plan)) (priceRows (s .prices))
     (plan-runs (s .job) [] (s .plan) (n .1) (h .plan))
     (prices-runs (s .job) (s .plan) (s .place) (s .prices) (h .prices)))

@@ -1,5 +1,4 @@
 -- The line row of one line, both ways: it passes just the lines that are of an admitted shape with each number within its limits.
--- Assumes nothing.
 use Prim.Native.Nat.{ℕ, suc, _+_, _<_}
 use native.Mathlib.Omega.{arith}
 use mathlib.Core.Path.{_≡_, refl, ap, _∙_}
@@ -12,33 +11,35 @@ use lib.ListN.{length, length-append}
 use lib.Seq.{drop-append-seam}
 use borrow.Author.Tests.{eqb-true, eq-eqb}
 use Rattle.job.specs.Verdict.{pass, refuse, refuseIf, within}
+use Rattle.job.proofs.Tests.{not-both, and-both, within-limits}
+use Rattle.job.proofs.Verdicts.{pass-not-refuse}
 use Rattle.columns.specs.Group.{limit}
 use Rattle.columns.specs.Line.{Fit, lineOf, readLine}
 use Rattle.columns.proofs.ReadLaws.{read-written, written-read}
-use Rattle.texts.specs.Shape.{Limit, Shape, jobLine, itemLine, planLine, pricesLine, itemPriceLine, platePriceLine, layoutLine, begins, formed, limited, values, numbersRow, lineRow}
+use Rattle.texts.specs.Shape.{Limit, Shape, jobLine, itemLine, planLine, pricesLine, layoutLine, begins, formed, eachWithin, values, numbersRow, lineRow}
 use Rattle.texts.specs.Admitted.{InLimits, OfShape, Admitted}
-use Rattle.texts.proofs.Basics.{not-both, and-parts, and-both, within-parts, within-both, pass-not-refuse, unless-passed}
+use Rattle.texts.proofs.Basics.{and-parts, within-parts, unless-passed}
 
 -- ---- each value within its limits
 
 -- the test says so in plain numbers, and the other way round
-pub limited-in : (ls : List Limit) (vs : List ℕ) → length vs ≡ length ls → limited ls vs ≡ true → InLimits ls vs
-unfolding limited
-limited-in [] [] e h = tt
-limited-in [] (v ∷ vs) e h = omega arith
-limited-in (l ∷ ls) [] e h = omega arith
-limited-in (l ∷ ls) (v ∷ vs) e h =
-    let p = and-parts (within (l .low) (l .high) v) (limited ls vs) h in
+pub each-within-in : (ls : List Limit) (vs : List ℕ) → length vs ≡ length ls → eachWithin ls vs ≡ true → InLimits ls vs
+unfolding eachWithin
+each-within-in [] [] e h = tt
+each-within-in [] (v ∷ vs) e h = omega arith
+each-within-in (l ∷ ls) [] e h = omega arith
+each-within-in (l ∷ ls) (v ∷ vs) e h =
+    let p = and-parts (within (l .low) (l .high) v) (eachWithin ls vs) h in
     let q = within-parts (l .low) (l .high) v (p .0) in
-    (q .0, q .1, limited-in ls vs (omega arith) (p .1))
+    (q .0, q .1, each-within-in ls vs (omega arith) (p .1))
 
-pub in-limited : (ls : List Limit) (vs : List ℕ) → InLimits ls vs → limited ls vs ≡ true
-unfolding limited
-in-limited [] [] h = refl
-in-limited [] (v ∷ vs) h = refl
-in-limited (l ∷ ls) [] h = refl
-in-limited (l ∷ ls) (v ∷ vs) h =
-    and-both (within (l .low) (l .high) v) (limited ls vs) (within-both (l .low) (l .high) v (h .0) (h .1)) (in-limited ls vs (h .2))
+pub in-each-within : (ls : List Limit) (vs : List ℕ) → InLimits ls vs → eachWithin ls vs ≡ true
+unfolding eachWithin
+in-each-within [] [] h = refl
+in-each-within [] (v ∷ vs) h = refl
+in-each-within (l ∷ ls) [] h = refl
+in-each-within (l ∷ ls) (v ∷ vs) h =
+    and-both (within (l .low) (l .high) v) (eachWithin ls vs) (within-limits (l .low) (l .high) v (h .0) (h .1)) (in-each-within ls vs (h .2))
 
 -- as many values as limits
 pub in-limits-length : (ls : List Limit) (vs : List ℕ) → InLimits ls vs → length vs ≡ length ls
@@ -100,16 +101,16 @@ module _ (s : Shape) where
   unfolding numbersRow
   shape-passes line ss ns o =
       let v : values s ns ≡ o .others = ap (values s) (o .numbers) ∙ values-are (o .others) in
-      let l : limited (s .limits) (values s ns) ≡ true = rw v (in-limited (s .limits) (o .others) (o .limits)) in
+      let l : eachWithin (s .limits) (values s ns) ≡ true = rw v (in-each-within (s .limits) (o .others) (o .limits)) in
       rw (shape-formed ns o, numbersRow, l)
 
   -- what is of the form and passes is of the shape
-  formed-passes : (line : ℕ) (ns : List ℕ) → formed s ns ≡ true → refuseIf (not (limited (s .limits) (values s ns))) 2 line ≡ pass → OfShape s ns
+  formed-passes : (line : ℕ) (ns : List ℕ) → formed s ns ≡ true → refuseIf (not (eachWithin (s .limits) (values s ns))) 2 line ≡ pass → OfShape s ns
   formed-passes line ns h p =
       let (vs, e, size) = is-formed ns h in
       let v : values s ns ≡ vs = ap (values s) e ∙ values-are vs in
-      let l : limited (s .limits) (values s ns) ≡ true = unless-passed (limited (s .limits) (values s ns)) 2 line p in
-      record { others = vs; numbers = e; limits = limited-in (s .limits) vs size (rw v at l) }
+      let l : eachWithin (s .limits) (values s ns) ≡ true = unless-passed (eachWithin (s .limits) (values s ns)) 2 line p in
+      record { others = vs; numbers = e; limits = each-within-in (s .limits) vs size (rw v at l) }
 
 -- numbers that pass are of an admitted shape
 pub row-admitted : (line : ℕ) (ss : List Shape) (ns : List ℕ) → numbersRow line ss ns ≡ pass → Admitted ss ns
@@ -121,7 +122,7 @@ row-admitted line (s ∷ ss) ns h = go (formed s ns) refl (row-admitted line ss 
         (t : Bool)
         → formed s ns ≡ t
         → (numbersRow line ss ns ≡ pass → Admitted ss ns)
-        → elim t [ true ↦ refuseIf (not (limited (s .limits) (values s ns))) 2 line | false ↦ numbersRow line ss ns ] ≡ pass
+        → elim t [ true ↦ refuseIf (not (eachWithin (s .limits) (values s ns))) 2 line | false ↦ numbersRow line ss ns ] ≡ pass
         → OfShape s ns ⊎ Admitted ss ns
     go true e ih p = inl (formed-passes s line ns e p)
     go false e ih p = inr (ih p)
@@ -156,7 +157,7 @@ admitted-row line (s ∷ ss) ns k (inr a) = rw (other-unformed s ss ns (k .0) a,
 pub row-refuses : (line : ℕ) (ss : List Shape) (ns : List ℕ) (n p : ℕ) → numbersRow line ss ns ≡ refuse n p → ((n ≡ 1) ⊎ (n ≡ 2)) × (p ≡ line)
 unfolding numbersRow
 row-refuses line [] ns n p h = (inl (cc), cc)
-row-refuses line (s ∷ ss) ns n p h = go (formed s ns) (limited (s .limits) (values s ns)) (row-refuses line ss ns n p) h
+row-refuses line (s ∷ ss) ns n p h = go (formed s ns) (eachWithin (s .limits) (values s ns)) (row-refuses line ss ns n p) h
   where
     go : (t u : Bool) → (numbersRow line ss ns ≡ refuse n p → ((n ≡ 1) ⊎ (n ≡ 2)) × (p ≡ line))
         → elim t [ true ↦ refuseIf (not u) 2 line | false ↦ numbersRow line ss ns ] ≡ refuse n p → ((n ≡ 1) ⊎ (n ≡ 2)) × (p ≡ line)
@@ -177,11 +178,6 @@ line-admitted line ss bs h = go (readLine bs) refl h
     go : (o : Option (List ℕ)) → readLine bs ≡ o → lineRow line ss o ≡ pass → (ns : List ℕ) × (bs ≡ lineOf ns) × Fit ns × Admitted ss ns
     go none e p = absurd (pass-not-refuse p refl)
     go (some ns) e p = let w = written-read bs ns e in (ns, w .0, w .1, row-admitted line ss ns p)
-
--- what is written of numbers of an admitted shape passes
-pub written-passes : (line : ℕ) (ss : List Shape) (ns : List ℕ) → Kinds ss → Admitted ss ns → Fit ns → lineRow line ss (readLine (lineOf ns)) ≡ pass
-unfolding lineRow
-written-passes line ss ns k a f = rw (read-written ns f) (admitted-row line ss ns k a)
 
 -- the kind, the running number and the limits of a shape fit nine columns
 abbrev pub Below : List Limit → Type 0
@@ -221,7 +217,7 @@ pub shape-read-back :
 unfolding lineRow
 shape-read-back line s ss ns o f = rw (read-written ns f) (shape-passes s line ss ns o)
 
--- the seven kinds; i and j are running numbers, n the number of item types
+-- the kinds with a running number i or of n item types, and those without
 pub narrow-job : Narrow jobLine
 unfolding Fit
 narrow-job = omega arith
@@ -237,14 +233,6 @@ narrow-plan n h = omega arith
 pub narrow-prices : Narrow pricesLine
 unfolding Fit
 narrow-prices = omega arith
-
-pub narrow-item-price : (i : ℕ) → i < limit → Narrow (itemPriceLine i)
-unfolding Fit
-narrow-item-price i h = omega arith
-
-pub narrow-plate-price : (j : ℕ) → j < limit → Narrow (platePriceLine j)
-unfolding Fit
-narrow-plate-price j h = omega arith
 
 pub narrow-layout : (n : ℕ) → n < limit → Narrow (layoutLine n)
 unfolding Fit

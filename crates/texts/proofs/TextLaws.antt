@@ -1,5 +1,4 @@
 -- The laws of texts, gathered.
--- Assumes nothing.
 use Prim.Native.Nat.{ℕ, _≤_}
 use native.Mathlib.Omega.{arith}
 use mathlib.Core.List.{List, _∷_}
@@ -11,6 +10,7 @@ use Rattle.texts.specs.TextLaws.{InParts, AsCalls, TextLaws}
 use Rattle.texts.proofs.ShapeLaws.{line-admitted, shape-read-back}
 use Rattle.texts.proofs.ReaderLaws.{fed-append, fed-refused, fed-written}
 use Rattle.texts.proofs.ReadSoFar.{sound}
+use Rattle.texts.proofs.WholeTexts.{row-begun, row-missing}
 use Rattle.texts.proofs.Prefix.{lines-prefix}
 use Rattle.texts.proofs.LinesIn.{lines-both-ways}
 use Rattle.texts.proofs.SawTexts.{saw-both-ways}
@@ -28,6 +28,8 @@ in-parts g =
       refused = fed-refused g;
       line = λ r ns v l e f k. fed-written g r ns (record { passed = v; few = l }) e f k;
       over = λ bs b cs v l. lines-prefix g bs (b ∷ cs) v l (omega arith);
+      unended = row-begun g;
+      missing = row-missing g;
       kept = λ bs. sound g bs .short;
     }
 

@@ -1,5 +1,4 @@
 -- Document 01, "Texts": in plain numbers, a line of a kind within its limits, the lines that a text runs through, and a whole text.
--- Assumes nothing.
 use Prim.Native.Nat.{ℕ, _≤_}
 use mathlib.Core.Path.{_≡_}
 use mathlib.Core.Logic.{_⊎_}

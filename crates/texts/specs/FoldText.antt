@@ -1,13 +1,12 @@
 -- Document 01, "Texts": the fold text, "kinds 1, 2 and 7", and what the fold program writes, "lines of kind 3, or one line 9 alone".
--- Assumes nothing.
 use Prim.Native.Nat.{ℕ}
 use mathlib.Core.Bool.{Bool, true, false}
 use mathlib.Core.List.{List, [], _∷_, _++_}
 use lib.Dec.{eqb}
 use lib.ListN.{drop}
 use Rattle.job.specs.Verdict.{Verdict, _then_}
-use Rattle.job.specs.Job.{Job, jobOf, admission}
-use Rattle.listing.specs.Listing.{Cut, Listing, modelRow, listingOf}
+use Rattle.job.specs.Job.{jobOf, admission}
+use Rattle.listing.specs.Listing.{Cut, modelRow, listingOf}
 use Rattle.layouts.specs.Lines.{rowsOf, setOf}
 use Rattle.layouts.specs.LayoutsRow.{layoutsRow}
 use Rattle.layouts.specs.Fold.{folded}
@@ -21,6 +20,10 @@ pub record Fold : Type 0 where
   pub place : Place
   pub job : List ℕ
   pub layouts : List ℕ
+
+-- a fold text by its parts
+abbrev pub foldOf : Place → List ℕ → List ℕ → Fold
+foldOf place ws us = record { place = place; job = ws; layouts = us }
 
 -- which lines are admitted
 unfoldable pub foldAdmits : Fold → List Shape

@@ -1,10 +1,10 @@
 -- Document 01, "Texts" and "Where each number is given": what a text that passes the line row holds, as words and limits of the calls.
--- Assumes nothing.
 use Prim.Native.Nat.{ℕ, _+_, _≤_}
 use mathlib.Core.Path.{_≡_}
 use mathlib.Core.List.{List, [], _∷_, flatMap}
 use mathlib.Core.Option.{Option, none, some}
 use lib.ListN.{length}
+use Rattle.job.specs.Sizes.{maxResiduals}
 use Rattle.job.specs.Verdict.{pass}
 use Rattle.job.specs.Job.{maxTypes, maxPieces, jobOf, jobWords}
 use Rattle.plan.specs.Prices.{priceWords}
@@ -18,7 +18,7 @@ use Rattle.texts.specs.TextOf.{sawRowsOf, foldRowsOf}
 
 -- a line 3 within its limits, of n item types
 pub record InPlan (n : ℕ) (r : Counted) : Type 0 where
-  pub plate : r .plate ≤ 2047
+  pub plate : r .plate ≤ maxResiduals
   pub low : 1 ≤ r .item
   pub high : r .item ≤ n
   pub counted : 1 ≤ r .count
@@ -33,7 +33,7 @@ PlanLimits n (r ∷ rs) = InPlan n r × PlanLimits n rs
 pub record PricesWhole (ps : PriceLines) : Type 0 where
   pub low : 1 ≤ ps .types
   pub high : ps .types ≤ maxTypes
-  pub residuals : ps .residuals ≤ 2047
+  pub residuals : ps .residuals ≤ maxResiduals
   pub size : length (ps .words) ≡ 1 + ps .types + ps .residuals
   pub words : priceWords (ps .words) ≡ pass
 
@@ -43,13 +43,13 @@ PricesHeld p none = p ≡ body
 PricesHeld p (some ps) = (p ≡ done) × PricesWhole ps
 
 -- a saw text holds job words that pass their own row, lines 3 within their limits, and no prices or whole ones
-pub record SawHeld (s : Saw) : Type 0 where
+pub record SawWhole (s : Saw) : Type 0 where
   pub job : jobWords (s .job) ≡ pass
   pub plan : PlanLimits (typesOf (s .job)) (s .plan)
   pub prices : PricesHeld (s .place) (s .prices)
 
 -- a fold text holds job words and layout words that pass their own rows
-pub record FoldHeld (f : Fold) : Type 0 where
+pub record FoldWhole (f : Fold) : Type 0 where
   pub place : f .place ≡ body
   pub job : jobWords (f .job) ≡ pass
   pub layouts : layoutWords (jobOf (f .job)) (f .layouts) ≡ pass
@@ -73,7 +73,7 @@ pub record BothWays {S : Type 0} (g : Grammar S) (Held : S → Type 0) (rows : S
 
 -- saw texts and fold texts
 abbrev pub SawBothWays : Type 0
-SawBothWays = BothWays sawGrammar SawHeld sawRowsOf
+SawBothWays = BothWays sawGrammar SawWhole sawRowsOf
 
 abbrev pub FoldBothWays : Type 0
-FoldBothWays = BothWays foldGrammar FoldHeld foldRowsOf
+FoldBothWays = BothWays foldGrammar FoldWhole foldRowsOf

@@ -1,8 +1,7 @@
 -- Document 01, "Texts": where a text stands, and its lines of kinds 1 and 2, with which both texts begin.
--- Assumes nothing.
 use Prim.Native.Nat.{ℕ, suc}
-use mathlib.Core.Bool.{Bool, true, false, cond}
-use mathlib.Core.List.{List, []}
+use mathlib.Core.Bool.{cond}
+use mathlib.Core.List.{List}
 use lib.Dec.{eqb}
 use lib.ListN.{getD}
 

@@ -1,4 +1,5 @@
--- The definitions of this crate: the shapes of lines, the reader of a text, the saw text and the fold text.
+-- The definitions of this crate: the bytes of lines, the shapes of lines, the reader of a text, the saw text and the fold text.
+pub mod Widths
 pub mod Shape
 pub mod Reader
 pub mod JobLines

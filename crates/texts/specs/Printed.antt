@@ -1,5 +1,4 @@
 -- Document 01, "Texts": any text of lines read as its numbers, what the programs write as numbers, and what it says when it is read back.
--- Assumes nothing.
 use Prim.Native.Nat.{ℕ, suc, _+_, _≤_}
 use mathlib.Core.Path.{_≡_}
 use mathlib.Core.Bool.{true, false, cond}

@@ -1,5 +1,4 @@
 -- Document 01, "Texts": a text read byte by byte, line by line, to its end or to the first line that is refused.
--- Assumes nothing.
 use Prim.Native.Nat.{ℕ, suc}
 use mathlib.Core.Bool.{Bool, true, false, not}
 use mathlib.Core.List.{List, [], _∷_, _++_}
@@ -9,6 +8,7 @@ use lib.ListN.{length}
 use Rattle.job.specs.Lists.{nonEmpty}
 use Rattle.job.specs.Verdict.{Verdict, pass, refuse, _then_, refuseIf}
 use Rattle.columns.specs.Line.{lineOf, readLine}
+use Rattle.texts.specs.Widths.{placementLineBytes}
 use Rattle.texts.specs.Shape.{Shape, lineRow}
 
 -- "a text's 100,000th line is 1, whatever it holds": at most 99,999 lines are admitted
@@ -17,7 +17,7 @@ maxLines = 99999
 
 -- the bytes of the longest line, one of kind 7
 abbrev pub longestLine : ℕ
-longestLine = 73
+longestLine = placementLineBytes
 
 -- how a kind of text goes on: where it starts, which lines are admitted, what an admitted line makes of where it stands, and whether the text may end there
 pub record Grammar (S : Type 0) : Type 0 where

@@ -1,19 +1,18 @@
 -- Document 01, "Texts": the saw text, "kinds 1, 2, 3 and, if present, 4, 5, 6", and what the saw program writes, "kinds 7 and 8, or one line 9 alone".
--- Assumes nothing.
 use Prim.Native.Nat.{ℕ, zero, suc}
 use mathlib.Core.Bool.{Bool, true, false, cond}
 use mathlib.Core.List.{List, [], _∷_, _++_, flatMap}
 use mathlib.Core.Option.{Option, none, some}
-use lib.Dec.{ltb, leb, eqb}
+use lib.Dec.{leb, eqb}
 use lib.ListN.{length, getD, drop}
 use Rattle.job.specs.Lists.{sumOf}
 use Rattle.job.specs.Verdict.{Verdict, pass, refuse, _then_, lowest}
 use Rattle.job.specs.Job.{Job, jobOf, admission}
 use Rattle.listing.specs.Listing.{Listing, modelRow, listingOf}
-use Rattle.plan.specs.Plan.{planRow, boards}
-use Rattle.plan.specs.Prices.{Prices, pricesOf, modelSized, pricesRow, priceSum, fewest}
+use Rattle.plan.specs.Plan.{planRow}
+use Rattle.plan.specs.Prices.{pricesOf, modelSized, pricesRow, priceSum, fewest}
 use Rattle.layouts.specs.Placement.{Placement}
-use Rattle.layouts.specs.Unfold.{Run, unfolded}
+use Rattle.layouts.specs.Unfold.{unfolded}
 use Rattle.layouts.specs.Fold.{cutOf}
 use Rattle.columns.specs.Line.{lineOf}
 use Rattle.texts.specs.Shape.{Shape, jobLine, itemLine, planLine, pricesLine, itemPriceLine, platePriceLine}
@@ -38,6 +37,10 @@ pub record Saw : Type 0 where
   pub job : List ℕ
   pub plan : List Counted
   pub prices : Option PriceLines
+
+-- a saw text by its parts
+abbrev pub sawOf : Place → List ℕ → List Counted → Option PriceLines → Saw
+sawOf place ws rs ps = record { place = place; job = ws; plan = rs; prices = ps }
 
 -- which lines are admitted
 unfoldable pub sawAdmits : Saw → List Shape

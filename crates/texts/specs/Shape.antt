@@ -1,14 +1,13 @@
 -- Document 01, "Texts": the kinds of lines, the limits of their numbers, and the line row of one line, 1 and 2.
--- Assumes nothing.
 use Prim.Native.Nat.{ℕ, _+_}
 use mathlib.Core.Bool.{Bool, true, false, not, _&&_}
 use mathlib.Core.List.{List, [], _∷_}
 use mathlib.Core.Option.{Option, none, some}
 use lib.Dec.{eqb}
 use lib.ListN.{length, drop}
+use Rattle.job.specs.Sizes.{maxResiduals}
 use Rattle.job.specs.Verdict.{Verdict, refuse, refuseIf, within}
 use Rattle.job.specs.Job.{maxSide, maxTypes, maxPieces}
-use Rattle.listing.specs.Listing.{maxPlates}
 use Rattle.plan.specs.Prices.{maxPrice}
 
 -- the lowest and the highest value of a number
@@ -39,11 +38,11 @@ itemLine i = shape 2 (i ∷ []) (1 to maxSide ∷ 1 to maxSide ∷ 1 to maxPiece
 
 -- kind 3: plate, item, count; the greatest plate is 2,047, one below the number of plate types
 abbrev pub planLine : ℕ → Shape
-planLine n = shape 3 [] (0 to 2047 ∷ 1 to n ∷ 1 to maxPieces ∷ [])
+planLine n = shape 3 [] (0 to maxResiduals ∷ 1 to n ∷ 1 to maxPieces ∷ [])
 
 -- kind 4: D, n, m
 abbrev pub pricesLine : Shape
-pricesLine = shape 4 [] (1 to maxPrice ∷ 1 to maxTypes ∷ 0 to 2047 ∷ [])
+pricesLine = shape 4 [] (1 to maxPrice ∷ 1 to maxTypes ∷ 0 to maxResiduals ∷ [])
 
 -- kind 5: type, price; kind 6: plate type, price; each in order
 abbrev pub itemPriceLine : ℕ → Shape
@@ -70,10 +69,10 @@ formed s ns =
     begins (s .kind ∷ s .running) ns && eqb (length ns) (1 + length (s .running) + length (s .limits))
 
 -- each value is within its limits
-unfoldable pub limited : List Limit → List ℕ → Bool
-limited [] ns = true
-limited (l ∷ ls) [] = true
-limited (l ∷ ls) (n ∷ ns) = within (l .low) (l .high) n && limited ls ns
+unfoldable pub eachWithin : List Limit → List ℕ → Bool
+eachWithin [] ns = true
+eachWithin (l ∷ ls) [] = true
+eachWithin (l ∷ ls) (n ∷ ns) = within (l .low) (l .high) n && eachWithin ls ns
 
 -- the numbers of a line after its kind and its running number
 unfoldable pub values : Shape → List ℕ → List ℕ
@@ -84,7 +83,7 @@ unfoldable pub numbersRow : ℕ → List Shape → List ℕ → Verdict
 numbersRow line [] ns = refuse 1 line
 numbersRow line (s ∷ ss) ns =
     elim (formed s ns) [
-      | true ↦ refuseIf (not (limited (s .limits) (values s ns))) 2 line
+      | true ↦ refuseIf (not (eachWithin (s .limits) (values s ns))) 2 line
       | false ↦ numbersRow line ss ns
     ]
 

@@ -1,11 +1,12 @@
 -- What holds of texts, as statements: lines and texts both ways, texts in parts, how much of a text decides, and texts as calls.
--- Assumes nothing.
-use Prim.Native.Nat.{ℕ, _≤_, _<_}
+use Prim.Native.Nat.{ℕ, suc, _+_, _-_, _*_, _≤_, _<_}
 use mathlib.Core.Path.{_≡_}
 use mathlib.Core.Logic.{_↔_}
+use mathlib.Core.Bool.{false}
 use mathlib.Core.List.{List, [], _∷_, _++_}
 use mathlib.Core.Option.{some}
 use lib.ListN.{length, take}
+use Rattle.job.specs.Sizes.{maxTypes}
 use Rattle.job.specs.Verdict.{pass, refuse}
 use Rattle.job.specs.Buffers.{filled, platesSize, cutsSize, countsSize}
 use Rattle.job.specs.Job.{jobOf}
@@ -13,13 +14,15 @@ use Rattle.listing.specs.Listing.{listingOf}
 use Rattle.plan.specs.PlanCall.{planVerdict}
 use Rattle.plan.specs.PriceCall.{priceVerdict}
 use Rattle.layouts.specs.FoldCall.{foldVerdict}
+use Rattle.columns.specs.Widths.{mostNumbers}
 use Rattle.columns.specs.Line.{Fit, lineOf, readLine}
+use Rattle.texts.specs.Widths.{placementLineBytes, jobLineBytes, typeLineBytes, planLineBytes}
 use Rattle.texts.specs.Shape.{Shape, lineRow}
-use Rattle.texts.specs.Reader.{Grammar, Reader, started, lineRead, fed, textRow}
+use Rattle.texts.specs.Reader.{Grammar, Reader, started, lineRead, fed, textRow, maxLines}
 use Rattle.texts.specs.SawText.{PriceLines, Saw, sawGrammar, planCounts, sawRows, sawText}
 use Rattle.texts.specs.FoldText.{Fold, foldGrammar, foldRows, foldText}
 use Rattle.texts.specs.Admitted.{OfShape, Admitted}
-use Rattle.texts.specs.Held.{SawHeld, FoldHeld, SawBothWays, FoldBothWays}
+use Rattle.texts.specs.Held.{SawWhole, FoldWhole, SawBothWays, FoldBothWays}
 use Rattle.texts.specs.Printed.{LinesBothWays, PrintedBack}
 
 -- a line, both ways
@@ -50,45 +53,62 @@ pub record InParts {S : Type 0} (g : Grammar S) : Type 0 where
   pub line :
       (r : Reader S) (ns : List ℕ)
       → r .verdict ≡ pass
-      → r .lines < 99999
+      → r .lines < maxLines
       → r .pending ≡ []
       → Fit ns
-      → length ns ≤ 8
+      → length ns ≤ mostNumbers
       → fed g r (lineOf ns) ≡ lineRead g r (some ns)
   -- any byte after 99,999 lines is 1, line 100,000
   pub over :
       (bs : List ℕ) (b : ℕ) (cs : List ℕ)
       → fed g (started g) bs .verdict ≡ pass
-      → fed g (started g) bs .lines ≡ 99999
+      → fed g (started g) bs .lines ≡ maxLines
       → fed g (started g) (bs ++ (b ∷ cs)) .verdict ≡ refuse 1 100000
+  -- a last line without byte 10 is 1
+  pub unended : (r : Reader S) → r .verdict ≡ pass → 0 < length (r .pending) → textRow g r ≡ refuse 1 (suc (r .lines))
+  -- "a missing line is named as one past the last"
+  pub missing :
+      (r : Reader S)
+      → r .verdict ≡ pass
+      → r .pending ≡ []
+      → g .complete (r .state) ≡ false
+      → textRow g r ≡ refuse 1 (suc (r .lines))
   -- what a reader keeps of a line that has begun is at most 72 bytes
-  pub kept : (bs : List ℕ) → length (fed g (started g) bs .pending) ≤ 72
+  pub kept : (bs : List ℕ) → length (fed g (started g) bs .pending) < placementLineBytes
 
--- how much of a text decides
+-- the bytes of the longest saw text, 3,700,341: line 1, 40 lines 2, and a line 3 for each of the 99,958 lines after them
+abbrev pub longestSawText : ℕ
+longestSawText = jobLineBytes + typeLineBytes * maxTypes + planLineBytes * (maxLines - 1 - maxTypes)
+
+-- the bytes of the longest fold text, 7,299,882: line 1, one line 2, and a line 7 for each of the 99,997 lines after them
+abbrev pub longestFoldText : ℕ
+longestFoldText = jobLineBytes + typeLineBytes + placementLineBytes * (maxLines - 2)
+
+-- how much of a text decides: as many bytes as the longest has, and one more
 pub record Decided : Type 0 where
-  pub saw-bytes : (bs : List ℕ) → textRow sawGrammar (fed sawGrammar (started sawGrammar) bs) ≡ pass → length bs ≤ 3700341
-  pub fold-bytes : (bs : List ℕ) → textRow foldGrammar (fed foldGrammar (started foldGrammar) bs) ≡ pass → length bs ≤ 7299882
-  pub saw : (n : ℕ) (bs : List ℕ) → 3700342 ≤ n → sawText (take n bs) ≡ sawText bs
-  pub fold : (n : ℕ) (bs : List ℕ) → 7299883 ≤ n → foldText (take n bs) ≡ foldText bs
+  pub saw-bytes : (bs : List ℕ) → textRow sawGrammar (fed sawGrammar (started sawGrammar) bs) ≡ pass → length bs ≤ longestSawText
+  pub fold-bytes : (bs : List ℕ) → textRow foldGrammar (fed foldGrammar (started foldGrammar) bs) ≡ pass → length bs ≤ longestFoldText
+  pub saw : (n : ℕ) (bs : List ℕ) → longestSawText < n → sawText (take n bs) ≡ sawText bs
+  pub fold : (n : ℕ) (bs : List ℕ) → longestFoldText < n → foldText (take n bs) ≡ foldText bs
 
 -- texts and calls, lent and passed buffers of their full sizes
 pub record AsCalls (plates cuts : List ℕ) : Type 0 where
   -- what a saw text accepts, the plan test and the price test accept
   pub plan :
       (s : Saw)
-      → SawHeld s
+      → SawWhole s
       → sawRows s ≡ pass
       → planVerdict (s .job) (filled countsSize (planCounts (listingOf (jobOf (s .job))) (s .plan))) plates cuts ≡ pass
   pub prices :
       (s : Saw) (ps : PriceLines)
-      → SawHeld s
+      → SawWhole s
       → sawRows s ≡ pass
       → s .prices ≡ some ps
       → priceVerdict (s .job) (ps .words) plates cuts ≡ pass
   -- a fold text is accepted just where folding accepts its words
   pub fold :
       (f : Fold) (counts : List ℕ)
-      → FoldHeld f
+      → FoldWhole f
       → countsSize ≤ length counts
       → foldRows f ≡ pass ↔ foldVerdict (f .job) (f .layouts) plates cuts counts ≡ pass
 

@@ -1,11 +1,11 @@
 -- Document 01, "Texts": the lines of a text, as numbers, from what the text holds: job words, plan, prices, layout words.
--- Assumes nothing.
 use Prim.Native.Nat.{ℕ, suc, _-_}
 use mathlib.Core.Bool.{cond}
 use mathlib.Core.List.{List, [], _∷_, _++_, map}
 use mathlib.Core.Option.{Option, none, some}
 use lib.Dec.{leb}
 use lib.ListN.{getD, take, drop}
+use Rattle.job.specs.Sizes.{wordsOfHead}
 use Rattle.layouts.specs.Placement.{Placement}
 use Rattle.layouts.specs.Lines.{rowsOf}
 use Rattle.texts.specs.SawText.{Counted, PriceLines, Saw}
@@ -20,7 +20,7 @@ itemRows i (w ∷ h ∷ d ∷ ws) = (2 ∷ i ∷ w ∷ h ∷ d ∷ []) ∷ itemR
 
 -- line 1 and the lines 2 of job words
 unfoldable pub jobRows : List ℕ → List (List ℕ)
-jobRows ws = (1 ∷ take 5 ws) ∷ itemRows 1 (drop 5 ws)
+jobRows ws = (1 ∷ take wordsOfHead ws) ∷ itemRows 1 (drop wordsOfHead ws)
 
 -- the lines 3 of a plan
 unfoldable pub planRows : List Counted → List (List ℕ)

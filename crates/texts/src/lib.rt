@@ -1,1 +1,2 @@
 // The saw text and the fold text.
+pub mod widths;

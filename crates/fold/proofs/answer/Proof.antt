@@ -1,4 +1,4 @@
--- `answer` reads some text and ends it. Assumes nothing.
+-- `answer` reads some text and ends it.
 use denote.Ref.{now}
 use borrow.Author.Needs.{needs}
 use Rattle.fold.proofs.Outputs.{some-answer, answer-fits}

@@ -1,10 +1,11 @@
--- `read` feeds one part after another: between two parts some text has been read. Assumes nothing.
+-- `read` feeds one part after another: between two parts some text has been read.
 use Prim.Native.Nat.{_-_}
 use native.Mathlib.Omega.{arith}
-use mathlib.Core.Path.{_≡_, refl, _∙_}
+use mathlib.Core.Path.{refl, _∙_}
 use mathlib.Core.List.{[]}
 use borrow.Author.Needs.{needs}
-use Rattle.fold_reader.proofs.CodeSplits.{nothing-read, part-read}
+use Rattle.fold_text_reader.proofs.CodeSplits.{nothing-read, part-read}
+use Rattle.fold.specs.Output.{mostParts}
 use Rattle.fold.proofs.Outputs.{Reading}
 use Rattle.fold.proofs.read.Statement.{statement}
 use Rattle.fold.proofs.read.Tie as tie
@@ -13,7 +14,7 @@ abbrev Inv-loop : tie.InvT-loop
 Inv-loop part₀ job₀ layouts₀ reader₀ parts₀ part job layouts reader parts = Reading part₀ job₀ layouts₀ part job layouts reader
 
 abbrev μ-loop : tie.MeasureT-loop
-μ-loop part₀ job₀ layouts₀ reader₀ parts₀ part job layouts reader parts = 112 - parts
+μ-loop part₀ job₀ layouts₀ reader₀ parts₀ part job layouts reader parts = mostParts - parts
 
 loop-holds : tie.Need-loop-holds Inv-loop μ-loop
 loop-holds c =

@@ -1,4 +1,4 @@
--- `run` writes the bytes of the answer, which are within the output. Assumes nothing.
+-- `run` writes the bytes of the answer, which are within the output.
 use native.Mathlib.Omega.{arith}
 use mathlib.Core.Path.{sym}
 use lib.Seq.{length-take-le}

@@ -1,5 +1,4 @@
 -- Document 01, "Prices": the sum of price times demand is at most D for each board, of an accepted plan and of a set that meets the demands.
--- Assumes nothing.
 use Prim.Native.Nat.{ℕ, suc, _+_, _*_, _-_, _≤_, _<_}
 use native.Mathlib.Omega.{arith}
 use native.Mathlib.Nat.{add-zero, add-suc, suc-add, mul-le-mul-left, lt-of-mul-lt-mul-right}
@@ -15,18 +14,15 @@ use Rattle.job.specs.Admitted.{Sided}
 use Rattle.job.proofs.Sums.{bit, occurs-sum, tally-length, tally-at}
 use Rattle.listing.specs.Listing.{Listing}
 use Rattle.listing.specs.Model.{Model}
-use Rattle.plan.specs.Plan.{ofItem, boards}
 use Rattle.plan.specs.Prices.{Prices, itemPrice, priced, priceSum, fewest}
-use Rattle.plan.specs.Feasible.{Feasible, NonePast, DualFeasible}
+use Rattle.plan.specs.Feasible.{DualFeasible}
 use Rattle.plan.proofs.PriceExact.{fewest-exact}
 use Rattle.layouts.specs.Layout.{Board}
 use Rattle.layouts.specs.Placement.{itemsOfSet}
-use Rattle.layouts.specs.Unfold.{unfolded}
 use Rattle.layouts.proofs.trees.Tree.{Tree}
-use Rattle.layouts.proofs.trees.WeightedSums.{wsum, weight, countOf-wsum}
+use Rattle.layouts.proofs.trees.WeightedSums.{wsum}
 use Rattle.layouts.proofs.trees.Balance.{Roots, value-set}
 use Rattle.layouts.proofs.trees.TreeItems.{layoutOf, roots-items}
-use Rattle.layouts.proofs.machine.MachineEnds.{Unfolding, unfolds}
 use Rattle.layouts.proofs.trees.Tally.{tally-le}
 use Rattle.layouts.proofs.fold.FoldCounts.{Trees, allOrdered}
 
@@ -72,25 +68,6 @@ module _ (job : Job) (l : Listing) (m : Model job l) (sided : Sided job) (ps : P
       → priceSum job ps ≤ length ts * ps .denominator
   bound-trees ts h meets =
       omega (arith, price-le job ps (itemsOfSet (map (layoutOf l) ts)) meets, roots-items (itemPrice ps) job l m sided ts h, value-set l ps accepted ts h)
-
-  -- of an accepted plan
-  pub bound-plan : (ns : List ℕ) → NonePast l ns → Feasible job l ns → priceSum job ps ≤ boards l ns * ps .denominator
-  unfolding ofItem
-  bound-plan ns past a = rw (u .opens) at (bound-trees (u .trees) (u .roots) meets)
-    where
-      u : Unfolding job l ns (unfolded job l ns)
-      u = unfolds job l m sided ns past a
-
-      meets : (i : ℕ) → 1 ≤ i → i ≤ length (job .items) → itemAt job i .demand ≤ occurs i (itemsOfSet (map (layoutOf l) (u .trees)))
-      meets i p q =
-          omega (
-            arith,
-            a .met i p q,
-            countOf-wsum (ofItem i) l ns past,
-            u .sums (weight (ofItem i) l),
-            roots-items (λ k. bit (eqb k i)) job l m sided (u .trees) (u .roots),
-            occurs-sum i (itemsOfSet (map (layoutOf l) (u .trees))),
-          )
 
   -- of a set of layouts
   module _ (bs : List Board) (fold : Trees job l bs) (kept : (f : ℕ → ℕ) → sumOf f (itemsOfSet (allOrdered job bs)) ≡ sumOf f (itemsOfSet bs))

@@ -1,5 +1,4 @@
 -- Demand 3: its proof, for every job whose listing is not refused.
--- Assumes nothing.
 use Prim.Native.Nat.{ℕ}
 use native.Mathlib.Omega.{arith}
 use mathlib.Core.Path.{_≡_, refl, sym, _∙_, ap}

@@ -1,5 +1,4 @@
 -- Demand 3, folding and bound: what folding makes of a set of layouts that keeps the rules, and how prices bound it.
--- Assumes nothing.
 use Prim.Native.Nat.{ℕ, _*_, _≤_}
 use native.Mathlib.Omega.{arith}
 use mathlib.Core.Path.{_≡_, refl}

@@ -1,5 +1,4 @@
 -- Demand 3, unfolding: what the unfolding of an accepted plan is, from the trees of cuts of its boards.
--- Assumes nothing.
 use Prim.Native.Nat.{ℕ, _≤_, _<_}
 use native.Mathlib.Omega.{arith}
 use mathlib.Core.Path.{_≡_, sym, _∙_, ap, subst}

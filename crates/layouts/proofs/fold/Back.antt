@@ -1,5 +1,4 @@
 -- Document 01, "Layouts and folding": "folding an unfolded plan gives back its counts".
--- Assumes nothing.
 use Prim.Native.Nat.{ℕ, _+_, _≤_, _<_}
 use native.Mathlib.Omega.{arith}
 use mathlib.Core.Path.{_≡_, refl, sym, _∙_, ap, ap₂}

@@ -1,5 +1,4 @@
 -- Document 01, "Layouts and folding": the counts of a set of layouts, from the trees of cuts of its boards in folding's order.
--- Assumes nothing.
 use Prim.Native.Nat.{ℕ, suc, _≤_, _<_}
 use native.Mathlib.Omega.{arith}
 use mathlib.Core.Path.{_≡_, refl, sym, _∙_, ap, ap₂}

@@ -1,6 +1,5 @@
 -- Document 01, "Layouts and folding": "it then counts the cuts of that order". The cuts of a layout that is the layout of a tree of cuts are the
 -- tree's labels.
--- Assumes nothing.
 use Prim.Native.Nat.{ℕ, zero, suc, _+_, _<_}
 use native.Mathlib.Omega.{arith}
 use native.Mathlib.Nat.{add-suc, suc-add}

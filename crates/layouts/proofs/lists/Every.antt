@@ -1,6 +1,5 @@
 -- Statements of every element and of some element of a list: what tests and checks over a list say of them, by places, and how they go with `++`,
 -- `map` and `flatMap`.
--- Assumes nothing.
 use Prim.Native.Nat.{ℕ, zero, suc, _≤_, _<_}
 use native.Mathlib.Omega.{arith}
 use mathlib.Core.Path.{_≡_, refl, sym, _∙_}

@@ -1,6 +1,5 @@
 -- The unfolding as a relation between counts and trees of cuts: from each piece the lowest-numbered cut with a count left, its branch first and
 -- then its rest. The cuts done and the counts left make the counts before; the trees are trees of the listing; and it always ends.
--- Assumes nothing.
 use Prim.Native.Nat.{ℕ, zero, suc, _+_, _≤_, _<_}
 use native.Mathlib.Omega.{arith}
 use mathlib.Core.Path.{_≡_, refl, _∙_, ap}

@@ -1,5 +1,4 @@
 -- Document 01, "Unfolding": "for an accepted plan every count ends at 0". Of balanced counts every one is spent, by falling size of the plate types.
--- Assumes nothing.
 use Prim.Native.Nat.{ℕ, zero, suc, _+_, _≤_, _<_}
 use native.Mathlib.Omega.{arith}
 use mathlib.Core.Path.{_≡_, refl, _∙_, ap}

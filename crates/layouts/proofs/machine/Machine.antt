@@ -1,5 +1,4 @@
 -- Document 01, "Unfolding": the machine with at most three pieces waiting does the cuts of the trees, and places their items in turn.
--- Assumes nothing.
 use Prim.Native.Nat.{ℕ, suc, _+_, _*_, _<_}
 use native.Mathlib.Omega.{arith}
 use mathlib.Core.Path.{_≡_, refl}

@@ -1,5 +1,4 @@
 -- Document 01, "Unfolding": of an accepted plan the machine does the cuts of the boards' trees, spends every count, and its steps are enough.
--- Assumes nothing.
 use Prim.Native.Nat.{ℕ, suc, _+_, _*_, _-_, _≤_, _<_}
 use native.Mathlib.Omega.{arith}
 use mathlib.Core.Path.{_≡_, refl, sym, _∙_, ap}

@@ -1,5 +1,4 @@
 -- The items that the machine places are those of the layouts of its trees.
--- Assumes nothing.
 use Prim.Native.Nat.{ℕ, suc, _+_}
 use native.Mathlib.Omega.{arith}
 use mathlib.Core.Path.{_≡_, refl}

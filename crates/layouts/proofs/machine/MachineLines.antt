@@ -1,12 +1,9 @@
 -- The items that the machine places are the lines of the boards' layouts, given that a pattern's stack is as wide and its strip as high as its
 -- first item.
--- Assumes nothing.
 use Prim.Native.Nat.{ℕ, suc, _+_}
-use native.Mathlib.Nat.{max-zero}
 use mathlib.Core.Path.{_≡_, refl, sym, _∙_, ap, ap₂}
 use mathlib.Core.List.{List, [], _∷_, _++_, map}
 use lib.Dec.{eqb}
-use Rattle.job.specs.Lists.{maxOf}
 use Rattle.job.specs.Job.{Job, itemAt}
 use Rattle.listing.specs.declared.plate.Plate.{Plate}
 use Rattle.listing.specs.Plate.{board}
@@ -14,25 +11,20 @@ use Rattle.listing.specs.Listing.{Listing}
 use Rattle.listing.specs.Model.{Model}
 use Rattle.listing.proofs.Residuals.{stages-1, stages-2}
 use Rattle.layouts.specs.Layout.{widthOf, heightOf, stackWidth, stripHeight}
-use Rattle.layouts.specs.Unfold.{Run}
 use Rattle.layouts.specs.Placement.{turn, Placement, stackLines, stripLines, boardLines, setLines, linesOf}
 use Rattle.layouts.proofs.trees.Tree.{Tree, leaf, node}
 use Rattle.layouts.proofs.trees.Pattern.{branch, rest, Pattern, stackOf, stripOf, boardOf}
 use Rattle.layouts.proofs.trees.Balance.{Roots}
 use Rattle.layouts.proofs.trees.CutTree.{itemTree, root-pattern}
 use Rattle.layouts.proofs.trees.TreeItems.{layoutOf}
+use Rattle.layouts.proofs.patterns.PatternRules.{single-wide}
 use Rattle.layouts.proofs.machine.MachineSteps.{placement}
 use Rattle.layouts.proofs.machine.Machine.{emitStrip, emitBoard, emitSet}
-use Rattle.layouts.proofs.machine.MachineEnds.{Unfolding}
 
 -- the first item of a pattern's stack is its widest, the first item of a pattern's strip its highest stack
 pub record FirstLargest (job : Job) : Type 0 where
   pub wide : (p : Plate) → p .stage ≡ 2 → (i : ℕ) (a b : Tree) → Pattern job p (node i a b) → stackWidth job (i ∷ stackOf a) ≡ widthOf job i
   pub high : (p : Plate) → p .stage ≡ 1 → (i : ℕ) (a b : Tree) → Pattern job p (node i a b) → stripHeight job ((i ∷ []) ∷ stripOf a) ≡ heightOf job i
-
-single-wide : (job : Job) (i : ℕ) → stackWidth job (i ∷ []) ≡ widthOf job i
-unfolding stackWidth maxOf
-single-wide job i = max-zero (widthOf job i)
 
 -- the stages of what is cut beside the first item of a strip, of the strips above it, and of the stacks beside the first of a stack
 beside-stage : (job : Job) (p : Plate) (i : ℕ) → p .stage ≡ 1 → branch job p i .stage ≡ 2
@@ -75,7 +67,3 @@ module _ (job : Job) (first : FirstLargest job) where
     pub emitted-lines : (ts : List Tree) → Roots l ts → emitSet job 1 (map (itemTree l) ts) ≡ linesOf job (map (layoutOf l) ts)
     unfolding linesOf
     emitted-lines ts h = set-lines ts h 1
-
-    -- the placements of an unfolding are the lines of its boards' layouts
-    pub unfolded-lines : (ns : List ℕ) (r : Run) (u : Unfolding job l ns r) → r .placements ≡ linesOf job (map (layoutOf l) (u .trees))
-    unfolded-lines ns r u = u .rows ∙ emitted-lines (u .trees) (u .roots)

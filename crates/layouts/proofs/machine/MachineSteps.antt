@@ -1,5 +1,4 @@
 -- Document 01, "Unfolding": single steps of the machine, and runs of several steps from one state to another.
--- Assumes nothing.
 use Prim.Native.Nat.{ℕ, zero, suc, _+_, _≤_, _<_}
 use native.Mathlib.Omega.{arith}
 use native.Mathlib.Nat.{zero-add, add-assoc}

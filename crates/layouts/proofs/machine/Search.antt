@@ -1,5 +1,4 @@
 -- Document 01, "Unfolding": what the search finds, the lowest-numbered cut on a plate type that has a count left, and how the count falls.
--- Assumes nothing.
 use Prim.Native.Nat.{ℕ, zero, suc, _+_, _-_, _≤_, _<_}
 use native.Mathlib.Omega.{arith}
 use mathlib.Core.Path.{_≡_, refl, sym}

@@ -1,5 +1,4 @@
 -- Folding's order keeps the items of a strip; the layout of a cut pattern is in that order already, and gives the pattern back.
--- Assumes nothing.
 use Prim.Native.Nat.{ℕ, _-_, _≤_}
 use native.Mathlib.Omega.{arith}
 use mathlib.Core.Path.{_≡_, refl, sym, ap, ap₂, _∙_}
@@ -15,11 +14,12 @@ use Rattle.layouts.specs.Placement.{itemsOfStrip, itemsOfBoard}
 use Rattle.layouts.specs.Rules.{Every, Filled}
 use Rattle.layouts.specs.Fold.{falling, toFront, ordered}
 use Rattle.layouts.proofs.lists.Every.{every-map, every-of-map}
-use Rattle.layouts.proofs.lists.Sort.{Falling, every-falling, sum-falling, filled-falling, falling-same, every-front, sum-front, front-same}
+use Rattle.layouts.specs.Exact.{Falling}
+use Rattle.layouts.proofs.lists.Sort.{every-falling, sum-falling, filled-falling, falling-same, every-front, sum-front, front-same}
 use Rattle.layouts.proofs.rules.RulesExact.{full-exact}
 use Rattle.layouts.proofs.trees.Tree.{Tree, leaf, node}
-use Rattle.layouts.proofs.trees.Pattern.{Pattern, stackOf, stripOf, boardOf, stackTree, stripTree, boardTree}
-use Rattle.layouts.proofs.patterns.PatternSteps.{Wide, cut-1, cut-2-three, cut-2-two, cut-3, waste-leaf}
+use Rattle.layouts.proofs.trees.Pattern.{Pattern, stripOf, boardOf}
+use Rattle.layouts.proofs.patterns.PatternSteps.{Wide, cut-1}
 use Rattle.layouts.proofs.patterns.PatternRules.{Beside, single-high, strip-high, beside}
 
 -- the items of a strip, of a board, by their sums
@@ -106,7 +106,7 @@ module _ (job : Job) where
               u .order t,
             )
 
-    -- the layout of a pattern is in order, ..
+    -- the layout of a pattern is in order
     pub ordered-pattern : (w h : ℕ) (x : Tree) → Pattern job (plate w h 1) x → map (ordered job) (boardOf x) ≡ boardOf x
     ordered-pattern w h leaf p = refl
     ordered-pattern w h (node i a b) p =
@@ -114,39 +114,3 @@ module _ (job : Job) where
         ap₂ (λ (s : Strip) (r : Board). s ∷ r)
         (ordered-strip w i a (beside job wide (w - widthOf job i) (heightOf job i) a (q .1)))
         (ordered-pattern w (h - heightOf job i) b (q .2))
-
-    -- .. and gives the pattern back
-    tree-stack : (w h : ℕ) (x : Tree) → three (job .mode) ≡ true → Pattern job (plate w h 3) x → stackTree (stackOf x) ≡ x
-    tree-stack w h leaf t p = refl
-    tree-stack w h (node i a b) t p =
-        let q = cut-3 job w h i a b t .0 p in
-        let e : a ≡ leaf = waste-leaf job wide a (q .2) in
-        let r : stackTree (stackOf b) ≡ b = tree-stack (widthOf job i) (h - heightOf job i) b t (q .3) in
-        cc
-
-    tree-strip : (w h : ℕ) (x : Tree) → Pattern job (plate w h 2) x → stripTree (stripOf x) ≡ x
-    tree-strip w h leaf p = refl
-    tree-strip w h (node i a b) p =
-        go (three (job .mode)) refl (λ m q. tree-strip (w - widthOf job i) m b q)
-      where
-        go : (t : Bool) → three (job .mode) ≡ t → ((m : ℕ) → Pattern job (plate (w - widthOf job i) m 2) b → stripTree (stripOf b) ≡ b)
-            → stripTree (stripOf (node i a b)) ≡ node i a b
-        go true t rec =
-            let q = cut-2-three job w h i a b t .0 p in
-            let e : stackTree (stackOf a) ≡ a = tree-stack (widthOf job i) (h - heightOf job i) a t (q .1) in
-            let r : stripTree (stripOf b) ≡ b = rec h (q .2) in
-            cc
-        go false t rec =
-            let q = cut-2-two job w h i a b t .0 p in
-            let e : a ≡ leaf = waste-leaf job wide a (q .2) in
-            let e′ : stackTree (stackOf a) ≡ leaf = rw e refl in
-            let r : stripTree (stripOf b) ≡ b = rec (heightOf job i) (q .3) in
-            cc
-
-    pub tree-pattern : (w h : ℕ) (x : Tree) → Pattern job (plate w h 1) x → boardTree (boardOf x) ≡ x
-    tree-pattern w h leaf p = refl
-    tree-pattern w h (node i a b) p =
-        let q = cut-1 job w h i a b .0 p in
-        let e : stripTree (stripOf a) ≡ a = tree-strip (w - widthOf job i) (heightOf job i) a (q .1) in
-        let r : boardTree (boardOf b) ≡ b = tree-pattern w (h - heightOf job i) b (q .2) in
-        cc

@@ -1,22 +1,17 @@
 -- Strips in the form that a stage 1 cut begins: the cut pattern of such strips cuts nothing short.
--- Assumes nothing.
-use Prim.Native.Nat.{ℕ, _-_}
+use Prim.Native.Nat.{ℕ}
 use native.Mathlib.Omega.{arith}
 use mathlib.Core.Path.{_≡_, refl, sym, ap, ap₂, _∙_}
 use mathlib.Core.Logic.{_≢_}
 use mathlib.Core.List.{[], _∷_}
 use Rattle.job.specs.Lists.{sumOf}
-use Rattle.job.specs.Job.{Job}
 use Rattle.job.proofs.Sums.{sumOf-same}
-use Rattle.listing.specs.Plate.{plate}
-use Rattle.layouts.specs.Layout.{Stack, Strip, Board, widthOf, heightOf}
+use Rattle.layouts.specs.Layout.{Stack, Strip, Board}
 use Rattle.layouts.specs.Placement.{itemsOfStrip, itemsOfBoard}
 use Rattle.layouts.specs.Rules.{Every, Filled}
-use Rattle.layouts.proofs.trees.Tree.{Tree, leaf, node, tsum}
-use Rattle.layouts.proofs.trees.Pattern.{Pattern, stackOf, stripOf, boardOf, stackTree, stripTree, boardTree}
-use Rattle.layouts.proofs.patterns.PatternSteps.{Wide, cut-1}
-use Rattle.layouts.proofs.patterns.PatternRules.{beside}
-use Rattle.layouts.proofs.patterns.Order.{strip-sum, board-sum, tree-pattern}
+use Rattle.layouts.proofs.trees.Tree.{leaf, tsum}
+use Rattle.layouts.proofs.trees.Pattern.{stackOf, stripOf, boardOf, stackTree, stripTree, boardTree}
+use Rattle.layouts.proofs.patterns.Order.{strip-sum, board-sum}
 
 -- a strip in the form that a stage 1 cut begins: a single item first, and no empty stack beside it
 abbrev pub Formed : Strip → Type 0
@@ -74,15 +69,3 @@ formed-node [] n q e = absurd n
 formed-node ([] ∷ b) n q e = absurd (q .0)
 formed-node (([] ∷ ks) ∷ b) n q e = absurd (q .0)
 formed-node (((i ∷ is) ∷ ks) ∷ b) n q e = let z : _≡_ {A = ℕ} 0 1 = cc in omega arith
-
--- the layout of a pattern has that form, and has the pattern's items
-module _ (job : Job) (wide : Wide job) where
-  pub pattern-formed : (w h : ℕ) (x : Tree) → Pattern job (plate w h 1) x → Every Formed (boardOf x)
-  pattern-formed w h leaf p = tt
-  pattern-formed w h (node i a b) p =
-      let q = cut-1 job w h i a b .0 p in
-      ((refl, beside job wide (w - widthOf job i) (heightOf job i) a (q .1) .stacks), pattern-formed w (h - heightOf job i) b (q .2))
-
-  pub pattern-items : (f : ℕ → ℕ) (w h : ℕ) (x : Tree) → Pattern job (plate w h 1) x → tsum f x ≡ sumOf f (itemsOfBoard (boardOf x))
-  pattern-items f w h x p =
-      ap (tsum f) (sym (tree-pattern job wide w h x p)) ∙ formed-items f (boardOf x) (pattern-formed w h x p)

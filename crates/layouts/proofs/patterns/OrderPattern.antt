@@ -1,5 +1,4 @@
 -- From layouts to patterns: a board that keeps the layout rules, put in folding's order, is the layout of a cut pattern of the board.
--- Assumes nothing.
 use Prim.Native.Nat.{ℕ, _-_, _≤_}
 use native.Mathlib.Omega.{arith}
 use mathlib.Core.Path.{_≡_, refl, sym, _∙_}
@@ -11,13 +10,14 @@ use Rattle.job.specs.Mode.{three, exact}
 use Rattle.job.specs.Job.{Job}
 use Rattle.job.proofs.Sums.{sumOf-map, sumOf-same}
 use Rattle.listing.specs.Plate.{plate, board}
-use Rattle.layouts.specs.Layout.{Stack, Strip, Board, widthOf, heightOf, stackWidth, stackHeight, stripWidth, stripHeight, boardHeight, fullStack, boardRules}
+use Rattle.layouts.specs.Layout.{Stack, Strip, Board, widthOf, heightOf, stackWidth, stackHeight, stripWidth, stripHeight, boardHeight, fullStack}
 use Rattle.layouts.specs.Placement.{itemsOfStrip, itemsOfBoard}
 use Rattle.layouts.specs.Rules.{Every, Some, Filled, Alike, Single, OfJob, StripOk, BoardOk}
 use Rattle.layouts.specs.Fold.{falling, toFront, ordered}
 use Rattle.layouts.proofs.lists.Every.{every-map, every-of-map, some-of-map, max-above}
-use Rattle.layouts.proofs.lists.Sort.{Falling, every-falling, sum-falling, max-falling, length-falling, filled-falling, falling-falls, every-front, sum-front, front-passes, HeadPasses}
-use Rattle.layouts.proofs.rules.RulesExact.{same-alike, alike-same, single-heights, full-exact, board-exact}
+use Rattle.layouts.specs.Exact.{Falling}
+use Rattle.layouts.proofs.lists.Sort.{every-falling, sum-falling, max-falling, length-falling, filled-falling, falling-falls, every-front, sum-front, front-passes, HeadPasses}
+use Rattle.layouts.proofs.rules.RulesExact.{same-alike, alike-same, single-heights, full-exact}
 use Rattle.layouts.proofs.trees.Tree.{leaf, tsum}
 use Rattle.layouts.proofs.trees.Pattern.{Pattern, boardOf, stackTree, stripTree, boardTree}
 use Rattle.layouts.proofs.patterns.PatternSteps.{Within, cut-1, cut-2-three, cut-2-two, cut-3}
@@ -317,6 +317,3 @@ module _ (job : Job) where
         some = formed-node (map (ordered job) b) (filled-ordered b (k .filled)) (board-formed b (k .strips));
         items = λ f. formed-items f (map (ordered job) b) (board-formed b (k .strips)) ∙ ordered-board-sum job f b;
       }
-
-  pub rules-cuttable : (b : Board) → boardRules job b ≡ true → Cuttable b
-  rules-cuttable b e = board-cuttable b (board-exact job b .0 e)

@@ -1,5 +1,4 @@
 -- From patterns to layouts: the layout of a cut pattern of the board keeps the layout rules of the mode, and is in folding's order.
--- Assumes nothing.
 use Prim.Native.Nat.{ℕ, _-_, _≤_}
 use native.Mathlib.Omega.{arith}
 use mathlib.Core.Path.{_≡_, refl, sym, ap, _∙_}
@@ -11,12 +10,12 @@ use Rattle.job.specs.Lists.{sumOf, maxOf}
 use Rattle.job.specs.Mode.{three, exact}
 use Rattle.job.specs.Job.{Job}
 use Rattle.listing.specs.Plate.{plate, board}
-use Rattle.layouts.specs.Layout.{Stack, Strip, Board, widthOf, heightOf, stackWidth, stackHeight, stripWidth, stripHeight, boardHeight, boardRules}
+use Rattle.layouts.specs.Layout.{Stack, Strip, Board, widthOf, heightOf, stackWidth, stackHeight, stripWidth, stripHeight, boardHeight}
 use Rattle.layouts.specs.Placement.{itemsOfStrip}
 use Rattle.layouts.specs.Rules.{Every, Filled, Alike, Single, OfJob, Staged, StripOk, BoardOk}
 use Rattle.layouts.proofs.lists.Every.{every-map, max-least}
-use Rattle.layouts.proofs.lists.Sort.{Falling}
-use Rattle.layouts.proofs.rules.RulesExact.{same-alike, single-heights, board-exact}
+use Rattle.layouts.specs.Exact.{Falling}
+use Rattle.layouts.proofs.rules.RulesExact.{same-alike, single-heights}
 use Rattle.layouts.proofs.trees.Tree.{Tree, leaf, node}
 use Rattle.layouts.proofs.trees.Pattern.{Pattern, stackOf, stripOf, boardOf}
 use Rattle.layouts.proofs.patterns.PatternSteps.{Wide, Within, cut-1, cut-2-three, cut-2-two, cut-3, waste-leaf}
@@ -54,7 +53,7 @@ module _ (job : Job) where
   unfolding stackHeight sumOf
   single-high i = omega arith
 
-  single-wide : (i : ℕ) → stackWidth job (i ∷ []) ≡ widthOf job i
+  pub single-wide : (i : ℕ) → stackWidth job (i ∷ []) ≡ widthOf job i
   unfolding stackWidth maxOf
   single-wide i = omega arith
 
@@ -224,9 +223,6 @@ module _ (job : Job) where
     pattern-ok (node i a b) d p =
         let r = over (job .width) (job .height) (node i a b) p in
         record { filled = tt; strips = r .strips refl; up = r .up }
-
-    pub pattern-rules : (x : Tree) → x ≢ leaf → Pattern job (board job) x → boardRules job (boardOf x) ≡ true
-    pattern-rules x d p = board-exact job (boardOf x) .1 (pattern-ok x d p)
 
     -- the sides of what a cut begins: at stage 2 a stack as wide as its first item, at stage 1 a strip as high as its first item
     pub stack-width : (w h i : ℕ) (a b : Tree) → Pattern job (plate w h 2) (node i a b) → stackWidth job (i ∷ stackOf a) ≡ widthOf job i

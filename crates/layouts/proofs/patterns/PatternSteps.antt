@@ -1,5 +1,4 @@
 -- A cut pattern of a plate of stage 1, 2 or 3, taken apart: what is asked of its first item, and the plates of its branch and its rest.
--- Assumes nothing.
 use Prim.Native.Nat.{ℕ, _-_, _≤_}
 use native.Mathlib.Omega.{arith}
 use mathlib.Core.Path.{_≡_, refl}

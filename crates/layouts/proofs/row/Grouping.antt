@@ -1,5 +1,4 @@
 -- The lines of a set of layouts give the set back: `grouped` undoes `linesOf`, for any set of which no board, strip or stack is empty.
--- Assumes nothing.
 use Prim.Native.Nat.{ℕ, suc, _+_, _≤_}
 use native.Mathlib.Omega.{arith}
 use mathlib.Core.Path.{_≡_, refl, ap, _∙_}
@@ -59,7 +58,7 @@ unfolding grouped
 grouped-new r rs v e = rw (e, grouped)
 
 -- an item below a stack that stands before a set
-in-before : (v : Level) (i : ℕ) (k : Stack) (bs : List Board) → inSet i (before v k bs) ≡ before v (i ∷ k) bs
+pub in-before : (v : Level) (i : ℕ) (k : Stack) (bs : List Board) → inSet i (before v k bs) ≡ before v (i ∷ k) bs
 unfolding inSet inBoard inStrip before beside
 in-before v i k [] = refl
 in-before stack i k ([] ∷ bs) = refl

@@ -1,5 +1,4 @@
 -- The layouts row, both ways: the lines of a set that demand 3 names pass it, and lines that pass it are those of such a set.
--- Assumes nothing.
 use Prim.Native.Nat.{ℕ, _≤_}
 use native.Mathlib.Omega.{arith}
 use mathlib.Core.Path.{_≡_, ap, _∙_}

@@ -1,5 +1,4 @@
 -- The lines of a set of layouts: they hold its items in order, and as words they are read back.
--- Assumes nothing.
 use Prim.Native.Nat.{ℕ, suc, _+_, _*_, _%_}
 use native.Mathlib.Omega.{arith}
 use native.Mathlib.Nat.{mul-mod-right}
@@ -7,6 +6,7 @@ use mathlib.Core.Path.{_≡_, refl, ap, ap₂, sym, _∙_}
 use mathlib.Core.Logic.{_↔_}
 use mathlib.Core.List.{List, [], _∷_, _++_, map, flatMap, map-append}
 use lib.ListN.{length, length-map}
+use Rattle.job.specs.Sizes.{wordsOfPlacement}
 use Rattle.job.specs.Job.{Job}
 use Rattle.job.proofs.Records.{words-length as records-length}
 use Rattle.layouts.specs.Layout.{Stack, Strip, Board, heightOf, stackWidth, stripHeight}
@@ -76,7 +76,7 @@ words-rows [] = refl
 words-rows (p ∷ ps) = ap (λ (r : List Placement). p ∷ r) (words-rows ps)
 
 -- and whole lines of words are written back
-pub rows-words : (ws : List ℕ) → length ws % 7 ≡ 0 → placementWords (rowsOf ws) ≡ ws
+pub rows-words : (ws : List ℕ) → length ws % wordsOfPlacement ≡ 0 → placementWords (rowsOf ws) ≡ ws
 unfolding rowsOf placementWords flatMap
 rows-words [] e = refl
 rows-words (b ∷ []) e = absurd (omega arith)
@@ -89,9 +89,9 @@ rows-words (b ∷ s ∷ k ∷ p ∷ i ∷ x ∷ y ∷ ws) e =
     ap (λ (r : List ℕ). b ∷ s ∷ k ∷ p ∷ i ∷ x ∷ y ∷ r) (rows-words ws (omega arith))
 
 -- seven words for each
-pub words-length : (ps : List Placement) → length (placementWords ps) ≡ 7 * length ps
+pub words-length : (ps : List Placement) → length (placementWords ps) ≡ wordsOfPlacement * length ps
 unfolding placementWords
-words-length ps = records-length _ 7 (λ p. refl) ps
+words-length ps = records-length _ wordsOfPlacement (λ p. refl) ps
 
-pub words-whole : (ps : List Placement) → length (placementWords ps) % 7 ≡ 0
-words-whole ps = ap (λ (n : ℕ). n % 7) (words-length ps) ∙ mul-mod-right 7 (length ps)
+pub words-whole : (ps : List Placement) → length (placementWords ps) % wordsOfPlacement ≡ 0
+words-whole ps = ap (λ (n : ℕ). n % wordsOfPlacement) (words-length ps) ∙ mul-mod-right wordsOfPlacement (length ps)

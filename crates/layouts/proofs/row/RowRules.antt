@@ -1,5 +1,4 @@
 -- The layouts row's 16, 17 and 11 against the layout rules and the demands: each passes exactly where the rule holds.
--- Assumes nothing.
 use Prim.Native.Nat.{ℕ, suc, _+_, _≤_}
 use native.Mathlib.Omega.{arith}
 use mathlib.Core.Path.{_≡_, refl, ap}

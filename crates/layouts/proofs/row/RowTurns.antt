@@ -1,5 +1,4 @@
 -- Lines in turn: what 15 tests, in plain statements, and that the lines of a set of layouts run in turn.
--- Assumes nothing.
 use Prim.Native.Nat.{ℕ, suc, _+_, _≤_}
 use native.Mathlib.Omega.{arith}
 use mathlib.Core.Path.{_≡_, refl}

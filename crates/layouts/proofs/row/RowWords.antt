@@ -1,13 +1,13 @@
 -- The line row of layout words, both ways: the words of a set that demand 3 names pass it, and words that pass it are whole lines within
 -- their limits.
--- Assumes nothing.
 use Prim.Native.Nat.{ℕ, suc, _≤_, _/_, _%_}
 use native.Mathlib.Omega.{arith}
 use mathlib.Core.Path.{_≡_}
 use mathlib.Core.Logic.{_↔_}
 use mathlib.Core.Bool.{true}
-use mathlib.Core.List.{List, [], _∷_, flatMap}
+use mathlib.Core.List.{List}
 use lib.ListN.{length}
+use Rattle.job.specs.Sizes.{wordsOfPlacement}
 use Rattle.job.specs.Verdict.{pass}
 use Rattle.job.specs.Job.{Job, maxSide, maxPieces}
 use Rattle.job.proofs.Decides.{decides-eq, decides-seven, decides-within, passes-then, passes-test}
@@ -69,10 +69,10 @@ module _ (job : Job) where
   )
 
   -- layout words pass exactly if they are whole lines, each within its limits
-  pub words-exact : (ws : List ℕ) → (layoutWords job ws ≡ pass) ↔ ((length ws % 7 ≡ 0) × Every RowOk (rowsOf ws))
+  pub words-exact : (ws : List ℕ) → (layoutWords job ws ≡ pass) ↔ ((length ws % wordsOfPlacement ≡ 0) × Every RowOk (rowsOf ws))
   unfolding layoutWords
   words-exact ws =
-      passes-then (passes-test 1 (suc (length ws / 7)) (decides-eq (length ws % 7) 0)) (passes-every 2 1 right-exact (rowsOf ws))
+      passes-then (passes-test 1 (suc (length ws / wordsOfPlacement)) (decides-eq (length ws % wordsOfPlacement) 0)) (passes-every 2 1 right-exact (rowsOf ws))
 
   -- the lines of a set that keeps the rules, within 4,000 pieces, on a board of at most 10,000 by 10,000, are within their limits, ..
   pub lines-right :
@@ -122,18 +122,3 @@ module _ (job : Job) where
   -- words that pass the line row and the layouts row are the lines of a set that demand 3 names
   pub words-set : (k : ℕ) (ws : List ℕ) → layoutWords job ws ≡ pass → layoutsRow k job (rowsOf ws) ≡ pass → SetOfRows job (rowsOf ws)
   words-set k ws e q = row-set job k (rowsOf ws) (every-map (λ r (h : RowOk r). h .type) (rowsOf ws) (words-exact ws .0 e .1)) q
-
-  -- no word of lines within their limits passes 10,000
-  pub words-small : (rs : List Placement) → length (job .items) ≤ maxSide → Every RowOk rs → Every (λ w. w ≤ maxSide) (placementWords rs)
-  unfolding placementWords flatMap
-  words-small [] n h = tt
-  words-small (r ∷ rs) n h =
-      let q = h .0 in
-      let u = q .turned in
-      let more = words-small rs n (h .1) in (
-        omega (arith, u .board .1),
-        (
-          omega (arith, u .strip .1),
-          (omega (arith, u .stack .1), (omega (arith, u .place .1), (omega (arith, q .type .1), (q .across, (q .up, more))))),
-        ),
-      )

@@ -1,5 +1,4 @@
 -- The rectangles of a set of layouts that keeps the rules lie inside their boards, and no two of one board overlap.
--- Assumes nothing.
 use Prim.Native.Nat.{ℕ, suc, _+_, _≤_, _<_}
 use native.Mathlib.Omega.{arith}
 use mathlib.Core.Path.{_≡_, refl}

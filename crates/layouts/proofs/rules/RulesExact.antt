@@ -1,5 +1,4 @@
 -- The tests of the layout rules are exact: each passes exactly where the plain statement of `Rules` holds.
--- Assumes nothing.
 use Prim.Native.Nat.{ℕ, _≤_}
 use native.Mathlib.Omega.{arith}
 use mathlib.Core.Path.{_≡_, refl, sym, _∙_}

@@ -1,5 +1,4 @@
 -- The tests of "The words of demand 3" are exact: demands, rectangles inside their board, rectangles that do not overlap.
--- Assumes nothing.
 use Prim.Native.Nat.{ℕ, zero, suc, _+_, _≤_, _<_}
 use native.Mathlib.Omega.{arith}
 use mathlib.Core.Path.{_≡_, refl}
@@ -15,9 +14,9 @@ use Rattle.job.specs.Job.{Job, noItem, itemAt}
 use Rattle.job.proofs.Tests.{and-left, and-right, and-both}
 use Rattle.job.proofs.Decides.{decides-le, decides-eq, decides-self, decides-and, decides-four, decides-if}
 use Rattle.layouts.specs.Layout.{Board}
-use Rattle.layouts.specs.Placement.{Placement, itemsOfSet, meetsFrom, meetsDemands}
+use Rattle.layouts.specs.Placement.{Placement, noPlacement, itemsOfSet, meetsFrom, meetsDemands}
 use Rattle.layouts.specs.Rectangle.{endX, endY, inside, apart, clear, noOverlap}
-use Rattle.layouts.specs.Rules.{Every, MeetsDemands, Inside, Apart, noPlacement, NoOverlap}
+use Rattle.layouts.specs.Rules.{Every, MeetsDemands, Inside, Apart, NoOverlap}
 use Rattle.layouts.proofs.lists.Every.{every-at, at-every, decides-all}
 
 -- each type of a list of types, the first being i, lies among the items as often as demanded

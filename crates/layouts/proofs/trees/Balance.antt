@@ -1,5 +1,4 @@
 -- Trees of cuts: what can be cut from a residual type or from a board; their balance, their boards, and what their items cost.
--- Assumes nothing.
 use Prim.Native.Nat.{ℕ, zero, suc, _+_, _*_, _≤_, _<_}
 use native.Mathlib.Omega.{arith}
 use mathlib.Core.Path.{_≡_, refl, ap}
@@ -13,8 +12,8 @@ use Rattle.job.proofs.Sums.{bit, bit-same, bit-diff}
 use Rattle.listing.specs.Listing.{Listing, plateAt, cutAt}
 use Rattle.listing.specs.Model.{Model}
 use Rattle.plan.specs.Plan.{onPlate, leavesPlate}
-use Rattle.plan.specs.Prices.{Prices, itemPrice, residualPrice}
-use Rattle.plan.specs.Feasible.{costs, DualFeasible}
+use Rattle.plan.specs.Prices.{Prices, itemPrice, residualPrice, worth}
+use Rattle.plan.specs.Feasible.{DualFeasible}
 use Rattle.layouts.proofs.trees.WeightedSums.{weight}
 use Rattle.layouts.proofs.trees.Tree.{Tree, leaf, node, tsum, fsum}
 use Rattle.layouts.proofs.trees.Pattern.{branchOf, restOf}
@@ -97,21 +96,23 @@ module _ (l : Listing) (ps : Prices) (priced : DualFeasible l ps) where
       go true = refl
       go false = omega arith
 
-  cost-residual : (c j : ℕ) → IsCut l c → cutAt l c .plate ≡ j → 0 < j → costs ps (cutAt l c) ≤ residualPrice ps j
+  cost-residual : (c j : ℕ) → IsCut l c → cutAt l c .plate ≡ j → 0 < j → worth ps (cutAt l c) ≤ residualPrice ps j
   cost-residual zero j p e h = absurd (omega arith)
-  cost-residual (suc c) j p e h = rw e at (priced .on-residual c (omega arith) (omega arith))
+  cost-residual (suc c) j p e h = rw (← e) (priced .on-residual c (omega arith) (omega arith))
 
-  cost-board : (c : ℕ) → IsCut l c → cutAt l c .plate ≡ 0 → costs ps (cutAt l c) ≤ ps .denominator
+  cost-board : (c : ℕ) → IsCut l c → cutAt l c .plate ≡ 0 → worth ps (cutAt l c) ≤ ps .denominator
   cost-board zero p e = absurd (omega arith)
   cost-board (suc c) p e = priced .on-board c (omega arith) e
 
   -- the items of a residual's tree cost at most the price of the residual type
   value : (j : ℕ) (t : Tree) → Ok l j t → tsum (itemCost l ps) t ≤ residualPrice ps j
+  unfolding worth
   value j leaf h = omega arith
   value j (node c a b) h =
       omega (arith, cost-residual c j (h .1) (h .2) (h .0), by-stage c, value (branchOf l c) a (h .3), value (restOf l c) b (h .4))
 
   value-root : (t : Tree) → Root l t → tsum (itemCost l ps) t ≤ ps .denominator
+  unfolding worth
   value-root leaf h = absurd h
   value-root (node c a b) h =
       omega (arith, cost-board c (h .0) (h .1), by-stage c, value (branchOf l c) a (h .2), value (restOf l c) b (h .3))

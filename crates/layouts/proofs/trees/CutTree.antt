@@ -1,8 +1,7 @@
 -- Trees of cuts and patterns: the items of a tree of cuts are a pattern, and each pattern of the board has exactly one tree of cuts.
--- Assumes nothing.
 use Prim.Native.Nat.{ℕ, suc}
 use native.Mathlib.Omega.{arith}
-use mathlib.Core.Path.{_≡_, refl, sym, _∙_, ap, subst}
+use mathlib.Core.Path.{_≡_, refl, _∙_, ap, subst}
 use mathlib.Core.Logic.{inl, inr, _≢_}
 use Rattle.job.specs.Job.{Job}
 use Rattle.listing.specs.declared.plate.Plate.{Plate}
@@ -10,19 +9,14 @@ use Rattle.listing.specs.Plate.{board}
 use Rattle.listing.specs.Listing.{Listing, plateAt, cutAt}
 use Rattle.listing.specs.Model.{Model, Numbered}
 use Rattle.listing.proofs.Kept.{not-kept}
-use Rattle.layouts.proofs.trees.Tree.{Tree, leaf, node, tsum, tmap}
+use Rattle.layouts.proofs.trees.Tree.{Tree, leaf, node, tmap}
 use Rattle.layouts.proofs.trees.Pattern.{branch, rest, Pattern, branchOf, restOf}
-use Rattle.layouts.proofs.trees.Cuts.{IsCut, cut-fits, branch-number, rest-number, one-cut}
+use Rattle.layouts.proofs.trees.Cuts.{IsCut, cut-fits, branch-number, rest-number}
 use Rattle.layouts.proofs.trees.Balance.{Ok, Root}
 
 -- the item types of a tree of cuts
 abbrev pub itemTree : Listing → Tree → Tree
 itemTree l t = tmap (λ c. cutAt l c .item) t
-
--- a sum over the tree with g of each label
-pub tsum-map : (f g : ℕ → ℕ) (t : Tree) → tsum f (tmap g t) ≡ tsum (λ c. f (g c)) t
-tsum-map f g leaf = refl
-tsum-map f g (node c a b) = omega (arith, tsum-map f g a, tsum-map f g b)
 
 node-not-leaf : {c : ℕ} {a b : Tree} → node c a b ≡ leaf → ⊥
 node-not-leaf e = let z : _≡_ {A = ℕ} 0 1 = cc in omega arith
@@ -89,23 +83,3 @@ module _ (job : Job) (l : Listing) (m : Model job l) where
       let (u, ou, eu) = from-pattern (branchOf l c) (branch job (board job) i) (branch-at c cC (board job) i e ei) a (p .1) in
       let (v, ov, ev) = from-pattern (restOf l c) (rest job (board job) i) (rest-at c cC (board job) i e ei) b (p .2) in
       (node c u v, (cC, ec, ou, ov), (λ s. node (ei s) (eu s) (ev s)))
-
-  same-tree : (j : ℕ) (t u : Tree) → Ok l j t → Ok l j u → itemTree l t ≡ itemTree l u → t ≡ u
-  same-tree j leaf leaf p q e = refl
-  same-tree j leaf (node d u v) p q e = absurd (node-not-leaf (sym e))
-  same-tree j (node c a b) leaf p q e = absurd (node-not-leaf e)
-  same-tree j (node c a b) (node d u v) p q e =
-      let s : c ≡ d = one-cut job l m c d (p .1) (q .1) (p .2 ∙ sym (q .2)) (cc) in
-      let f : a ≡ u = same-tree (branchOf l c) a u (p .3) (rw (← s) at (q .3)) (cc) in
-      let g : b ≡ v = same-tree (restOf l c) b v (p .4) (rw (← s) at (q .4)) (cc) in
-      λ n. node (s n) (f n) (g n)
-
-  -- and only one
-  pub same-root : (t u : Tree) → Root l t → Root l u → itemTree l t ≡ itemTree l u → t ≡ u
-  same-root leaf u p q e = absurd p
-  same-root (node c a b) leaf p q e = absurd q
-  same-root (node c a b) (node d u v) p q e =
-      let s : c ≡ d = one-cut job l m c d (p .0) (q .0) (p .1 ∙ sym (q .1)) (cc) in
-      let f : a ≡ u = same-tree (branchOf l c) a u (p .2) (rw (← s) at (q .2)) (cc) in
-      let g : b ≡ v = same-tree (restOf l c) b v (p .3) (rw (← s) at (q .3)) (cc) in
-      λ n. node (s n) (f n) (g n)

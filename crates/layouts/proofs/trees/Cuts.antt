@@ -1,5 +1,4 @@
 -- What a model says of a cut by its number: its item fits its plate, its residuals have their numbers and are smaller, and its pair is its own.
--- Assumes nothing.
 use Prim.Native.Nat.{ℕ, zero, suc, _+_, _≤_, _<_}
 use native.Mathlib.Omega.{arith}
 use mathlib.Core.Path.{_≡_, refl, sym, _∙_, ap}

@@ -1,5 +1,4 @@
 -- Cut patterns: trees of item types, each permitted on the plate that it is cut from; the layout of a pattern, and the pattern of a layout.
--- Assumes nothing.
 use Prim.Native.Nat.{ℕ}
 use mathlib.Core.Bool.{cond}
 use mathlib.Core.List.{[], _∷_}

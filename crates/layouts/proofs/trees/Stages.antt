@@ -1,6 +1,5 @@
 -- The stages of a cut's residuals in a model: at stage 1 top is of stage 1 and right of stage 2, at stage 2 top of stage 3 and right of stage 2,
 -- at stage 3 top of stage 3 and no right.
--- Assumes nothing.
 use Prim.Native.Nat.{ℕ, _<_}
 use native.Mathlib.Omega.{arith}
 use mathlib.Core.Path.{_≡_, _∙_, ap}

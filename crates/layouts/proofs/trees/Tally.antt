@@ -1,5 +1,4 @@
 -- Tallies: how often each of some numbers stands in a list, as weighted sums; the labels of trees as such lists.
--- Assumes nothing.
 use Prim.Native.Nat.{ℕ, zero, suc, _+_, _*_, _≤_, _<_}
 use native.Mathlib.Omega.{arith}
 use mathlib.Core.Path.{_≡_, refl}

@@ -1,7 +1,6 @@
 -- Trees of cuts, or of the items of cuts: what is cut from one piece.
 -- The branch of a cut is its residual of the next stage, the rest that of its own stage: at stage 1 right and top, at stage 2 top and right,
 -- at stage 3 nothing and top.
--- Assumes nothing.
 use Prim.Native.Nat.{ℕ, _+_}
 use mathlib.Core.List.{List, [], _∷_, _++_}
 use Rattle.job.specs.Lists.{sumOf}

@@ -1,5 +1,4 @@
 -- The items of the layouts of trees of cuts: of each type as many as the trees have cuts of it.
--- Assumes nothing.
 use Prim.Native.Nat.{ℕ, _+_, _<_}
 use native.Mathlib.Omega.{arith}
 use mathlib.Core.Path.{_≡_, refl, ap}

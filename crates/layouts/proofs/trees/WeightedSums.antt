@@ -1,5 +1,4 @@
 -- Weighted sums over counts: each count times a weight of its cut's number.
--- Assumes nothing.
 use Prim.Native.Nat.{ℕ, zero, suc, _+_, _*_, _≤_, _<_}
 use native.Mathlib.Omega.{arith}
 use native.Mathlib.Nat.{add-zero, add-suc, suc-add, mul-le-mul-right}

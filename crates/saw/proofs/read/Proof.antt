@@ -1,8 +1,9 @@
--- `read` reads some text, part after part. Assumes nothing.
+-- `read` reads some text, part after part.
 use Prim.Native.Nat.{_-_}
 use mathlib.Core.Path.{_≡_, refl, _∙_}
 use lib.ListN.{length}
-use Rattle.saw_lines.specs.SawKept.{lent}
+use Rattle.saw_text_lines.specs.SawKept.{lent}
+use Rattle.saw.specs.Sizes.{mostParts}
 use Rattle.saw.proofs.SomeText.{SomeRead, none-read, more-read}
 use borrow.Author.Needs.{needs}
 use Rattle.saw.proofs.read.Statement.{statement}
@@ -13,7 +14,7 @@ Inv-loop part₀ job₀ plates₀ cuts₀ counts₀ prices₀ reader₀ parts₀
     (length part ≡ length part₀) × SomeRead reader (lent job plates cuts counts prices) (lent job₀ plates₀ cuts₀ counts₀ prices₀)
 
 abbrev μ-loop : tie.MeasureT-loop
-μ-loop part₀ job₀ plates₀ cuts₀ counts₀ prices₀ reader₀ parts₀ part job plates cuts counts prices reader parts = 57 - parts
+μ-loop part₀ job₀ plates₀ cuts₀ counts₀ prices₀ reader₀ parts₀ part job plates cuts counts prices reader parts = mostParts - parts
 
 loop-holds : tie.Need-loop-holds Inv-loop μ-loop
 loop-holds c = (refl, none-read (c .before .before .before .before .before .before .before .before .before .before .before .before .before .before .before .before .before .before .before .before .before .before .pre) (c .before .before .before .before .before .before .before .before .before .before .start .ensures))

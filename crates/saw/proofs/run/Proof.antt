@@ -1,8 +1,8 @@
--- `run` reads some text and writes its answer. Assumes nothing.
+-- `run` reads some text and writes its answer.
 use mathlib.Core.Path.{sym}
 use lib.Seq.{length-take-le}
 use Rattle.texts.specs.SawText.{sawText}
-use Rattle.saw_call.proofs.TextParts.{room-kept}
+use Rattle.saw_text_call.proofs.TextParts.{room-kept}
 use borrow.Author.Needs.{needs}
 use Rattle.saw.proofs.run.Statement.{statement}
 use Rattle.saw.proofs.run.Tie as tie

@@ -14,30 +14,7 @@ mod feed;
 mod memory;
 mod trials;
 
-#[allow(dead_code)]
-#[path = "../../../../reference/src/bin/definition-theorems/damage.rs"]
-mod damage;
-#[allow(dead_code)]
-#[path = "../../../../reference/src/bin/definition-theorems/inputs.rs"]
-mod inputs;
-#[path = "../../longest.rs"]
-mod longest;
-#[path = "../../../../reference/src/bin/definition-theorems/random.rs"]
-mod random;
-#[allow(dead_code)]
-#[path = "../../../../reference/src/bin/definition-theorems/random_texts.rs"]
-mod random_texts;
-#[allow(dead_code)]
-#[path = "../../subjects.rs"]
-mod subjects;
-#[allow(dead_code)]
-#[path = "../../text.rs"]
-mod text;
-#[allow(dead_code)]
-#[path = "../../text_inputs.rs"]
-mod text_inputs;
-
-use text::Text;
+use inputs::Text;
 use trials::Trials;
 
 /// Where the programs are.

@@ -1,11 +1,10 @@
 //! The inputs of a program, and what is asked of it on each.
 
 use crate::feed::{from_file, in_packets, through_pipe, Input};
-use crate::longest::{line_of, long_texts, longest, Long};
 use crate::memory::measure;
-use crate::random::Random;
-use crate::subjects::Known;
-use crate::text::Text;
+use inputs::longest::{line_of, long_texts, longest, Long};
+use inputs::subjects::Known;
+use inputs::{Random, Text};
 use std::fs;
 use std::path::PathBuf;
 
@@ -122,7 +121,7 @@ impl Trials {
     /// Random texts, valid and damaged, in packets of random sizes.
     fn random(&mut self, texts: usize, seed: u64) -> Result<(), String> {
         let mut random = Random::new(seed);
-        let known = Known::new();
+        let known = Known::of_data();
         for _ in 0..texts {
             let text = self.kind.any(&mut random, &known);
             let sizes = match text.len() < SHORT {

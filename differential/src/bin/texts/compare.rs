@@ -1,8 +1,7 @@
 //! One text, answered by the reference, by the engine, and by the engine in parts.
 
 use crate::engine::{in_parts, whole};
-use crate::random::Random;
-use crate::text::Text;
+use inputs::{Random, Text};
 use std::ops::Range;
 
 /// The bytes before an output, and as many after it.

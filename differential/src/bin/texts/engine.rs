@@ -1,14 +1,9 @@
-//! The engine's texts, as include/saw_engine.h declares them, and the same in parts.
+//! The engine's texts by kind: whole, and in parts.
 
-use crate::text::Text;
+use differential::text_engine;
+use inputs::Text;
 
-#[link(name = "engine", kind = "static")]
-extern "C" {
-    fn saw_text(text: *const u8, text_len: usize, out: *mut u8, out_len: usize) -> usize;
-    fn saw_fold_text(text: *const u8, text_len: usize, out: *mut u8, out_len: usize) -> usize;
-}
-
-#[link(name = "parts", kind = "static")]
+#[link(name = "texts_parts", kind = "static")]
 extern "C" {
     fn parts_saw_text(
         text: *const u8,
@@ -30,12 +25,10 @@ extern "C" {
 
 /// Answers a text that is handed over whole; gives the number of bytes written.
 pub fn whole(kind: Text, text: &[u8], out: &mut [u8]) -> usize {
-    let function = match kind {
-        Text::Saw => saw_text,
-        Text::Fold => saw_fold_text,
-    };
-    // SAFETY: each pointer and length are those of a slice, and `out` is borrowed uniquely.
-    unsafe { function(text.as_ptr(), text.len(), out.as_mut_ptr(), out.len()) }
+    match kind {
+        Text::Saw => text_engine::saw(text, out),
+        Text::Fold => text_engine::fold(text, out),
+    }
 }
 
 /// Answers a text that is handed over in parts, which end at these places.
@@ -44,7 +37,7 @@ pub fn in_parts(kind: Text, text: &[u8], ends: &[u32], out: &mut [u8]) -> usize 
         Text::Saw => parts_saw_text,
         Text::Fold => parts_fold_text,
     };
-    // SAFETY: as above.
+    // SAFETY: each pointer and length are those of a slice, and `out` is borrowed uniquely.
     unsafe {
         function(
             text.as_ptr(),

@@ -15,34 +15,12 @@ mod engine;
 mod parts;
 mod tally;
 
-#[allow(dead_code)]
-#[path = "../../../../reference/src/bin/definition-theorems/damage.rs"]
-mod damage;
-#[allow(dead_code)]
-#[path = "../../../../reference/src/bin/definition-theorems/inputs.rs"]
-mod inputs;
-#[allow(dead_code)]
-#[path = "../../longest.rs"]
-mod longest;
-#[path = "../../../../reference/src/bin/definition-theorems/random.rs"]
-mod random;
-#[path = "../../../../reference/src/bin/definition-theorems/random_texts.rs"]
-mod random_texts;
-#[allow(dead_code)]
-#[path = "../../subjects.rs"]
-mod subjects;
-#[path = "../../text.rs"]
-mod text;
-#[path = "../../text_inputs.rs"]
-mod text_inputs;
-
 use compare::{compare, Room};
-use longest::long_texts;
+use inputs::longest::long_texts;
+use inputs::subjects::Known;
+use inputs::{Random, Text};
 use parts::ends;
-use random::Random;
-use subjects::Known;
 use tally::Tally;
-use text::Text;
 
 /// The stack on which texts are answered, in bytes.
 const STACK: usize = 262_144;
@@ -63,7 +41,7 @@ impl Source {
         let mut texts: Vec<Vec<u8>> = (long_texts(kind).into_iter())
             .map(|long| long.text)
             .collect();
-        for number in 0..self.known.len() {
+        for number in 0..self.known.count() {
             let subject = self.known.get(number).expect("a number below their number");
             texts.push(kind.valid(&mut self.random, subject));
         }
@@ -107,7 +85,7 @@ impl Source {
 fn run(texts: usize, seed: u64) -> Result<(), String> {
     let mut random = Random::new(seed);
     let room = Room::new(&mut random);
-    let known = Known::new();
+    let known = Known::of_data();
     let mut source = Source {
         random,
         known,

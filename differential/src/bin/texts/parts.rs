@@ -1,6 +1,6 @@
 //! Where the parts end in which a text is handed over.
 
-use crate::random::Random;
+use inputs::Random;
 
 /// The longest text that is handed over byte by byte.
 const BYTE_BY_BYTE: usize = 5_000;

@@ -1,7 +1,7 @@
 //! What was answered: how often each number, and the longest answer.
 
-use crate::random_texts::refusal_in;
-use crate::text::Text;
+use inputs::text::refusal_in;
+use inputs::Text;
 use std::fmt;
 
 /// One past the largest refusal number.

@@ -11,4 +11,4 @@ returns-2 : tie.Need-returns-2
 returns-2 c = rw (le-ltb _ _ (c .if1 .left))
 
 pub place-word-spec : {M : Type 1} → statement M
-place-word-spec = tie.close (tie.spec (λ c. search needs) returns returns-2)
+place-word-spec = tie.close (tie.spec (λ c. search needs) (λ c. search needs) returns returns-2)

@@ -1,20 +1,21 @@
--- `columns::group::blank_at` meets its contract: the i columns passed are blank, as those of 0 are. Assumes nothing.
+-- `columns::group::blank_at` meets its contract: the i columns passed are blank, as those of 0 are.
 use borrow.Author.Needs.{needs}
 use Prim.Native.Nat.{_≤_, _-_}
 use mathlib.Core.Path.{_≡_}
 use mathlib.Core.Bool.{false≢true}
 use native.Mathlib.Omega.{arith}
 use lib.ListN.{take, drop}
+use Rattle.columns.specs.Widths.{leadBytes}
 use Rattle.columns.specs.Columns.{Columns}
 use Rattle.columns.proofs.GroupLaws.{columns-none, columns-blank}
 use Rattle.columns.proofs.group.blank_at.Statement.{statement}
 use Rattle.columns.proofs.group.blank_at.Tie as tie
 
 abbrev Inv-loop : tie.InvT-loop
-Inv-loop s at i₀ i = (i ≤ 7) × Columns (take i (drop at s)) i 0
+Inv-loop s at i₀ i = (i ≤ leadBytes - 1) × Columns (take i (drop at s)) i 0
 
 abbrev μ-loop : tie.MeasureT-loop
-μ-loop s at i₀ i = 7 - i
+μ-loop s at i₀ i = leadBytes - 1 - i
 
 returns : tie.Need-returns Inv-loop μ-loop
 returns c e = absurd (false≢true e)
@@ -35,8 +36,8 @@ returns-3 : tie.Need-returns-3 Inv-loop μ-loop
 returns-3 c _ =
     let l = c .before .loop in
     let a = c .before .before .before .before .args in
-    let e : l .i ≡ 7 = omega arith in
-    columns-blank (a .s .now) (a .at) 7 (omega arith) (c .before .before .if1 .left) (rw e at (l .inv .1))
+    let e : l .i ≡ leadBytes - 1 = omega arith in
+    columns-blank (a .s .now) (a .at) (leadBytes - 1) (omega arith) (c .before .before .if1 .left) (rw e at (l .inv .1))
 
 pub blank-at-spec : {M : Type 1} → statement M
 blank-at-spec =

@@ -1,4 +1,4 @@
--- `columns::group::column` meets its contract: each answer is checked against what writing gives, by the two cases of `mark`. Assumes nothing.
+-- `columns::group::column` meets its contract: each answer is checked against what writing gives, by the two cases of `mark`.
 use borrow.Author.Needs.{needs}
 use mathlib.Core.Logic.{⊎-elim}
 use native.Mathlib.Omega.{arith}

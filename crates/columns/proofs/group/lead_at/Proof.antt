@@ -1,19 +1,20 @@
--- `columns::group::lead_at` meets its contract: v is the value of the i columns passed. Assumes nothing.
+-- `columns::group::lead_at` meets its contract: v is the value of the i columns passed.
 use borrow.Author.Needs.{needs}
-use Prim.Native.Nat.{ℕ, _≤_, _-_}
+use Prim.Native.Nat.{_≤_, _-_}
 use native.Mathlib.Omega.{arith}
 use mathlib.Core.Path.{_≡_}
 use lib.ListN.{take, drop}
+use Rattle.columns.specs.Widths.{leadBytes}
 use Rattle.columns.specs.Columns.{Columns}
 use Rattle.columns.proofs.GroupLaws.{columns-none, columns-step}
 use Rattle.columns.proofs.group.lead_at.Statement.{statement}
 use Rattle.columns.proofs.group.lead_at.Tie as tie
 
 abbrev Inv-loop : tie.InvT-loop
-Inv-loop s at v₀ i₀ v i = (i ≤ 8) × Columns (take i (drop at s)) i v
+Inv-loop s at v₀ i₀ v i = (i ≤ leadBytes) × Columns (take i (drop at s)) i v
 
 abbrev μ-loop : tie.MeasureT-loop
-μ-loop s at v₀ i₀ v i = 8 - i
+μ-loop s at v₀ i₀ v i = leadBytes - i
 
 loop-holds : tie.Need-loop-holds Inv-loop μ-loop
 loop-holds c = (omega arith, columns-none)
@@ -42,7 +43,7 @@ loop-again c =
 returns : tie.Need-returns Inv-loop μ-loop
 returns c =
     let l = c .before .loop in
-    let e : l .i ≡ 8 = omega arith in
+    let e : l .i ≡ leadBytes = omega arith in
     rw e at (l .inv .1)
 
 pub lead-at-spec : {M : Type 1} → statement M

@@ -1,4 +1,4 @@
--- `columns::group::mark` meets its contract: the two cases of `mark`. Assumes nothing.
+-- `columns::group::mark` meets its contract: the two cases of `mark`.
 use borrow.Author.Needs.{needs}
 use mathlib.Core.Logic.{⊎-elim}
 use native.Mathlib.Omega.{arith}

@@ -1,4 +1,4 @@
--- `columns::group::number_at` meets its contract: the last column by its tests, the eight before it blank, or read by `lead_at`. Assumes nothing.
+-- `columns::group::number_at` meets its contract: the last column by its tests, the eight before it blank, or read by `lead_at`.
 use borrow.Author.Needs.{needs}
 use mathlib.Core.Path.{sym}
 use native.Mathlib.Nat.{zero-add}

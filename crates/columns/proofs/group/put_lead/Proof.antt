@@ -1,4 +1,4 @@
--- `columns::group::put_lead` meets its contract: the columns from the i-th on are written. Assumes nothing.
+-- `columns::group::put_lead` meets its contract: the columns from the i-th on are written.
 use borrow.Author.Needs.{needs}
 use Prim.Native.Nat.{_≤_}
 use mathlib.Core.Path.{_≡_, refl}
@@ -8,9 +8,10 @@ use Rattle.columns.proofs.GroupLaws.{Writing}
 use Rattle.columns.proofs.GroupLaws.{writing-none, writing-step, writing-all}
 use Rattle.columns.proofs.group.put_lead.Statement.{statement}
 use Rattle.columns.proofs.group.put_lead.Tie as tie
+use Rattle.columns.specs.Widths.{leadBytes}
 
 abbrev Inv-loop : tie.InvT-loop
-Inv-loop out₀ at n rest₀ i₀ out rest i = (i ≤ 8) × (length out ≡ length out₀) × Writing out₀ out at n i rest
+Inv-loop out₀ at n rest₀ i₀ out rest i = (i ≤ leadBytes) × (length out ≡ length out₀) × Writing out₀ out at n i rest
 
 abbrev μ-loop : tie.MeasureT-loop
 μ-loop out₀ at n rest₀ i₀ out rest i = i

@@ -1,4 +1,4 @@
--- `columns::group::put_number` meets its contract: the eight columns by `put_lead`, then the last. Assumes nothing.
+-- `columns::group::put_number` meets its contract: the eight columns by `put_lead`, then the last.
 use borrow.Author.Needs.{needs}
 use native.Mathlib.Omega.{arith}
 use Rattle.columns.proofs.GroupLaws.{put-last}

@@ -1,7 +1,7 @@
--- `columns::line::complete_line` meets its contract: i numbers have been read. Assumes nothing.
+-- `columns::line::complete_line` meets its contract: i numbers have been read.
 use borrow.Author.Needs.{needs}
-use Prim.Native.Nat.{ℕ, _+_, _-_, _*_, _≤_}
-use mathlib.Core.Path.{_≡_, refl, sym, ap, _∙_}
+use Prim.Native.Nat.{_+_, _-_, _*_, _≤_}
+use mathlib.Core.Path.{_≡_, refl}
 use native.Mathlib.Omega.{arith}
 use denote.Ref.{now}
 use lib.ListN.{length, length-set, List·getD-eq-default}
@@ -9,13 +9,14 @@ use Rattle.columns.proofs.GroupLaws.{number-fits, number-short}
 use Rattle.columns.proofs.LineLaws.{Reading, reading-none, reading-more, reading-not, reading-eight, reading-end}
 use Rattle.columns.proofs.line.complete_line.Statement.{statement}
 use Rattle.columns.proofs.line.complete_line.Tie as tie
+use Rattle.columns.specs.Widths.{groupBytes, mostNumbers}
 
 abbrev Inv-loop : tie.InvT-loop
 Inv-loop s at numbers₀ p₀ i₀ numbers p i =
-    (i ≤ 8) × (p ≡ at + 9 * i) × (length numbers ≡ length numbers₀) × (length numbers₀ ≡ 8 → Reading s at i numbers₀ numbers)
+    (i ≤ mostNumbers) × (p ≡ at + groupBytes * i) × (length numbers ≡ length numbers₀) × (length numbers₀ ≡ mostNumbers → Reading s at i numbers₀ numbers)
 
 abbrev μ-loop : tie.MeasureT-loop
-μ-loop s at numbers₀ p₀ i₀ numbers p i = 8 - i
+μ-loop s at numbers₀ p₀ i₀ numbers p i = mostNumbers - i
 
 loop-holds : tie.Need-loop-holds Inv-loop μ-loop
 loop-holds c = (omega arith, omega arith, refl, λ h. reading-none _ _ _)
@@ -60,7 +61,7 @@ returns-4 c h =
     let l = c .before .loop in
     let a = c .before .before .before .args in
     let q : length (now (a .s)) ≤ l .p = omega arith in
-    λ k _. reading-not (now (a .s)) (a .at) (l .i) (now (a .numbers)) (l .numbers) (l .inv .3 h) (λ e. omega (arith, e, rw (l .inv .1) at (List·getD-eq-default (now (a .s)) 0 q))) (number-short (now (a .s)) (a .at + 9 * l .i) (omega (arith, q, l .inv .1))) k
+    λ k _. reading-not (now (a .s)) (a .at) (l .i) (now (a .numbers)) (l .numbers) (l .inv .3 h) (λ e. omega (arith, e, rw (l .inv .1) at (List·getD-eq-default (now (a .s)) 0 q))) (number-short (now (a .s)) (a .at + groupBytes * l .i) (omega (arith, q, l .inv .1))) k
 
 pub complete-line-spec : {M : Type 1} → statement M
 complete-line-spec =

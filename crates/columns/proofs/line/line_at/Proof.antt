@@ -1,11 +1,8 @@
--- `columns::line::line_at` meets its contract: the line that stands there has k numbers, or another number, or there is none. Assumes nothing.
+-- `columns::line::line_at` meets its contract: the line that stands there has k numbers, or another number, or there is none.
 use borrow.Author.Needs.{needs}
-use Prim.Native.Nat.{ℕ, _-_}
-use mathlib.Core.Path.{_≡_, refl, sym, ap, _∙_}
-use native.Mathlib.Omega.{arith}
+use mathlib.Core.Path.{refl}
 use denote.Ref.{now}
-use lib.ListN.{length, drop, replicate}
-use Rattle.columns.specs.Line.{CompleteAs}
+use lib.ListN.{drop}
 use Rattle.columns.proofs.LineLaws.{line-complete}
 use Rattle.columns.proofs.ReadLaws.{one-line}
 use Rattle.columns.proofs.line.line_at.Statement.{statement}

@@ -1,9 +1,10 @@
--- `columns::line::put_line` meets its contract: the columns of i numbers are written. Assumes nothing.
+-- `columns::line::put_line` meets its contract: the columns of i numbers are written.
 use borrow.Author.Needs.{needs}
 use Prim.Native.Nat.{_≤_, _+_, _-_, _*_}
 use mathlib.Core.Path.{_≡_, refl, sym, _∙_}
 use native.Mathlib.Omega.{arith}
 use lib.ListN.{length, take}
+use Rattle.columns.specs.Widths.{groupBytes}
 use Rattle.columns.specs.Group.{put}
 use Rattle.columns.specs.Line.{groups}
 use Rattle.columns.proofs.GroupLaws.{put-nil}
@@ -12,7 +13,7 @@ use Rattle.columns.proofs.line.put_line.Statement.{statement}
 use Rattle.columns.proofs.line.put_line.Tie as tie
 
 abbrev Inv-loop : tie.InvT-loop
-Inv-loop out₀ at numbers p₀ i₀ out p i = (i ≤ length numbers) × (p ≡ at + 9 * i) × (length out ≡ length out₀) × (out ≡ put out₀ at (groups (take i numbers)))
+Inv-loop out₀ at numbers p₀ i₀ out p i = (i ≤ length numbers) × (p ≡ at + groupBytes * i) × (length out ≡ length out₀) × (out ≡ put out₀ at (groups (take i numbers)))
 
 abbrev μ-loop : tie.MeasureT-loop
 μ-loop out₀ at numbers p₀ i₀ out p i = length numbers - i

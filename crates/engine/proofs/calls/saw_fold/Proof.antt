@@ -1,7 +1,7 @@
 -- `saw_fold` hands on the answer of the folding call.
 use mathlib.Core.Path.{sym, ap, _∙_}
 use denote.Ref.{now}
-use Rattle.folder.specs.Ending.{saysOf}
+use Rattle.fold_call.specs.FoldSays.{saysOf}
 use Rattle.answers.specs.AnswerWords.{answerWords}
 use Rattle.engine.proofs.Promises.{fold-accepted, fold-refused}
 use borrow.Author.Needs.{needs}

@@ -1,22 +1,27 @@
 -- `saw_list` hands on the answer of the listing call.
 use mathlib.Core.Path.{sym, ap, _∙_}
-use Rattle.lister.specs.Listed.{saysOf}
+use mathlib.Core.List.{[], _∷_}
+use Prim.Native.Nat.{ℕ}
+use Rattle.job.specs.Buffers.{given}
+use Rattle.listing_call.specs.ListSays.{saysOf}
+use Rattle.listing_call.proofs.CodeEnding.{some-types}
 use Rattle.answers.specs.AnswerWords.{answerWords}
 use borrow.Author.Needs.{needs}
 use Rattle.engine.proofs.calls.saw_list.Statement.{statement}
 use Rattle.engine.proofs.calls.saw_list.Tie as tie
 
+residuals-requires : tie.Need-residuals-requires
+residuals-requires c κs = some-types (c .before .m .given .1) (c .before .before .before .before .before .before .before .list .ensures .0)
+
 returns : tie.Need-returns
 returns c =
-    let at = c .before .before .before .before .before in
-    let called = at .before .before .before .before .before .before .list .ensures in
-    (c .accept .ensures ∙ ap answerWords (sym (ap saysOf (at .residuals .given .1)) ∙ called .0), called .1)
+    let called = c .before .before .before .before .before .before .before .before .before .before .before .list .ensures .1 in
+    (c .accept .ensures ∙ ap (λ (r : ℕ). answerWords (given (r ∷ c .before .before .before .before .before .m .given .0 .1 .0 .0 ∷ []))) (c .before .before .before .residuals .ensures) ∙ ap answerWords (sym (ap saysOf (c .before .before .before .before .before .m .given .1)) ∙ called .0), called .1)
 
 returns-2 : tie.Need-returns-2
 returns-2 c =
-    let at = c .before .before .before in
-    let called = at .before .before .before .before .before .before .list .ensures in
-    (c .refuse .ensures ∙ ap answerWords (sym (ap saysOf (at .number .given .1)) ∙ called .0), called .1)
+    let called = c .before .before .before .before .before .before .before .before .before .list .ensures .1 in
+    (c .refuse .ensures ∙ ap answerWords (sym (ap saysOf (c .before .before .before .number .given .1)) ∙ called .0), called .1)
 
 pub saw-list-spec : {M : Type 1} → statement M
 saw-list-spec =
@@ -24,10 +29,10 @@ saw-list-spec =
     (tie.spec
     (λ c κs. search needs)
     (λ c. search needs)
+    residuals-requires
     (λ c. search needs)
     (λ c. search needs)
     (λ c κs. search needs)
-    (λ c. search needs)
     (λ c. search needs)
     (λ c κs. search needs)
     (λ c. search needs)

@@ -1,6 +1,6 @@
 -- `saw_test_plan` hands on the answer of the plan test.
 use mathlib.Core.Path.{sym, ap, _∙_}
-use Rattle.tester.specs.PlanSays.{saysOf}
+use Rattle.plan_test.specs.PlanSays.{saysOf}
 use Rattle.answers.specs.AnswerWords.{answerWords}
 use borrow.Author.Needs.{needs}
 use Rattle.engine.proofs.calls.saw_test_plan.Statement.{statement}

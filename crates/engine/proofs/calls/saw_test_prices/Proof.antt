@@ -1,7 +1,7 @@
 -- `saw_test_prices` hands on the answer of the price test.
 use mathlib.Core.Path.{sym, ap, _∙_}
 use denote.Ref.{now}
-use Rattle.pricer.specs.PriceSays.{saysOf}
+use Rattle.price_test.specs.PriceSays.{saysOf}
 use Rattle.answers.specs.AnswerWords.{answerWords}
 use Rattle.engine.proofs.Promises.{price-accepted, price-refused}
 use borrow.Author.Needs.{needs}

@@ -1,7 +1,7 @@
 -- `saw_unfold` hands on the answer of the unfolding call.
 use mathlib.Core.Path.{sym, ap, _∙_}
 use denote.Ref.{now}
-use Rattle.unfolding.specs.Ending.{saysOf}
+use Rattle.unfold_call.specs.UnfoldSays.{saysOf}
 use Rattle.answers.specs.AnswerWords.{answerWords}
 use Rattle.engine.proofs.Promises.{unfold-accepted, unfold-refused}
 use borrow.Author.Needs.{needs}

@@ -3,25 +3,26 @@ use Prim.Native.Nat.{ℕ}
 use mathlib.Core.Path.{sym}
 use lib.ListN.{length-replicate}
 use borrow.Author.Needs.{needs}
+use Rattle.job.specs.Sizes.{longestJob, platesSize, cutsSize, countsSize, placementsSize}
 use Rattle.answers.proofs.FullSize.{full-size}
-use Rattle.fold_call.proofs.ToHost.{fold-answer}
+use Rattle.fold_text_call.proofs.ToHost.{fold-answer}
 use Rattle.engine.proofs.text_calls.saw_fold_text.Statement.{statement}
 use Rattle.engine.proofs.text_calls.saw_fold_text.Tie as tie
 
 slice-aggregate-fold-text : tie.Need-slice-aggregate-fold-text
-slice-aggregate-fold-text c = sym {0} (length-replicate {0} {A = ℕ} 125 0)
+slice-aggregate-fold-text c = sym {0} (length-replicate {0} {A = ℕ} longestJob 0)
 
 slice-aggregate-fold-text-2 : tie.Need-slice-aggregate-fold-text-2
-slice-aggregate-fold-text-2 c = sym {0} (length-replicate {0} {A = ℕ} 28000 0)
+slice-aggregate-fold-text-2 c = sym {0} (length-replicate {0} {A = ℕ} placementsSize 0)
 
 slice-aggregate-fold-text-3 : tie.Need-slice-aggregate-fold-text-3
-slice-aggregate-fold-text-3 c = sym {0} (length-replicate {0} {A = ℕ} 6144 0)
+slice-aggregate-fold-text-3 c = sym {0} (length-replicate {0} {A = ℕ} platesSize 0)
 
 slice-aggregate-fold-text-4 : tie.Need-slice-aggregate-fold-text-4
-slice-aggregate-fold-text-4 c = sym {0} (length-replicate {0} {A = ℕ} 32768 0)
+slice-aggregate-fold-text-4 c = sym {0} (length-replicate {0} {A = ℕ} cutsSize 0)
 
 slice-aggregate-fold-text-5 : tie.Need-slice-aggregate-fold-text-5
-slice-aggregate-fold-text-5 c = sym {0} (length-replicate {0} {A = ℕ} 8192 0)
+slice-aggregate-fold-text-5 c = sym {0} (length-replicate {0} {A = ℕ} countsSize 0)
 
 fold-text-requires : tie.Need-fold-text-requires
 fold-text-requires c κs = tt
@@ -33,11 +34,11 @@ returns : tie.Need-returns
 returns c =
     fold-answer
     (c .before .before .before .before .before .before .before .fold-text .ensures)
-    (full-size 125)
-    (full-size 28000)
-    (full-size 6144)
-    (full-size 32768)
-    (full-size 8192)
+    (full-size longestJob)
+    (full-size placementsSize)
+    (full-size platesSize)
+    (full-size cutsSize)
+    (full-size countsSize)
 
 pub saw-fold-text-spec : {M : Type 1} → statement M
 saw-fold-text-spec =

@@ -3,28 +3,29 @@ use Prim.Native.Nat.{ℕ}
 use mathlib.Core.Path.{sym}
 use lib.ListN.{length-replicate}
 use borrow.Author.Needs.{needs}
+use Rattle.job.specs.Sizes.{longestJob, platesSize, cutsSize, countsSize, placementsSize, pricesSize}
 use Rattle.answers.proofs.FullSize.{full-size}
-use Rattle.saw_call.proofs.ToHost.{saw-answer}
+use Rattle.saw_text_call.proofs.ToHost.{saw-answer}
 use Rattle.engine.proofs.text_calls.saw_text.Statement.{statement}
 use Rattle.engine.proofs.text_calls.saw_text.Tie as tie
 
 slice-aggregate-saw-text : tie.Need-slice-aggregate-saw-text
-slice-aggregate-saw-text c = sym {0} (length-replicate {0} {A = ℕ} 125 0)
+slice-aggregate-saw-text c = sym {0} (length-replicate {0} {A = ℕ} longestJob 0)
 
 slice-aggregate-saw-text-2 : tie.Need-slice-aggregate-saw-text-2
-slice-aggregate-saw-text-2 c = sym {0} (length-replicate {0} {A = ℕ} 6144 0)
+slice-aggregate-saw-text-2 c = sym {0} (length-replicate {0} {A = ℕ} platesSize 0)
 
 slice-aggregate-saw-text-3 : tie.Need-slice-aggregate-saw-text-3
-slice-aggregate-saw-text-3 c = sym {0} (length-replicate {0} {A = ℕ} 32768 0)
+slice-aggregate-saw-text-3 c = sym {0} (length-replicate {0} {A = ℕ} cutsSize 0)
 
 slice-aggregate-saw-text-4 : tie.Need-slice-aggregate-saw-text-4
-slice-aggregate-saw-text-4 c = sym {0} (length-replicate {0} {A = ℕ} 8192 0)
+slice-aggregate-saw-text-4 c = sym {0} (length-replicate {0} {A = ℕ} countsSize 0)
 
 slice-aggregate-saw-text-5 : tie.Need-slice-aggregate-saw-text-5
-slice-aggregate-saw-text-5 c = sym {0} (length-replicate {0} {A = ℕ} 2088 0)
+slice-aggregate-saw-text-5 c = sym {0} (length-replicate {0} {A = ℕ} pricesSize 0)
 
 slice-aggregate-saw-text-6 : tie.Need-slice-aggregate-saw-text-6
-slice-aggregate-saw-text-6 c = sym {0} (length-replicate {0} {A = ℕ} 28000 0)
+slice-aggregate-saw-text-6 c = sym {0} (length-replicate {0} {A = ℕ} placementsSize 0)
 
 saw-text-requires : tie.Need-saw-text-requires
 saw-text-requires c κs = tt
@@ -37,13 +38,13 @@ returns c =
     saw-answer
     (c .before .before .before .before .before .before .before .before .saw-text .ensures)
     (record {
-      for-job = full-size 125;
-      for-plates = full-size 6144;
-      for-cuts = full-size 32768;
-      for-counts = full-size 8192;
-      for-prices = full-size 2088;
+      for-job = full-size longestJob;
+      for-plates = full-size platesSize;
+      for-cuts = full-size cutsSize;
+      for-counts = full-size countsSize;
+      for-prices = full-size pricesSize;
     })
-    (full-size 28000)
+    (full-size placementsSize)
 
 pub saw-text-spec : {M : Type 1} → statement M
 saw-text-spec =

@@ -56,6 +56,7 @@ types-right-spec =
     (λ c. (search needs, (search needs, refl)))
     item-at-requires
     (λ c κs. search needs)
+    (λ c. search needs)
     returns
     (λ c. search needs)
     (λ c. search needs)

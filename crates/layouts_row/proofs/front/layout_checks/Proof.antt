@@ -1,58 +1,27 @@
 -- `layout_checks` takes the job's words, the layout words and the job row in turn.
 use mathlib.Core.Path.{sym, ap, _∙_}
-use denote.Ref.{now}
-use Rattle.job.specs.Verdict.{_then_}
-use Rattle.job.specs.Job.{jobOf, jobWords, admission}
-use Rattle.job.specs.Admission.{verdictOf}
-use Rattle.job.proofs.Verdicts.{then-passed, then-refused}
-use Rattle.layouts.specs.Lines.{layoutWords}
-use Rattle.tester.specs.RowSays.{rowVerdict}
 use borrow.Author.Needs.{needs}
+use Rattle.job.specs.Row.{rowVerdict}
+use Rattle.layouts_row.proofs.CodeRows.{row-stops, row-goes-on}
 use Rattle.layouts_row.proofs.front.layout_checks.Statement.{statement}
 use Rattle.layouts_row.proofs.front.layout_checks.Tie as tie
 
-layout-words-requires : tie.Need-layout-words-requires
-layout-words-requires c κs = sym (c .before .before .job-words .ensures) ∙ ap verdictOf (c .enum-told .given .1)
-
-admit-requires : tie.Need-admit-requires
-admit-requires c κs = sym (c .before .before .before .before .before .job-words .ensures) ∙ ap verdictOf (c .before .before .before .enum-told .given .1)
-
 returns : tie.Need-returns
-returns c =
-    let a = c .before .before .before .before .before .before .args in
-    let words = jobWords (now (a .job)) in
-    let lines = layoutWords (jobOf (now (a .job))) (now (a .layouts)) in
-    let rest = admission (jobOf (now (a .job))) in
-    sym (then-refused words (lines then rest) _ _ (sym (c .before .before .before .job-words .ensures) ∙ ap verdictOf (c .before .number .given .1)))
+returns c = row-stops (c .before .before .job-words .ensures) _ (c .enum-told2 .given .1)
+
+layout-words-requires : tie.Need-layout-words-requires
+layout-words-requires c κs = sym (c .before .before .job-words .ensures) ∙ ap rowVerdict (c .enum-told .given .1)
 
 returns-2 : tie.Need-returns-2
 returns-2 c =
-    let a = c .before .before .before .before .before .before .before .before .before .args in
-    let words = jobWords (now (a .job)) in
-    let lines = layoutWords (jobOf (now (a .job))) (now (a .layouts)) in
-    let rest = admission (jobOf (now (a .job))) in
-    let w = sym (c .before .before .before .before .before .before .job-words .ensures) ∙ ap verdictOf (c .before .before .before .before .enum-told .given .1) in
-    sym (then-passed words (lines then rest) w ∙ then-refused lines rest _ _ (sym (c .before .before .before .layout-words .ensures) ∙ ap rowVerdict (c .before .number2 .given .1)))
+    row-goes-on (c .before .before .before .before .before .job-words .ensures) (c .before .before .before .enum-told .given .1) (row-stops (c .before .before .layout-words .ensures) _ (c .enum-told4 .given .1))
+
+admit-requires : tie.Need-admit-requires
+admit-requires c κs = sym (c .before .before .before .before .before .job-words .ensures) ∙ ap rowVerdict (c .before .before .before .enum-told .given .1)
 
 returns-3 : tie.Need-returns-3
 returns-3 c =
-    let a = c .before .before .before .before .before .before .before .before .before .before .before .before .args in
-    let words = jobWords (now (a .job)) in
-    let lines = layoutWords (jobOf (now (a .job))) (now (a .layouts)) in
-    let rest = admission (jobOf (now (a .job))) in
-    let w = sym (c .before .before .before .before .before .before .before .before .before .job-words .ensures) ∙ ap verdictOf (c .before .before .before .before .before .before .before .enum-told .given .1) in
-    let p = sym (c .before .before .before .before .before .before .layout-words .ensures) ∙ ap rowVerdict (c .before .before .before .before .enum-told2 .given .1) in
-    sym (then-passed words (lines then rest) w ∙ then-passed lines rest p ∙ sym (c .before .before .before .admit .ensures) ∙ ap verdictOf (c .before .number3 .given .1))
-
-returns-4 : tie.Need-returns-4
-returns-4 c =
-    let a = c .before .before .before .before .before .before .before .before .before .before .before .args in
-    let words = jobWords (now (a .job)) in
-    let lines = layoutWords (jobOf (now (a .job))) (now (a .layouts)) in
-    let rest = admission (jobOf (now (a .job))) in
-    let w = sym (c .before .before .before .before .before .before .before .before .job-words .ensures) ∙ ap verdictOf (c .before .before .before .before .before .before .enum-told .given .1) in
-    let p = sym (c .before .before .before .before .before .layout-words .ensures) ∙ ap rowVerdict (c .before .before .before .enum-told2 .given .1) in
-    sym (then-passed words (lines then rest) w ∙ then-passed lines rest p ∙ sym (c .before .before .admit .ensures) ∙ ap verdictOf (c .enum-told3 .given .1))
+    row-goes-on (c .before .before .before .before .before .before .job-words .ensures) (c .before .before .before .before .enum-told .given .1) (row-goes-on (c .before .before .before .layout-words .ensures) (c .before .enum-told3 .given .1) (c .admit .ensures))
 
 pub layout-checks-spec : {M : Type 1} → statement M
 layout-checks-spec =
@@ -61,15 +30,10 @@ layout-checks-spec =
     (λ c κs. search needs)
     (λ c. search needs)
     (λ c. search needs)
-    (λ c. search needs)
+    returns
     layout-words-requires
     (λ c. search needs)
     (λ c. search needs)
-    admit-requires
-    (λ c. search needs)
-    (λ c. search needs)
-    (λ c. search needs)
-    returns
     returns-2
-    returns-3
-    returns-4)
+    admit-requires
+    returns-3)

@@ -47,6 +47,7 @@ pub layouts-row-spec : {M : Type 1} → statement M
 layouts-row-spec =
     tie.close
     (tie.spec
+    (λ c. search needs)
     returns
     turns-row-requires
     (λ c. search needs)

@@ -1,6 +1,8 @@
 -- `may_cut` tests the two sides, and then the rule of the exact modes.
-use borrow.Author.Tests.{ne-eqb, le-leb, lt-leb}
-use mathlib.Core.Path.{_≡_}
+use borrow.Author.Needs.{needs}
+use borrow.Author.Tests.{eq-eqb, ne-eqb, le-leb, lt-leb, not-true, not-false}
+use mathlib.Core.Path.{_≡_, sym, _∙_}
+use mathlib.Core.Bool.{true, false, not}
 use Prim.Native.Nat.{_≤_}
 use lib.Dec.{eqb}
 use Rattle.job.specs.declared.mode.Mode.{Mode}
@@ -11,15 +13,30 @@ use Rattle.listing.specs.Plate.{mayCut, exactFit}
 use Rattle.listing.proofs.plate.may_cut.Statement.{statement}
 use Rattle.listing.proofs.plate.may_cut.Tie as tie
 
--- 2E at stage 2 goes by the heights
-by-height : (m : Mode) (item : Item) (p : Plate) → item .width ≤ p .width → item .height ≤ p .height → m .0 ≡ 0 → p .stage ≡ 2 → eqb (item .height) (p .height) ≡ mayCut m item p
-unfolding mayCut exactFit exact three
-by-height m item p a b k s = simp (le-leb _ _ a, le-leb _ _ b, k, s)
+module _ (m : Mode) (item : Item) (p : Plate) (a : item .width ≤ p .width) (b : item .height ≤ p .height) where
+  -- a non-exact mode asks for nothing more
+  non-exact : exact m ≡ false → true ≡ mayCut m item p
+  unfolding mayCut exactFit
+  non-exact e = simp (le-leb _ _ a, le-leb _ _ b, e)
 
--- 3E at stage 3 goes by the widths
-by-width : (m : Mode) (item : Item) (p : Plate) → item .width ≤ p .width → item .height ≤ p .height → m .0 ≡ 2 → p .stage ≡ 3 → eqb (item .width) (p .width) ≡ mayCut m item p
-unfolding mayCut exactFit exact three
-by-width m item p a b k s = simp (le-leb _ _ a, le-leb _ _ b, k, s)
+  module _ (e : exact m ≡ true) where
+    -- 3E asks at stage 3 alone, and there for the width
+    other-than-3 : three m ≡ true → (p .stage ≡ 3 → ⊥) → not (eqb (p .stage) 3) ≡ mayCut m item p
+    unfolding mayCut exactFit
+    other-than-3 t s = simp (le-leb _ _ a, le-leb _ _ b, e, t, ne-eqb _ _ s)
+
+    by-width : three m ≡ true → p .stage ≡ 3 → eqb (item .width) (p .width) ≡ mayCut m item p
+    unfolding mayCut exactFit
+    by-width t s = simp (le-leb _ _ a, le-leb _ _ b, e, t, eq-eqb _ _ s)
+
+    -- 2E asks at stage 2 alone, and there for the height
+    other-than-2 : three m ≡ false → (p .stage ≡ 2 → ⊥) → not (eqb (p .stage) 2) ≡ mayCut m item p
+    unfolding mayCut exactFit
+    other-than-2 t s = simp (le-leb _ _ a, le-leb _ _ b, e, t, ne-eqb _ _ s)
+
+    by-height : three m ≡ false → p .stage ≡ 2 → eqb (item .height) (p .height) ≡ mayCut m item p
+    unfolding mayCut exactFit
+    by-height t s = simp (le-leb _ _ a, le-leb _ _ b, e, t, eq-eqb _ _ s)
 
 returns : tie.Need-returns
 unfolding mayCut
@@ -31,33 +48,38 @@ returns-2 c = simp (le-leb _ _ (c .before .before .before .if1 .left), lt-leb _ 
 
 returns-3 : tie.Need-returns-3
 returns-3 c =
-    let d = c .before .before .before in
-    let a = d .before .before .before .before .before .before .before .args in
-    by-height (a .mode) (a .item) (a .p) (d .before .before .before .before .if1 .left) (d .before .if2 .left) (d .match .keys1) (c .before .before .if3 .taken)
+    let d = c .before .before in
+    let a = d .before .before .before .before .before .before .args in
+    non-exact (a .mode) (a .item) (a .p) (d .before .before .before .if1 .left) (d .if2 .left) (sym (c .before .exact .ensures) ∙ not-true _ (c .if3 .taken))
 
 returns-4 : tie.Need-returns-4
 returns-4 c =
-    let d = c .before .before .before in
-    let a = d .before .before .before .before .before .before .before .args in
-    by-width (a .mode) (a .item) (a .p) (d .before .before .before .before .if1 .left) (d .before .if2 .left) (d .match .keys2) (c .before .before .if4 .taken)
+    let x = c .before .before .before .before in
+    let d = x .before .before in
+    let a = d .before .before .before .before .before .before .args in
+    other-than-3 (a .mode) (a .item) (a .p) (d .before .before .before .if1 .left) (d .if2 .left) (sym (x .before .exact .ensures) ∙ not-false _ (x .if3 .left)) (sym (c .before .before .before .three .ensures) ∙ c .before .before .if4 .taken) (c .if5 .taken)
 
 returns-5 : tie.Need-returns-5
-unfolding mayCut exactFit exact three
 returns-5 c =
-    let d = c .before in
-    simp (le-leb _ _ (d .before .before .before .before .if1 .left), le-leb _ _ (d .before .if2 .left), d .match .keys1, ne-eqb _ _ (c .if3 .left))
+    let x = c .before .before .before .before .before .before in
+    let d = x .before .before in
+    let a = d .before .before .before .before .before .before .args in
+    by-width (a .mode) (a .item) (a .p) (d .before .before .before .if1 .left) (d .if2 .left) (sym (x .before .exact .ensures) ∙ not-false _ (x .if3 .left)) (sym (c .before .before .before .before .before .three .ensures) ∙ c .before .before .before .before .if4 .taken) (c .before .before .if5 .left)
 
 returns-6 : tie.Need-returns-6
-unfolding mayCut exactFit exact three
 returns-6 c =
-    let d = c .before in
-    simp (le-leb _ _ (d .before .before .before .before .if1 .left), le-leb _ _ (d .before .if2 .left), d .match .keys2, ne-eqb _ _ (c .if4 .left))
+    let x = c .before .before .before .before in
+    let d = x .before .before in
+    let a = d .before .before .before .before .before .before .args in
+    other-than-2 (a .mode) (a .item) (a .p) (d .before .before .before .if1 .left) (d .if2 .left) (sym (x .before .exact .ensures) ∙ not-false _ (x .if3 .left)) (sym (c .before .before .before .three .ensures) ∙ c .before .before .if4 .left) (c .if6 .taken)
 
 returns-7 : tie.Need-returns-7
-unfolding mayCut exactFit exact
 returns-7 c =
-    simp (le-leb _ _ (c .before .before .before .before .if1 .left), le-leb _ _ (c .before .if2 .left), ne-eqb _ _ (c .match .rest .0 .1), ne-eqb _ _ (c .match .rest .1))
+    let x = c .before .before .before .before .before .before in
+    let d = x .before .before in
+    let a = d .before .before .before .before .before .before .args in
+    by-height (a .mode) (a .item) (a .p) (d .before .before .before .if1 .left) (d .if2 .left) (sym (x .before .exact .ensures) ∙ not-false _ (x .if3 .left)) (sym (c .before .before .before .before .before .three .ensures) ∙ c .before .before .before .before .if4 .left) (c .before .before .if6 .left)
 
 pub may-cut-spec : {M : Type 1} → statement M
 may-cut-spec =
-    tie.close (tie.spec returns returns-2 returns-3 returns-4 returns-5 returns-6 returns-7)
+    tie.close (tie.spec returns returns-2 (λ c κs. search needs) returns-3 (λ c κs. search needs) returns-4 returns-5 returns-6 returns-7)

@@ -1,7 +1,7 @@
--- `put_cut` stores the four words of a cut.
+-- `put_cut` stores the words of a cut.
 use native.Mathlib.Omega.{arith}
 use lib.ListN.{length-set}
-use Rattle.listing.specs.Holds.{cutOf}
+use Rattle.listing.specs.Holds.{cutOfWords}
 use Rattle.listing.proofs.CodeHolds.{held-cut-put}
 use borrow.Author.Needs.{needs}
 use Rattle.listing.proofs.words.put_cut.Statement.{statement}
@@ -10,7 +10,7 @@ use Rattle.listing.proofs.words.put_cut.Tie as tie
 returns : tie.Need-returns
 returns c cs e h =
     let a = c .before .args in
-    held-cut-put cs (a .k .0) (cutOf (a .j .0) (a .i .0) (a .top .0) (a .right .0)) e (c .before .pre) h
+    held-cut-put cs (a .k .0) (cutOfWords (a .j .0) (a .i .0) (a .top .0) (a .right .0)) e (c .before .pre) h
 
 pub put-cut-spec : {M : Type 1} → statement M
 put-cut-spec =
@@ -22,15 +22,12 @@ put-cut-spec =
     (λ c. search needs)
     (λ c. search needs)
     (λ c. search needs)
+    (λ c. simp length-set (omega arith))
+    (λ c. search needs)
     (λ c. search needs)
     (λ c. simp length-set (omega arith))
     (λ c. search needs)
     (λ c. search needs)
-    (λ c. search needs)
     (λ c. simp length-set (omega arith))
-    (λ c. search needs)
-    (λ c. search needs)
-    (λ c. search needs)
-    (λ c. search needs)
     (λ c. search needs)
     returns)

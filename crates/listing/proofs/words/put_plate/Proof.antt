@@ -1,4 +1,4 @@
--- `put_plate` stores the three words of a plate type.
+-- `put_plate` stores the words of a plate type.
 use native.Mathlib.Omega.{arith}
 use lib.ListN.{length-set}
 use Rattle.listing.proofs.CodeHolds.{held-plate-put}
@@ -21,11 +21,9 @@ put-plate-spec =
     (λ c. search needs)
     (λ c. search needs)
     (λ c. search needs)
-    (λ c. search needs)
     (λ c. simp length-set (omega arith))
     (λ c. search needs)
     (λ c. search needs)
-    (λ c. search needs)
-    (λ c. search needs)
+    (λ c. simp length-set (omega arith))
     (λ c. search needs)
     returns)

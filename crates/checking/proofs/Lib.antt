@@ -1,5 +1,0 @@
--- The laws of this crate: lines of layout words on plain values.
-pub mod CodeLines
-pub mod CodeLimits
-pub mod CodeTurns
-pub mod CodeDemands

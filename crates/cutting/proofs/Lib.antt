@@ -1,6 +1,0 @@
--- The laws of this crate's code, on plain values.
-pub mod CodePlacements
-pub mod Steps
-pub mod Inside
-pub mod CodeCut
-pub mod CodeStep

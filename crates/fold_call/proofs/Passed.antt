@@ -1,0 +1,83 @@
+-- What the code knows of a job and of layout lines that have passed their rows.
+use Prim.Native.Nat.{ℕ, _/_, _≤_}
+use native.Mathlib.Omega.{arith}
+use mathlib.Core.Path.{_≡_}
+use mathlib.Core.Bool.{true, _&&_}
+use mathlib.Core.List.{List}
+use lib.ListN.{length}
+use lib.Dec.{leb}
+use Rattle.job.specs.Sizes.{maxPieces, wordsOfPlacement}
+use Rattle.job.specs.Lists.{all, nonEmpty}
+use Rattle.job.specs.Verdict.{pass, _then_, within}
+use Rattle.job.specs.Job.{Job, jobOf, jobWords, admission}
+use Rattle.job.proofs.CodeAdmission.{passed-length}
+use Rattle.job.proofs.Tests.{and-left, and-right}
+use Rattle.job.proofs.Verdicts.{then-first, then-second, then-both}
+use Rattle.job.proofs.Admission.{words-right, admitted-words, admitted-job, admitted-sided}
+use Rattle.listing.specs.Listing.{modelRow, listingOf}
+use Rattle.listing.specs.Model.{Model}
+use Rattle.listing.proofs.WalkModel.{row-model}
+use Rattle.plan_test.proofs.CodeListed.{Ready}
+use Rattle.layouts.specs.Layout.{Board, stripWidth, boardHeight, stageRule, boardRules, layoutRules}
+use Rattle.layouts.specs.Lines.{rowsOf, layoutWords, setOf}
+use Rattle.layouts.specs.LayoutsRow.{layoutsRow}
+use Rattle.layouts.proofs.lists.Every.{all-every}
+use Rattle.layouts.proofs.row.RowWords.{words-set}
+use Rattle.placement.proofs.Rows.{whole-rows}
+use Rattle.layouts_row.proofs.CodeRows.{passed-whole, passed-lent}
+use Rattle.listing_find.proofs.Narrowing.{model-rising}
+use Rattle.fold_counts.specs.Lent.{CutsLent, LinesLent}
+use Rattle.fold_counts.specs.Strip.{EachStaged}
+
+-- the rows before the buffers, which have passed: of the job's words, of the layout words, of the job
+module _ (ws layouts : List ℕ) (checked : (jobWords ws then layoutWords (jobOf ws) layouts then admission (jobOf ws)) ≡ pass) where
+  pub words-passed : jobWords ws ≡ pass
+  words-passed = then-first (jobWords ws) _ checked
+
+  lines-and-job : (layoutWords (jobOf ws) layouts then admission (jobOf ws)) ≡ pass
+  lines-and-job = then-second (jobWords ws) _ checked
+
+  pub lines-passed : layoutWords (jobOf ws) layouts ≡ pass
+  lines-passed = then-first (layoutWords (jobOf ws) layouts) _ lines-and-job
+
+  pub job-passed : admission (jobOf ws) ≡ pass
+  job-passed = then-second (layoutWords (jobOf ws) layouts) _ lines-and-job
+
+-- the listing of an admitted job is a model, and its cuts, which the buffer has, rise
+module _ (ws : List ℕ) (words : jobWords ws ≡ pass) (admitted : admission (jobOf ws) ≡ pass) (model : modelRow (jobOf ws) ≡ pass) where
+  pub listed-model : Model (jobOf ws) (listingOf (jobOf ws))
+  listed-model = row-model (jobOf ws) (admitted-sided (jobOf ws) (admitted-job ws (admitted-words ws .0 (then-both (jobWords ws) (admission (jobOf ws)) words admitted)))) model
+
+  pub listed-cuts : {cuts : List ℕ} {n m k : ℕ} → Ready ws cuts n m k → CutsLent (listingOf (jobOf ws)) cuts k
+  listed-cuts ready = record { listed = ready .listed; rising = model-rising (jobOf ws) (listingOf (jobOf ws)) listed-model; cut-words = ready .lent .cut-words }
+
+-- the strips of a board that keeps the rules keep the stage rule
+board-staged : (job : Job) (b : Board) → boardRules job b ≡ true → all (stageRule job) b ≡ true
+unfolding boardRules
+board-staged job b e =
+    let before = nonEmpty b && all nonEmpty b && all (all nonEmpty) b && all (all (all (within 1 (length (job .items))))) b in
+    let stages = all (stageRule job) b in
+    let across = all (λ s. leb (stripWidth job s) (job .width)) b in
+    and-right before stages (and-left (before && stages) across (and-left (before && stages && across) (leb (boardHeight job b) (job .height)) e))
+
+set-staged : (job : Job) (bs : List Board) → layoutRules job bs ≡ true → EachStaged job bs
+unfolding layoutRules
+set-staged job bs e =
+    all-every (boardRules job) _ (λ b f. all-every (stageRule job) (λ s. stageRule job s ≡ true) (λ s g. g) b (board-staged job b f)) bs e
+
+module _ (ws layouts : List ℕ) (words : jobWords ws ≡ pass) (lines : layoutWords (jobOf ws) layouts ≡ pass) (row : layoutsRow 1 (jobOf ws) (rowsOf layouts) ≡ pass) where
+  pub few-lines : length layouts / wordsOfPlacement ≤ maxPieces
+  few-lines = omega (arith, words-set (jobOf ws) 1 layouts lines row .few, whole-rows layouts (length layouts / wordsOfPlacement) (passed-whole (jobOf ws) layouts lines))
+
+  pub lent-lines : LinesLent ws layouts (length layouts / wordsOfPlacement)
+  lent-lines =
+      record {
+        lines-lent = passed-lent ws layouts words lines few-lines;
+        sides = λ i h g.
+            let t = words-right ws words .each-item i h (omega (arith, passed-length ws words)) in
+            (t .width-limits .1, t .height-limits .1);
+      }
+
+  pub staged : EachStaged (jobOf ws) (setOf layouts)
+  unfolding setOf
+  staged = set-staged (jobOf ws) (setOf layouts) (words-set (jobOf ws) 1 layouts lines row .rules)

@@ -1,4 +1,0 @@
--- The definitions of this crate: how a fold text ends.
-pub mod TextEnd
-pub mod Ending
-pub mod Finished

@@ -1,0 +1,2 @@
+// The fold text, from bytes to bytes.
+pub mod call;

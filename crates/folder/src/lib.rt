@@ -1,3 +1,0 @@
-// The folding call.
-pub mod boards;
-pub mod call;

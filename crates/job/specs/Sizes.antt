@@ -1,0 +1,84 @@
+-- Document 01's limits, the words of each record, and the full sizes of the buffers, each said once; `src/sizes.rt` has the same for the code.
+use Prim.Native.Nat.{ℕ, _+_, _-_, _*_, _≤_}
+use mathlib.Core.List.{List}
+use lib.ListN.{length}
+
+-- "The job": the greatest side of board and item, in millimetres
+abbrev pub maxSide : ℕ
+maxSide = 10000
+
+-- "The job": the most item types
+abbrev pub maxTypes : ℕ
+maxTypes = 40
+
+-- "The job", "Plan": the greatest demand, and the most that demands, counts or pieces come to in all
+abbrev pub maxPieces : ℕ
+maxPieces = 4000
+
+-- "at most 2,048 plate types, type 0 among them, and 8,192 cuts"
+abbrev pub maxPlates : ℕ
+maxPlates = 2048
+
+abbrev pub maxCuts : ℕ
+maxCuts = 8192
+
+-- the most residual types, and the greatest number of a plate type
+abbrev pub maxResiduals : ℕ
+maxResiduals = maxPlates - 1
+
+-- "Prices": the greatest price, and the greatest D
+abbrev pub maxPrice : ℕ
+maxPrice = 9999
+
+-- the words of a job before its item types: stages, exact, W, H, n
+abbrev pub wordsOfHead : ℕ
+wordsOfHead = 5
+
+-- the words of an item type: width, height, demand
+abbrev pub wordsOfItem : ℕ
+wordsOfItem = 3
+
+-- the words of a plate type: width, height, stage
+abbrev pub wordsOfPlate : ℕ
+wordsOfPlate = 3
+
+-- the words of a cut: plate, item, top, right
+abbrev pub wordsOfCut : ℕ
+wordsOfCut = 4
+
+-- the words of a placement and of a layout line: board, strip, stack, place, type, x, y
+abbrev pub wordsOfPlacement : ℕ
+wordsOfPlacement = 7
+
+-- the words of a job of n item types
+abbrev pub jobSize : ℕ → ℕ
+jobSize n = wordsOfHead + wordsOfItem * n
+
+-- the words of the longest job
+abbrev pub longestJob : ℕ
+longestJob = jobSize maxTypes
+
+-- the first word of item type i, from 1
+abbrev pub wordOfType : ℕ → ℕ
+wordOfType i = wordsOfHead + wordsOfItem * (i - 1)
+
+-- "lent plates 6,144 words, cuts 32,768, counts lent or passed in 8,192, lent placements 28,000"
+abbrev pub platesSize : ℕ
+platesSize = wordsOfPlate * maxPlates
+
+abbrev pub cutsSize : ℕ
+cutsSize = wordsOfCut * maxCuts
+
+abbrev pub countsSize : ℕ
+countsSize = maxCuts
+
+abbrev pub placementsSize : ℕ
+placementsSize = wordsOfPlacement * maxPieces
+
+-- the words of the longest list of prices: D, one for each item type, one for each residual type
+abbrev pub pricesSize : ℕ
+pricesSize = maxTypes + maxPlates
+
+-- the record behind c others, of so many words each, stands in the buffer
+abbrev pub RecordIn : ℕ → ℕ → List ℕ → Type 0
+RecordIn words c buffer = words * c + words ≤ length buffer

@@ -1,0 +1,33 @@
+// The head of a job: what its words say before its item types.
+ghost use Prim.Native.Nat.{_≤_};
+ghost use lib.ListN.{length};
+ghost use Rattle.job.specs.Sizes.{wordsOfHead};
+ghost use Rattle.job.specs.Head.{HeadOf};
+use crate::counters::ItemType;
+use crate::mode::Mode;
+use crate::sizes::EXACT;
+use crate::sizes::HEIGHT;
+use crate::sizes::STAGES;
+use crate::sizes::TYPES;
+use crate::sizes::WIDTH;
+
+// The stage mode, the board's sides, and the last item type, whose number is that of the item types.
+pub struct Head {
+    pub mode: Mode,
+    pub width: u16,
+    pub height: u16,
+    pub types: ItemType,
+}
+
+// The head of a job's words.
+pub fn head_of(job: &[u16]) -> Head
+    requires { ⌜ wordsOfHead ≤ length (now job) ⌝ }
+    ensures { λ r. ⌜ HeadOf (now (job .entry)) r ⌝ }
+{
+    Head {
+        mode: Mode::from_line(job[STAGES], job[EXACT]),
+        width: job[WIDTH],
+        height: job[HEIGHT],
+        types: ItemType(job[TYPES]),
+    }
+}

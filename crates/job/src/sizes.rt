@@ -1,0 +1,69 @@
+// The limits of document 01, the words of each record, and the full sizes of the buffers; `job/Sizes` has the same as definitions.
+
+// "board W by H, each 1 to 10,000": the greatest side of board and item, and the greatest x and y of a layout line.
+pub const MAX_SIDE: u16 = 10000;
+
+// The most item types.
+pub const MAX_TYPES: u16 = 40;
+
+// The greatest demand, and the most that demands, counts or pieces come to in all.
+pub const MAX_PIECES: u16 = 4000;
+
+// The most plate types, type 0 among them.
+pub const MAX_PLATES: u16 = 2048;
+
+// The most residual types, and the greatest number of a plate type.
+pub const MAX_RESIDUALS: u16 = MAX_PLATES - 1;
+
+// The most cuts.
+pub const MAX_CUTS: u16 = 8192;
+
+// The greatest price, and the greatest D.
+pub const MAX_PRICE: u16 = 9999;
+
+// The words of a job before its item types: stages, exact, W, H, n.
+pub const HEAD_WORDS: usize = 5;
+
+// Where stages, exact, W, H and n stand among them.
+pub const STAGES: usize = 0;
+
+pub const EXACT: usize = 1;
+
+pub const WIDTH: usize = 2;
+
+pub const HEIGHT: usize = 3;
+
+pub const TYPES: usize = 4;
+
+// The words of an item type: width, height, demand.
+pub const ITEM_WORDS: usize = 3;
+
+// The words of a plate type: width, height, stage.
+pub const PLATE_WORDS: usize = 3;
+
+// The words of a cut: plate, item, top, right.
+pub const CUT_WORDS: usize = 4;
+
+// The words of a placement and of a layout line: board, strip, stack, place, type, x, y.
+pub const PLACEMENT_WORDS: usize = 7;
+
+// The words of the longest job.
+pub const JOB_SIZE: usize = HEAD_WORDS + ITEM_WORDS * (MAX_TYPES as usize);
+
+// The full size of lent plates.
+pub const PLATES_SIZE: usize = PLATE_WORDS * (MAX_PLATES as usize);
+
+// The full size of lent cuts.
+pub const CUTS_SIZE: usize = CUT_WORDS * (MAX_CUTS as usize);
+
+// The full size of counts, lent or passed in.
+pub const COUNTS_SIZE: usize = MAX_CUTS as usize;
+
+// The full size of lent placements.
+pub const PLACEMENTS_SIZE: usize = PLACEMENT_WORDS * (MAX_PIECES as usize);
+
+// The words of the longest list of prices: D, one for each item type, one for each residual type.
+pub const PRICES_SIZE: usize = MAX_TYPES as usize + MAX_PLATES as usize;
+
+// A word for each item type, which are numbered from 1.
+pub const TYPE_SUMS: usize = MAX_TYPES as usize + 1;

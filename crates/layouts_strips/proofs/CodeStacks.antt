@@ -1,0 +1,164 @@
+-- The lines of a stack, item by item: what has been measured, and the items that are left.
+use mathlib.Core.Path.{_≡_, refl, sym, ap, _∙_}
+use Prim.Native.Nat.{ℕ, _+_, _*_, _≤_, _<_, max}
+use mathlib.Core.Bool.{Bool, true, false, _&&_}
+use mathlib.Core.List.{List, [], _∷_}
+use mathlib.Core.Option.{Option, none, some}
+use native.Mathlib.Omega.{arith}
+use borrow.Author.Tests.{eqb-true, eq-eqb}
+use lib.Dec.{eqb}
+use lib.ListN.{length, drop}
+use Rattle.job.specs.Sizes.{wordsOfPlacement, jobSize}
+use Rattle.job.specs.declared.item.Item.{Item}
+use Rattle.job.specs.Lists.{all, sumOf, maxOf}
+use Rattle.job.specs.Job.{Job, itemAt}
+use Rattle.job.proofs.Tests.{not-both, same-test, and-left, and-right, and-both}
+use Rattle.job.proofs.Lists.{all-cons}
+use Rattle.layouts.specs.Layout.{Stack, widthOf, heightOf, stackWidth, stackHeight, sameWidths}
+use Rattle.layouts.specs.Placement.{Placement}
+use Rattle.layouts.specs.Lines.{Level, begun, rowsOf}
+use Rattle.placement.specs.PlacementRead.{placementAt}
+use Rattle.placement.proofs.Rows.{rows-from}
+use Rattle.layouts_strips.specs.declared.stack.StackMeasure.{StackMeasure}
+use Rattle.layouts_strips.specs.Begun.{goesOn}
+use Rattle.layouts_strips.specs.First.{stackOf}
+use Rattle.layouts_strips.specs.Measures.{maxWord, LentLines, itemOn, StackIs, StackSmall}
+use Rattle.layouts_strips.proofs.CodeFirst.{whenOn, stack-items}
+
+-- all items have a width, if they have the width of the first
+module _ (f : ℕ → ℕ) where
+  all-same : (w : ℕ) (is : List ℕ) → all (λ i. eqb (f i) w) is ≡ true → max w (maxOf f is) ≡ w
+  unfolding maxOf
+  all-same w [] e = omega arith
+  all-same w (i ∷ is) e =
+      let h : (eqb (f i) w && all (λ j. eqb (f j) w) is) ≡ true = sym (all-cons (λ j. eqb (f j) w) i is) ∙ e in
+      let a : f i ≡ w = eqb-true (f i) w (and-left (eqb (f i) w) (all (λ j. eqb (f j) w) is) h) in
+      let b : max w (maxOf f is) ≡ w = all-same w is (and-right (eqb (f i) w) (all (λ j. eqb (f j) w) is) h) in
+      omega arith
+
+  same-first : (i : ℕ) (is : List ℕ) → all (λ j. eqb (f j) (f i)) is ≡ all (λ j. eqb (f j) (max (f i) (maxOf f is))) (i ∷ is)
+  same-first i is = same-test _ _ to back
+    where
+      m : ℕ
+      m = max (f i) (maxOf f is)
+
+      to : all (λ j. eqb (f j) (f i)) is ≡ true → all (λ j. eqb (f j) m) (i ∷ is) ≡ true
+      to h = rw (all-same (f i) is h, all-cons (λ j. eqb (f j) (f i)) i is) (and-both (eqb (f i) (f i)) (all (λ j. eqb (f j) (f i)) is) (eq-eqb (f i) (f i) refl) h)
+
+      back : all (λ j. eqb (f j) m) (i ∷ is) ≡ true → all (λ j. eqb (f j) (f i)) is ≡ true
+      back h =
+          let g : (eqb (f i) m && all (λ j. eqb (f j) m) is) ≡ true = sym (all-cons (λ j. eqb (f j) m) i is) ∙ h in
+          let a : f i ≡ m = eqb-true (f i) m (and-left (eqb (f i) m) (all (λ j. eqb (f j) m) is) g) in
+          rw a (and-right (eqb (f i) m) (all (λ j. eqb (f j) m) is) g)
+
+-- a test and nothing more
+pub and-true : (t : Bool) → t ≡ (t && true)
+and-true true = refl
+and-true false = refl
+
+-- a stack of one item, behind c lines
+abbrev pub oneItem : ℕ → Item → StackMeasure
+oneItem c it = record { end = c + 1; width = it .width; height = it .height; even = true }
+
+-- the items of a stack that are left from the line behind e others on
+abbrev pub itemsLeft : List ℕ → ℕ → Stack
+itemsLeft ws e = whenOn (begun (drop e (rowsOf ws))) (stackOf (drop e (rowsOf ws)))
+
+goes-on-none : (o : Option Level) (k : Stack) → goesOn o ≡ true → whenOn o k ≡ k
+goes-on-none none k h = refl
+goes-on-none (some v) k h = absurd (not-both h refl)
+
+goes-not : (o : Option Level) (k : Stack) → goesOn o ≡ false → whenOn o k ≡ []
+goes-not none k h = absurd (not-both refl h)
+goes-not (some v) k h = refl
+
+module _ (job : Job) where
+  -- items put on a stack, one after another
+  unfoldable pub itemsOn : StackMeasure → List ℕ → StackMeasure
+  itemsOn m [] = m
+  itemsOn m (i ∷ is) = itemsOn (itemOn m (itemAt job i)) is
+
+  -- a further item keeps the width only if it has it
+  even-on : (e : Bool) (w x : ℕ) (is : List ℕ) → (e && eqb x w) && all (λ i. eqb (widthOf job i) (max w x)) is ≡ (e && (eqb x w && all (λ i. eqb (widthOf job i) w) is))
+  even-on false w x is = refl
+  even-on true w x is = go (eqb x w) refl
+    where
+      go : (t : Bool) → eqb x w ≡ t → (t && all (λ i. eqb (widthOf job i) (max w x)) is) ≡ (t && all (λ i. eqb (widthOf job i) w) is)
+      go false h = refl
+      go true h = let a : x ≡ w = eqb-true x w h in let b : max w x ≡ w = omega arith in rw b
+
+  on-end : (m : StackMeasure) (is : List ℕ) → itemsOn m is .end ≡ m .end + length is
+  unfolding itemsOn
+  on-end m [] = omega arith
+  on-end m (i ∷ is) = let e = on-end (itemOn m (itemAt job i)) is in omega arith
+
+  on-width : (m : StackMeasure) (is : List ℕ) → itemsOn m is .width ≡ max (m .width) (maxOf (widthOf job) is)
+  unfolding itemsOn maxOf widthOf
+  on-width m [] = omega arith
+  on-width m (i ∷ is) = let e = on-width (itemOn m (itemAt job i)) is in omega arith
+
+  on-height : (m : StackMeasure) (is : List ℕ) → itemsOn m is .height ≡ m .height + sumOf (heightOf job) is
+  unfolding itemsOn sumOf heightOf
+  on-height m [] = omega arith
+  on-height m (i ∷ is) = let e = on-height (itemOn m (itemAt job i)) is in omega arith
+
+  on-even : (m : StackMeasure) (is : List ℕ) → itemsOn m is .even ≡ (m .even && all (λ i. eqb (widthOf job i) (m .width)) is)
+  unfolding itemsOn all widthOf
+  on-even m [] = and-true (m .even)
+  on-even m (i ∷ is) =
+      on-even (itemOn m (itemAt job i)) is
+      ∙ even-on (m .even) (m .width) (itemAt job i .width) is
+      ∙ ap (λ (t : Bool). m .even && t) (sym (all-cons (λ j. eqb (widthOf job j) (m .width)) i is))
+
+  -- with the further items on it, it has the measures of the stack
+  stack-measured : (c i : ℕ) (is : List ℕ) → StackIs job c (i ∷ is) (itemsOn (oneItem c (itemAt job i)) is)
+  unfolding stackWidth stackHeight sameWidths widthOf heightOf maxOf sumOf
+  stack-measured c i is =
+      record {
+        ended = omega (arith, on-end (oneItem c (itemAt job i)) is);
+        wide = on-width (oneItem c (itemAt job i)) is;
+        high = on-height (oneItem c (itemAt job i)) is;
+        evenly = on-even (oneItem c (itemAt job i)) is ∙ same-first (widthOf job) i is;
+      }
+
+  module _ (ws : List ℕ) (n c : ℕ) (e : length ws ≡ wordsOfPlacement * n) (h : c < n) where
+    stack-line : stackOf (drop c (rowsOf ws)) ≡ placementAt ws c .item ∷ itemsLeft ws (c + 1)
+    stack-line = rw (rows-from ws n c e h) (stack-items (placementAt ws c) (drop (c + 1) (rowsOf ws)))
+
+    -- the first item, and the items that are left
+    pub stack-begins : {it : Item} {m : StackMeasure} → it ≡ itemAt job (placementAt ws c .item) → m ≡ oneItem c it → StackIs job c (stackOf (drop c (rowsOf ws))) (itemsOn m (itemsLeft ws (c + 1)))
+    stack-begins f g = rw (stack-line, g, f) (stack-measured c (placementAt ws c .item) (itemsLeft ws (c + 1)))
+
+    -- the line at which the stack goes on is the next item
+    stack-goes-on : {it : Item} {b : Bool} (m : StackMeasure) → it ≡ itemAt job (placementAt ws c .item) → b ≡ goesOn (begun (drop c (rowsOf ws))) → b ≡ true → itemsOn m (itemsLeft ws c) ≡ itemsOn (itemOn m it) (itemsLeft ws (c + 1))
+    unfolding itemsOn
+    stack-goes-on m f t u =
+        rw (goes-on-none (begun (drop c (rowsOf ws))) (stackOf (drop c (rowsOf ws))) (sym t ∙ u), stack-line, f)
+
+  pub stack-next :
+      (ws : List ℕ) (n c : ℕ) (m : StackMeasure) {k : Stack} {it : Item} {b : Bool} {m′ : StackMeasure}
+      → length ws ≡ wordsOfPlacement * n
+      → m .end < n
+      → it ≡ itemAt job (placementAt ws (m .end) .item)
+      → b ≡ goesOn (begun (drop (m .end) (rowsOf ws)))
+      → b ≡ true
+      → m′ ≡ itemOn m it
+      → StackIs job c k (itemsOn m (itemsLeft ws (m .end)))
+      → StackIs job c k (itemsOn m′ (itemsLeft ws (m′ .end)))
+  stack-next ws n c m e h f t u g s = rw g (rw (stack-goes-on ws n (m .end) e h m f t u) at s)
+
+  -- where it does not go on nothing is left
+  pub stack-ends : (ws : List ℕ) (c e : ℕ) {k : Stack} {b : Bool} {m : StackMeasure} → b ≡ goesOn (begun (drop e (rowsOf ws))) → b ≡ false → StackIs job c k (itemsOn m (itemsLeft ws e)) → StackIs job c k m
+  unfolding itemsOn
+  stack-ends ws c e t u s = rw (goes-not (begun (drop e (rowsOf ws))) (stackOf (drop e (rowsOf ws))) (sym t ∙ u)) at s
+
+-- the measures stay small
+pub small-next : {c n : ℕ} {m m′ : StackMeasure} (it : Item) → StackSmall c n m → m .end < n → it .width ≤ maxWord → it .height ≤ maxWord → m′ ≡ itemOn m it → StackSmall c n m′
+small-next it s h a b e = rw e (record { begun = omega arith; inside = omega arith; narrow = omega arith; low = omega arith })
+
+-- the item of a line that is lent
+pub lent-item : {job ws : List ℕ} {n c : ℕ} → LentLines job ws n → c < n → {r : Placement} → r ≡ placementAt ws c → (1 ≤ r .item) × (jobSize (r .item) ≤ length job)
+lent-item {job} {ws} {n} {c} l h e = rw e (l .typed c h)
+
+pub item-said : (job : Job) {it : Item} {r p : Placement} → it ≡ itemAt job (r .item) → r ≡ p → it ≡ itemAt job (p .item)
+item-said job f e = f ∙ ap (λ (q : Placement). itemAt job (q .item)) e

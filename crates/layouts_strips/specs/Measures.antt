@@ -1,0 +1,66 @@
+-- Document 01, "Layouts and folding": the sides of stacks and strips, as the code measures them line by line; what it knows of its lines.
+use Prim.Native.Nat.{ℕ, _+_, _*_, _≤_, _<_, max}
+use mathlib.Core.Path.{_≡_}
+use mathlib.Core.Bool.{_&&_}
+use lib.Dec.{eqb}
+use mathlib.Core.List.{List}
+use lib.ListN.{length}
+use Rattle.job.specs.Sizes.{maxPieces, wordsOfHead, wordsOfPlacement, jobSize}
+use Rattle.job.specs.declared.item.Item.{Item}
+use Rattle.job.specs.Job.{Job}
+use Rattle.layouts.specs.Layout.{Stack, Strip, stackWidth, stackHeight, stripWidth, stripHeight, sameWidths}
+use Rattle.layouts.specs.Placement.{itemsOfStrip}
+use Rattle.placement.specs.PlacementRead.{placementAt}
+use Rattle.layouts_strips.specs.declared.stack.StackMeasure.{StackMeasure}
+use Rattle.layouts_strips.specs.declared.strip.StripMeasure.{StripMeasure}
+
+-- the greatest word: what a side is at most
+abbrev pub maxWord : ℕ
+maxWord = 65535
+
+-- the job has the words of its board, and the layout words lent are whole lines, at most 4,000, each of an item type of the job
+pub record LentLines (job layouts : List ℕ) (lines : ℕ) : Type 0 where
+  pub board : wordsOfHead ≤ length job
+  pub whole : length layouts ≡ wordsOfPlacement * lines
+  pub few : lines ≤ maxPieces
+  pub typed : (c : ℕ) → c < lines → (1 ≤ placementAt layouts c .item) × (jobSize (placementAt layouts c .item) ≤ length job)
+
+-- one item more on a stack
+abbrev pub itemOn : StackMeasure → Item → StackMeasure
+itemOn m it =
+    record {
+      end = m .end + 1;
+      width = max (m .width) (it .width);
+      height = m .height + it .height;
+      even = m .even && eqb (it .width) (m .width);
+    }
+
+-- the measures of a stack that begins behind c lines: "a stack's width is its widest item, its height the sum"
+pub record StackIs (job : Job) (c : ℕ) (k : Stack) (m : StackMeasure) : Type 0 where
+  pub ended : m .end ≡ c + length k
+  pub wide : m .width ≡ stackWidth job k
+  pub high : m .height ≡ stackHeight job k
+  pub evenly : m .even ≡ sameWidths job k
+
+-- limits of these measures: a line adds a side
+pub record StackSmall (c lines : ℕ) (m : StackMeasure) : Type 0 where
+  pub begun : c < m .end
+  pub inside : m .end ≤ lines
+  pub narrow : m .width ≤ maxWord
+  pub low : m .height + maxWord * c ≤ maxWord * m .end
+
+-- one stack more in a strip
+abbrev pub stackIn : StripMeasure → StackMeasure → StripMeasure
+stackIn m k = record { end = k .end; width = m .width + k .width; height = max (m .height) (k .height) }
+
+-- the measures of a strip that begins behind a lines: stack widths added up, and "a strip's height is its highest stack"
+pub record StripIs (job : Job) (a : ℕ) (s : Strip) (m : StripMeasure) : Type 0 where
+  pub ended : m .end ≡ a + length (itemsOfStrip s)
+  pub wide : m .width ≡ stripWidth job s
+  pub high : m .height ≡ stripHeight job s
+
+pub record StripSmall (a lines : ℕ) (m : StripMeasure) : Type 0 where
+  pub begun : a ≤ m .end
+  pub inside : m .end ≤ lines
+  pub narrow : m .width + maxWord * a ≤ maxWord * m .end
+  pub low : m .height + maxWord * a ≤ maxWord * m .end

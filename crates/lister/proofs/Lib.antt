@@ -1,6 +1,0 @@
--- The laws of this crate.
-pub mod Finding
-pub mod Entering
-pub mod Pairing
-pub mod Walking
-pub mod Ending

@@ -1,0 +1,130 @@
+-- How a call ends, on plain values, by the rows before the model and by those from it on; and how the walk of the listing ends.
+use mathlib.Core.Path.{_≡_, refl, sym, ap, subst, _∙_}
+use Prim.Native.Nat.{ℕ, _-_, _≤_, _<_}
+use mathlib.Core.List.{List, [], _∷_, flatMap}
+use native.Mathlib.Omega.{arith}
+use lib.ListN.{length, replicate}
+use Rattle.job.specs.declared.counters.PlateTypes.{PlateTypes}
+use Rattle.job.specs.declared.counters.CutNumber.{CutNumber}
+use Rattle.job.specs.declared.head.Head.{Head}
+use Rattle.job.specs.Sizes.{platesSize, cutsSize}
+use Rattle.job.specs.Verdict.{Verdict, pass, refuse, _then_}
+use Rattle.job.specs.Buffers.{Answer, given, refused, answer, ends, sized}
+use Rattle.job.specs.Job.{jobOf, jobWords, admission}
+use Rattle.job.specs.Head.{HeadOf}
+use Rattle.job.proofs.Verdicts.{then-assoc, then-first, then-second}
+use Rattle.job.proofs.Buffers.{sized-pass}
+use Rattle.job.proofs.CodeEnds.{not5-refuse, ends-zeros}
+use Rattle.listing.specs.Listing.{going, stopped, walkStart, walk, modelRow, listingOf, residualTypes}
+use Rattle.listing.specs.ListCall.{listVerdict, platesEnd, cutsEnd}
+use Rattle.listing.specs.Plate.{plate}
+use Rattle.listing.specs.Records.{plateWords, cutWords}
+use Rattle.listing.specs.Holds.{Holds}
+use Rattle.listing.proofs.CodeHolds.{cleared}
+use Rattle.listing.proofs.Steps.{row-going, row-stopped, listing-going}
+use Rattle.listing_call.specs.declared.call.Listed.{Listed}
+use Rattle.listing_call.specs.declared.call.Listed.the-variants.{Done}
+use Rattle.listing_call.specs.ListSays.{SomePlate}
+use Rattle.listing_call.specs.Steps.{Rep, Here}
+
+-- before the walk: cleared buffers, and the board written as the first plate type
+pub none-held : {buffer : List ℕ} (n : ℕ) → buffer ≡ replicate n 0 → Holds buffer (plateWords [])
+unfolding plateWords flatMap
+none-held n e = cleared n e
+
+pub board-held :
+    (ws : List ℕ) {head : Head} {plates cuts : List ℕ} (n : ℕ)
+    → HeadOf ws head
+    → Holds plates (plateWords (plate (head .width) (head .height) 1 ∷ []))
+    → cuts ≡ replicate n 0
+    → Rep (walkStart (jobOf ws)) plates cuts 1 0
+unfolding cutWords flatMap
+board-held ws n d h e = record {
+  of-plates = rw (← d .of-width, ← d .of-height) h;
+  of-cuts = cleared n e;
+  plate-count = refl;
+  cut-count = refl;
+  few-plates = omega arith;
+  few-cuts = omega arith;
+  some-plate = omega arith;
+}
+
+-- how a call ends, by the verdict of its rows: its answer, which has the results `bs` where it succeeds, and what it leaves in plates and cuts
+abbrev pub Ended : Verdict → List ℕ → List ℕ → List ℕ → List ℕ → Answer → List ℕ → List ℕ → Type 0
+Ended v bs ws plates cuts a plates′ cuts′ =
+    (a ≡ answer v bs) × ((plates′ ≡ platesEnd v ws plates) × (cuts′ ≡ cutsEnd v ws cuts))
+
+-- that many zeros
+abbrev pub zeros : ℕ → List ℕ
+zeros n = replicate n 0
+
+-- what a refusal of that number leaves of a buffer, whatever place it names
+abbrev pub Left : ℕ → List ℕ → List ℕ → Type 0
+Left number buffer buffer′ = (place : ℕ) (xs : List ℕ) → buffer′ ≡ ends (refuse number place) buffer xs
+
+-- the rows before the model, and those from it on
+module _ (ws plates cuts : List ℕ) (before after : Verdict) (bs : List ℕ) where
+  -- where the first refuse, the call does, and both buffers end as after that refusal
+  pub before-refuses :
+      {plates′ cuts′ : List ℕ} (number place : ℕ)
+      → before ≡ refuse number place
+      → Left number plates plates′
+      → Left number cuts cuts′
+      → Ended (before then after) bs ws plates cuts (refused number place) plates′ cuts′
+  unfolding platesEnd cutsEnd
+  before-refuses number place e ep ec = rw e (refl, (ep place [], ec place []))
+
+  -- where they pass, the others decide
+  pub before-pass :
+      {a : Answer} {plates′ cuts′ : List ℕ}
+      → before ≡ pass
+      → Ended after bs ws plates cuts a plates′ cuts′
+      → Ended (before then after) bs ws plates cuts a plates′ cuts′
+  before-pass e r = rw e r
+
+-- "listing, the numbers of residual types and cuts"
+abbrev pub listingResults : List ℕ → List ℕ
+listingResults ws = residualTypes (listingOf (jobOf ws)) ∷ length (listingOf (jobOf ws) .cuts) ∷ []
+
+module _ (ws plates cuts plates′ cuts′ : List ℕ) where
+  -- the walk went to its end
+  pub walked : {m k : ℕ} → Here going (walk (jobOf ws)) plates′ cuts′ m k → length plates′ ≡ length plates → length cuts′ ≡ length cuts → Ended (modelRow (jobOf ws)) (listingResults ws) ws plates cuts (given ((m - 1) ∷ k ∷ [])) plates′ cuts′
+  unfolding residualTypes platesEnd cutsEnd
+  walked h ep ec =
+      rw (row-going (jobOf ws) (h .l) (sym (h .goes-on)), listing-going (jobOf ws) (h .l) (sym (h .goes-on)), h .rep .plate-count, h .rep .cut-count)
+      (refl, (rw (← ep) (h .rep .of-plates .words), rw (← ec) (h .rep .of-cuts .words)))
+
+  -- the walk met 6 or 7, and both buffers have been cleared
+  pub walk-stopped : (number : ℕ) → walk (jobOf ws) ≡ stopped number → 5 < number → plates′ ≡ replicate (length plates) 0 → cuts′ ≡ replicate (length cuts) 0 → Ended (modelRow (jobOf ws)) (listingResults ws) ws plates cuts (refused number 0) plates′ cuts′
+  unfolding platesEnd cutsEnd
+  walk-stopped number e h ep ec =
+      let v : modelRow (jobOf ws) ≡ refuse number 0 = row-stopped (jobOf ws) number e in
+      let n = not5-refuse number 0 (λ q. omega arith) in
+      rw v (refl, (ep ∙ sym (ends-zeros (refuse number 0) refl n plates []), ec ∙ sym (ends-zeros (refuse number 0) refl n cuts [])))
+
+-- the rows of the listing call before the model: the job, and then the lent buffers
+abbrev rowsBefore : List ℕ → List ℕ → List ℕ → Verdict
+rowsBefore ws plates cuts = (jobWords ws then admission (jobOf ws)) then sized 1 platesSize plates then sized 2 cutsSize cuts
+
+module _ (ws plates cuts : List ℕ) where
+  -- the call's verdict: these rows, and then the model
+  pub list-rows : listVerdict ws plates cuts ≡ (rowsBefore ws plates cuts then modelRow (jobOf ws))
+  unfolding listVerdict
+  list-rows =
+      let a = jobWords ws in
+      let b = admission (jobOf ws) in
+      let c = sized 1 platesSize plates in
+      let d = sized 2 cutsSize cuts in
+      let e = modelRow (jobOf ws) in
+      sym (then-assoc (a then b) (c then d) e ∙ then-assoc a b ((c then d) then e) ∙ ap (λ (v : Verdict). a then b then v) (then-assoc c d e))
+
+  -- where these rows pass, the words are right and both buffers of full size
+  pub before-passed : rowsBefore ws plates cuts ≡ pass → (jobWords ws ≡ pass) × ((platesSize ≤ length plates) × (cutsSize ≤ length cuts))
+  before-passed e =
+      let a = then-first (jobWords ws then admission (jobOf ws)) _ e in
+      let b = then-second (jobWords ws then admission (jobOf ws)) _ e in
+      (then-first (jobWords ws) _ a, (sized-pass 1 platesSize plates (then-first (sized 1 platesSize plates) _ b), sized-pass 2 cutsSize cuts (then-second (sized 1 platesSize plates) _ b)))
+
+-- a listing that is done has a plate type
+pub some-types : {a : Listed} {m : PlateTypes} {k : CutNumber} → a ≡ Done m k → SomePlate a → 1 ≤ m .0
+some-types e = subst SomePlate e

@@ -1,0 +1,6 @@
+-- The laws of this crate.
+pub mod Finding
+pub mod Entering
+pub mod Pairing
+pub mod Walking
+pub mod CodeEnding

@@ -1,0 +1,98 @@
+-- The turns of the walk's two loops, on plain values: what is left to do from here is the whole walk.
+use mathlib.Core.Path.{_≡_, refl, sym, ap, subst, _∙_}
+use Prim.Native.Nat.{ℕ, suc, _+_, _-_, _≤_, _<_}
+use mathlib.Core.List.{List}
+use native.Mathlib.Numerals.{add-one}
+use native.Mathlib.Omega.{arith}
+use borrow.Author.Tests.{lt-ltb}
+use lib.ListN.{length, drop}
+use Rattle.job.specs.declared.counters.PlateTypes.{PlateTypes}
+use Rattle.job.specs.declared.counters.CutNumber.{CutNumber}
+use Rattle.job.specs.Sizes.{maxPlates, maxCuts}
+use Rattle.job.specs.Job.{Job, itemAt}
+use Rattle.job.proofs.CodeItems.{items-from, items-end}
+use Rattle.listing.specs.declared.plate.Plate.{Plate}
+use Rattle.listing.specs.Listing.{Listing, Walk, going, stopped, walkStart, plateAt, pair, overItems, overPlates, walkWithin, walk}
+use Rattle.listing.specs.Holds.{plateRead}
+use Rattle.listing.proofs.CodeHolds.{held-plate}
+use Rattle.listing.proofs.Steps.{plates-end}
+use Rattle.listing_call.specs.declared.walk.Step.{Step}
+use Rattle.listing_call.specs.declared.walk.Step.the-variants.{Next, Stop}
+use Rattle.listing_call.specs.Steps.{andThen, Rep, Here, Stepped}
+
+-- going on with f and then with g
+then-then : (w : Walk) (f g : Listing → Walk) → andThen (andThen w f) g ≡ andThen w (λ l. andThen (f l) g)
+then-then (going l) f g = refl
+then-then (stopped n) f g = refl
+
+-- what is left of the walk at plate type j; and, at plate type j, which is q, from item type i on
+abbrev pub restWalk : Job → ℕ → Listing → Walk
+restWalk job j l = overPlates maxPlates maxCuts job (maxPlates - j) j l
+
+abbrev pub restRow : Job → ℕ → Plate → ℕ → Listing → Walk
+restRow job j q i l = andThen (overItems maxPlates maxCuts job j q i (drop (i - 1) (job .items)) l) (restWalk job (j + 1))
+
+-- before the first plate type
+pub walk-start : (job : Job) {plates cuts : List ℕ} → Rep (walkStart job) plates cuts 1 0 → Here (restWalk job 0) (walk job) plates cuts 1 0
+unfolding walk walkWithin
+walk-start job r = record { l = walkStart job; rep = r; goes-on = refl }
+
+-- the row of plate type j, and then the plate types after it
+walk-row : (job : Job) (j : ℕ) (l : Listing) → j < length (l .plates) → length (l .plates) ≤ maxPlates → restWalk job j l ≡ restRow job j (plateAt l j) 1 l
+unfolding overPlates
+walk-row job j l h few =
+    let e : maxPlates - j ≡ suc (maxPlates - suc j) = omega arith in
+    rw (add-one, e, lt-ltb _ _ h, overPlates)
+
+-- item type i, and then those after it
+row-turn : (job : Job) (j : ℕ) (q : Plate) (i : ℕ) (l : Listing) → 1 ≤ i → i ≤ length (job .items) → overItems maxPlates maxCuts job j q i (drop (i - 1) (job .items)) l ≡ andThen (pair maxPlates maxCuts job j q i (itemAt job i) l) (overItems maxPlates maxCuts job j q (i + 1) (drop (i + 1 - 1) (job .items)))
+unfolding overItems
+row-turn job j q i l a b = rw (items-from job i a b, add-one)
+
+row-over : (job : Job) (j : ℕ) (q : Plate) (i : ℕ) (l : Listing) → length (job .items) < i → overItems maxPlates maxCuts job j q i (drop (i - 1) (job .items)) l ≡ going l
+unfolding overItems
+row-over job j q i l a = rw (items-end job i a)
+
+module _ (job : Job) (j : ℕ) {whole : Walk} {plates cuts : List ℕ} {m k : ℕ} where
+  pub walk-end : Here (restWalk job j) whole plates cuts m k → m ≤ j → Here going whole plates cuts m k
+  walk-end h e = record {
+    l = h .l;
+    rep = h .rep;
+    goes-on = sym (plates-end maxPlates maxCuts job (maxPlates - j) j (h .l) (omega (arith, h .rep .plate-count))) ∙ h .goes-on;
+  }
+
+  -- into the row of plate type j, which is read from the buffer
+  pub row-start : Here (restWalk job j) whole plates cuts m k → j < m → (q : Plate) → q ≡ plateRead plates j → Here (restRow job j q 1) whole plates cuts m k
+  unfolding plateAt
+  row-start h e q eq =
+      let p : q ≡ plateAt (h .l) j = eq ∙ held-plate (h .l .plates) (h .rep .of-plates) j in
+      record {
+        l = h .l;
+        rep = h .rep;
+        goes-on = ap (λ (x : Plate). restRow job j x 1 (h .l)) p ∙ sym (walk-row job j (h .l) (omega (arith, h .rep .plate-count)) (omega (arith, h .rep .plate-count, h .rep .few-plates))) ∙ h .goes-on;
+      }
+
+  module _ (q : Plate) (i : ℕ) (h : Here (restRow job j q i) whole plates cuts m k) where
+    -- item type i is next
+    pub row-next : 1 ≤ i → i ≤ length (job .items) → Here (λ l. andThen (pair maxPlates maxCuts job j q i (itemAt job i) l) (restRow job j q (i + 1))) whole plates cuts m k
+    row-next a b = record {
+      l = h .l;
+      rep = h .rep;
+      goes-on = sym (ap (λ (w : Walk). andThen w (restWalk job (j + 1))) (row-turn job j q i (h .l) a b) ∙ then-then (pair maxPlates maxCuts job j q i (itemAt job i) (h .l)) _ _) ∙ h .goes-on;
+    }
+
+    -- past the last item type the row is at its end
+    pub row-end : length (job .items) < i → Here (restWalk job (j + 1)) whole plates cuts m k
+    row-end a = record {
+      l = h .l;
+      rep = h .rep;
+      goes-on = sym (ap (λ (w : Walk). andThen w (restWalk job (j + 1))) (row-over job j q i (h .l) a)) ∙ h .goes-on;
+    }
+
+-- a step's answer taken apart
+module _ {rest : Listing → Walk} {whole : Walk} {a : Step} where
+  pub as-next : {m : PlateTypes} {k : CutNumber} {plates cuts : List ℕ} → a ≡ Next m k → Stepped rest whole a plates cuts → Here rest whole plates cuts (m .0) (k .0)
+  as-next {plates = plates} {cuts = cuts} e = subst (λ (x : Step). Stepped rest whole x plates cuts) e
+
+pub as-stop : (rest : Listing → Walk) {whole : Walk} {a : Step} {number : ℕ} (plates cuts : List ℕ) → a ≡ Stop number → Stepped rest whole a plates cuts → (whole ≡ stopped number) × (5 < number)
+as-stop rest {whole} plates cuts e = subst (λ (x : Step). Stepped rest whole x plates cuts) e

@@ -1,0 +1,64 @@
+-- How the code's walk stands to the walk of the model: buffers and counters that hold a listing, and a step that goes on with one or stops.
+use Prim.Native.Nat.{ℕ, _≤_, _<_}
+use mathlib.Core.Path.{_≡_}
+use mathlib.Core.List.{List}
+use lib.ListN.{length}
+use Rattle.job.specs.declared.mode.Mode.{Mode}
+use Rattle.job.specs.Sizes.{maxPlates, maxCuts, platesSize, cutsSize}
+use Rattle.job.specs.JobWords.{JobWords}
+use Rattle.listing.specs.Listing.{Listing, Walk, going, stopped, Entry}
+use Rattle.listing.specs.Records.{plateWords, cutWords}
+use Rattle.listing.specs.Holds.{Holds}
+use Rattle.listing_call.specs.declared.entry.Entered.{Entered}
+use Rattle.listing_call.specs.declared.entry.Entered.the-variants.{As, Full}
+use Rattle.listing_call.specs.declared.walk.Step.{Step}
+use Rattle.listing_call.specs.declared.walk.Step.the-variants.{Next, Stop}
+
+-- the walk goes on with `rest` unless it has stopped
+abbrev pub andThen : Walk → (Listing → Walk) → Walk
+andThen w rest = elim w [ stopped n ↦ stopped n | going l ↦ rest l ]
+
+-- room for every plate type and every cut, and the job's words
+pub record Room (ws : List ℕ) (mode : Mode) (n : ℕ) (plates cuts : List ℕ) (m k : ℕ) : Type 0 where
+  pub of-job : JobWords ws mode n
+  pub plate-room : platesSize ≤ length plates
+  pub cut-room : cutsSize ≤ length cuts
+  pub few-plates : m ≤ maxPlates
+  pub few-cuts : k ≤ maxCuts
+
+-- the buffers hold a listing of m plate types and k cuts, within the limits
+pub record Rep (l : Listing) (plates cuts : List ℕ) (m k : ℕ) : Type 0 where
+  pub of-plates : Holds plates (plateWords (l .plates))
+  pub of-cuts : Holds cuts (cutWords (l .cuts))
+  pub plate-count : length (l .plates) ≡ m
+  pub cut-count : length (l .cuts) ≡ k
+  pub few-plates : m ≤ maxPlates
+  pub few-cuts : k ≤ maxCuts
+  pub some-plate : 0 < m
+
+-- the buffers hold a listing from which `rest` is the whole walk
+pub record Here (rest : Listing → Walk) (whole : Walk) (plates cuts : List ℕ) (m k : ℕ) : Type 0 where
+  pub l : Listing
+  pub rep : Rep l plates cuts m k
+  pub goes-on : rest l ≡ whole
+
+-- a residual's entry, as the code answers it: its number, and the plate types after it; or there is no room for them
+pub record EnteredIn (e : Entry) (j m : ℕ) (plates : List ℕ) : Type 0 where
+  pub number : j ≡ e .number
+  pub types : length (e .plates) ≡ m
+  pub few : m ≤ maxPlates
+  pub held : Holds plates (plateWords (e .plates))
+
+abbrev pub EnteredAs : Entry → Entered → List ℕ → Type 0
+EnteredAs e (As j m) plates = EnteredIn e (j .0) (m .0) plates
+EnteredAs e Full plates = maxPlates < length (e .plates)
+
+-- the plate types after a residual has been entered
+abbrev pub typesAfter : Entered → ℕ
+typesAfter (As j m) = m .0
+typesAfter Full = 0
+
+-- a step of the walk, as the code answers it: the walk goes on with `rest`, or it has stopped with 6 or 7
+abbrev pub Stepped : (Listing → Walk) → Walk → Step → List ℕ → List ℕ → Type 0
+Stepped rest whole (Next m k) plates cuts = Here rest whole plates cuts (m .0) (k .0)
+Stepped rest whole (Stop number) plates cuts = (whole ≡ stopped number) × (5 < number)

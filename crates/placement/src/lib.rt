@@ -1,0 +1,53 @@
+// The placement of an item as words of a lent buffer, which is also a line of layout words: how it is written and how it is read.
+ghost use mathlib.Core.Path.{_≡_};
+ghost use mathlib.Core.List.{List, [], _∷_, _++_};
+ghost use lib.ListN.{length};
+ghost use Rattle.job.specs.Sizes.{wordsOfPlacement, RecordIn};
+ghost use Rattle.listing.specs.Holds.{Holds};
+ghost use Rattle.layouts.specs.Placement.{Placement as Placed, placementWords};
+ghost use Rattle.placement.specs.PlacementRead.{placementIn, placementAt};
+use job::counters::ItemType;
+use job::sizes::PLACEMENT_WORDS;
+
+// Board, strip, stack and place of an item, its type, and its position.
+pub struct Placement {
+    pub board: u16,
+    pub strip: u16,
+    pub stack: u16,
+    pub place: u16,
+    pub item: ItemType,
+    pub x: u16,
+    pub y: u16,
+}
+
+// The placement that stands behind c others.
+pub fn placement_at(words: &[u16], c: usize) -> Placement
+    requires { ⌜ RecordIn wordsOfPlacement c (now words) ⌝ }
+    ensures { λ r. ⌜ placementIn r ≡ placementAt (now (words .entry)) c ⌝ }
+{
+    let at = PLACEMENT_WORDS * c;
+    Placement {
+        board: words[at],
+        strip: words[at + 1],
+        stack: words[at + 2],
+        place: words[at + 3],
+        item: ItemType(words[at + 4]),
+        x: words[at + 5],
+        y: words[at + 6],
+    }
+}
+
+// Writes a placement behind the n that the buffer holds.
+pub fn put_placement(words: &mut [u16], n: u16, p: Placement)
+    requires { ⌜ RecordIn wordsOfPlacement n (now words) ⌝ }
+    ensures { λ _. ⌜ ((ps : List Placed) → length ps ≡ n → Holds (now (words .entry)) (placementWords ps) → Holds (now (words .exit)) (placementWords (ps ++ placementIn p ∷ []))) ⌝ }
+{
+    let at = PLACEMENT_WORDS * (n as usize);
+    words[at] = p.board;
+    words[at + 1] = p.strip;
+    words[at + 2] = p.stack;
+    words[at + 3] = p.place;
+    words[at + 4] = p.item.0;
+    words[at + 5] = p.x;
+    words[at + 6] = p.y;
+}

@@ -1,0 +1,80 @@
+-- `balance` adds up the counts, and then compares the sums with the demands and with each other.
+use Prim.Native.Nat.{_+_, _≤_}
+use denote.Ref.{now}
+use lib.Dec.{lit<, lit≤}
+use lib.ListN.{length}
+use Rattle.job.specs.Sizes.{maxTypes, maxPlates}
+use Rattle.job.specs.Job.{jobOf}
+use Rattle.job.proofs.CodeItems.{items-length}
+use Rattle.listing.specs.CutRead.{cutsRead}
+use Rattle.plan_test.specs.Sums.{Sums, SumRoom}
+use Rattle.plan_test.proofs.CodePass.{sum-room}
+use Rattle.plan_test.proofs.CodePlan.{sums-none, room-zeros, sound-more, short-refused, overdrawn-refused, balance-accepted}
+use borrow.Author.Needs.{needs}
+use Rattle.plan_test.proofs.plan_row.balance.Statement.{statement}
+use Rattle.plan_test.proofs.plan_row.balance.Tie as tie
+
+sum-counts-requires : tie.Need-sum-counts-requires
+sum-counts-requires c κs =
+    let a = c .before .before .before .before .before .before in
+    let ns = now (a .args .counts) in
+    let lent = a .pre .0 in
+    ((lent .cut-words, sound-more (cutsRead (a .args .k .0) (now (a .args .cuts))) (lent .few-plates) (lent .few-items) (lent .sound)), (a .pre .1, (room-zeros (maxTypes + 1) maxPlates maxPlates (lit< tt) (lit≤ tt) (lit≤ tt), sums-none ns (maxTypes + 1) maxPlates maxPlates)))
+
+returns : tie.Need-returns
+returns c l p e =
+    let a = c .before .before .before .before .before .before .before .before .before .before .before .before .before .before .before in
+    let job = jobOf (now (a .args .job)) in
+    let ns = now (a .args .counts) in
+    let call = c .before .before .before .before .before .before .before .before .sum-counts in
+    let sums : Sums (l .cuts) ns (call .last .1 .1 .1 .0) (call .last .1 .1 .1 .1 .0) (call .last .1 .1 .1 .1 .1 .0) = rw e (call .ensures) in
+    let room : SumRoom (call .last .1 .1 .1 .0) (call .last .1 .1 .1 .1 .0) (call .last .1 .1 .1 .1 .1 .0) = sum-room (room-zeros (maxTypes + 1) maxPlates maxPlates (lit< tt) (lit≤ tt) (lit≤ tt)) (call .kept .1 .1 .1 .0) (call .kept .1 .1 .1 .1 .0) (call .kept .1 .1 .1 .1 .1 .0) in
+    let few : length (job .items) ≤ maxTypes = rw (items-length (now (a .args .job)) (a .args .n .0) (a .pre .0 .job-words)) (a .pre .0 .few-items) in
+    let plates : length (l .plates) ≤ maxPlates = rw p (a .pre .0 .few-plates) in
+    short-refused job l ns _ _ _ sums room few plates (c .before .before .before .types-short .ensures) (c .before .number .given .1)
+
+returns-2 : tie.Need-returns-2
+returns-2 c l p e =
+    let a = c .before .before .before .before .before .before .before .before .before .before .before .before .before .before .before .before .before .before .before .before in
+    let job = jobOf (now (a .args .job)) in
+    let ns = now (a .args .counts) in
+    let call = c .before .before .before .before .before .before .before .before .before .before .before .before .before .sum-counts in
+    let sums : Sums (l .cuts) ns (call .last .1 .1 .1 .0) (call .last .1 .1 .1 .1 .0) (call .last .1 .1 .1 .1 .1 .0) = rw e (call .ensures) in
+    let room : SumRoom (call .last .1 .1 .1 .0) (call .last .1 .1 .1 .1 .0) (call .last .1 .1 .1 .1 .1 .0) = sum-room (room-zeros (maxTypes + 1) maxPlates maxPlates (lit< tt) (lit≤ tt) (lit≤ tt)) (call .kept .1 .1 .1 .0) (call .kept .1 .1 .1 .1 .0) (call .kept .1 .1 .1 .1 .1 .0) in
+    let few : length (job .items) ≤ maxTypes = rw (items-length (now (a .args .job)) (a .args .n .0) (a .pre .0 .job-words)) (a .pre .0 .few-items) in
+    let plates : length (l .plates) ≤ maxPlates = rw p (a .pre .0 .few-plates) in
+    overdrawn-refused job l ns _ _ _ sums room few plates (c .before .before .before .before .before .before .before .before .types-short .ensures) (c .before .before .before .before .before .before .enum-told .given .1) (c .before .before .before .types-overdrawn .ensures (l .plates) p) (c .before .number2 .given .1)
+
+returns-3 : tie.Need-returns-3
+returns-3 c l p e =
+    let a = c .before .before .before .before .before .before .before .before .before .before .before .before .before .before .before .before .before .before .before in
+    let job = jobOf (now (a .args .job)) in
+    let ns = now (a .args .counts) in
+    let call = c .before .before .before .before .before .before .before .before .before .before .before .before .sum-counts in
+    let sums : Sums (l .cuts) ns (call .last .1 .1 .1 .0) (call .last .1 .1 .1 .1 .0) (call .last .1 .1 .1 .1 .1 .0) = rw e (call .ensures) in
+    let room : SumRoom (call .last .1 .1 .1 .0) (call .last .1 .1 .1 .1 .0) (call .last .1 .1 .1 .1 .1 .0) = sum-room (room-zeros (maxTypes + 1) maxPlates maxPlates (lit< tt) (lit≤ tt) (lit≤ tt)) (call .kept .1 .1 .1 .0) (call .kept .1 .1 .1 .1 .0) (call .kept .1 .1 .1 .1 .1 .0) in
+    let few : length (job .items) ≤ maxTypes = rw (items-length (now (a .args .job)) (a .args .n .0) (a .pre .0 .job-words)) (a .pre .0 .few-items) in
+    let plates : length (l .plates) ≤ maxPlates = rw p (a .pre .0 .few-plates) in
+    balance-accepted job l ns _ _ _ sums room few plates (c .before .before .before .before .before .before .before .types-short .ensures) (c .before .before .before .before .before .enum-told .given .1) (c .before .before .types-overdrawn .ensures (l .plates) p) (c .enum-told2 .given .1)
+
+pub balance-spec : {M : Type 1} → statement M
+balance-spec =
+    tie.close
+    (tie.spec
+    (λ c. search needs)
+    (λ c. search needs)
+    (λ c. search needs)
+    sum-counts-requires
+    (λ c. search needs)
+    (λ c κs. search needs)
+    (λ c. search needs)
+    (λ c. search needs)
+    (λ c. search needs)
+    (λ c. search needs)
+    (λ c κs. search needs)
+    (λ c. search needs)
+    (λ c. search needs)
+    (λ c. search needs)
+    returns
+    returns-2
+    returns-3)

@@ -1,0 +1,117 @@
+-- The price words that the code reads are the prices of the definitions; 2 and 14 as the code decides them; the sum of price times demand.
+use mathlib.Core.Path.{_≡_, refl, sym, _∙_}
+use Prim.Native.Nat.{ℕ, zero, suc, _+_, _*_, _-_, _≤_, _<_, min}
+use mathlib.Core.Bool.{Bool, true, false, not}
+use mathlib.Core.List.{List, [], _∷_}
+use native.Mathlib.Omega.{arith}
+use native.Mathlib.Nat.{mul-le-mul, pos-of-ne-zero}
+use borrow.Author.Tests.{ltb-true, ltb-false, eqb-true, not-false}
+use lib.Dec.{ltb, eqb}
+use lib.ListN.{length, getD, take, drop, length-take, length-drop, List·getD-eq-default}
+use lib.Seq.{getD-take, getD-drop, drop-cons}
+use Rattle.job.specs.declared.item.Item.{Item}
+use Rattle.job.specs.Sizes.{maxPieces, maxPrice, jobSize}
+use Rattle.job.specs.Verdict.{pass, refuse, lowest, within}
+use Rattle.job.specs.Job.{Job, jobOf, itemAt, jobWords}
+use Rattle.job.proofs.CodeItems.{items-from, items-end}
+use Rattle.job.proofs.Tests.{within-high, within-limits, above-limits}
+use Rattle.job.proofs.Verdicts.{lowest-good}
+use Rattle.job.proofs.Admission.{words-right}
+use Rattle.listing.specs.Listing.{Cut}
+use Rattle.plan.specs.Prices.{Prices, pricesAt, lowestPrice, priceWords, itemPrice, residualPrice, priceLimit, worth, overLimit, priced}
+
+-- prices by their words
+module _ (n : ℕ) (ws : List ℕ) where
+  pub item-price : (i : ℕ) → 1 ≤ i → i ≤ n → getD ws i 0 ≡ itemPrice (pricesAt n ws) i
+  unfolding itemPrice
+  item-price zero h l = absurd (omega arith)
+  item-price (suc i) h l = let e : 1 + i ≡ suc i = omega arith in sym (getD-take n (drop 1 ws) i 0 (omega arith) ∙ getD-drop 1 ws i 0 ∙ rw e)
+
+  -- a residual that is not kept has none
+  pub no-residual : (j : ℕ) → j ≡ 0 → 0 ≡ residualPrice (pricesAt n ws) j
+  unfolding residualPrice
+  no-residual j e = rw e
+
+  pub residual-price : (j : ℕ) → (j ≡ 0 → ⊥) → getD ws (n + j) 0 ≡ residualPrice (pricesAt n ws) j
+  unfolding residualPrice
+  residual-price zero h = absurd (h refl)
+  residual-price (suc j) h = let e : 1 + n + j ≡ n + suc j = omega arith in sym (getD-drop (1 + n) ws j 0 ∙ rw e)
+
+  -- a cut is over its limit if the limit is below its item's price and those of its residuals
+  pub over-limit : (c : Cut) {item top right limit : ℕ} → item ≡ itemPrice (pricesAt n ws) (c .item) → top ≡ residualPrice (pricesAt n ws) (c .top) → right ≡ residualPrice (pricesAt n ws) (c .right) → limit ≡ priceLimit (pricesAt n ws) (c .plate) → ltb limit (item + top + right) ≡ overLimit (pricesAt n ws) c
+  unfolding overLimit worth
+  over-limit c a b d e = rw (a, b, d, e)
+
+-- what is said of the cut that was read is said of that cut of the list
+pub over-said : (ps : Prices) {b t : Bool} {x y z : Cut} → b ≡ overLimit ps x → x ≡ y → z ≡ y → b ≡ t → overLimit ps z ≡ t
+over-said ps e f g h = cc
+
+-- a word above 9,999 is outside its limits
+pub word-high : (k x : ℕ) → maxPrice < x → not (within (lowestPrice k) maxPrice x) ≡ true
+word-high k x h = rw (above-limits (lowestPrice k) maxPrice x h)
+
+-- one that is not, and for D is not 0, is within them
+above-lowest : (k x : ℕ) (t : Bool) → eqb k 1 ≡ t → (k ≡ 1 → 1 ≤ x) → lowestPrice k ≤ x
+unfolding lowestPrice
+above-lowest k x true e h = rw e (h (eqb-true k 1 e))
+above-lowest k x false e h = rw e (omega arith)
+
+pub word-right : (k x : ℕ) → (k ≡ 1 → 1 ≤ x) → x ≤ maxPrice → not (within (lowestPrice k) maxPrice x) ≡ false
+word-right k x d h = rw (within-limits (lowestPrice k) maxPrice x (above-lowest k x (eqb k 1) refl d) h)
+
+-- word 1 is D
+pub first-word : (ws : List ℕ) (i : ℕ) → i + 1 ≡ 1 → (getD ws 0 0 ≡ 0 → ⊥) → 1 ≤ getD ws i 0
+first-word ws i e h = let z : i ≡ 0 = omega arith in rw z (pos-of-ne-zero h)
+
+-- no words at all pass
+pub no-words : (ws : List ℕ) → length ws ≡ 0 → pass ≡ priceWords ws
+unfolding priceWords lowest
+no-words [] h = refl
+no-words (d ∷ ws) h = absurd (omega arith)
+
+-- a D of 0 is word 1
+pub no-denominator : (ws : List ℕ) → (length ws ≡ 0 → ⊥) → getD ws 0 0 ≡ 0 → refuse 2 1 ≡ priceWords ws
+unfolding priceWords lowestPrice lowest
+no-denominator [] h e = absurd (h refl)
+no-denominator (d ∷ ws) h e = rw (e, lowest)
+
+-- words that passed are at most 9,999
+pub prices-small : (ws : List ℕ) → priceWords ws ≡ pass → (i : ℕ) → getD ws i 0 ≤ maxPrice
+unfolding priceWords
+prices-small ws e i = go (ltb i (length ws)) refl
+  where
+    go : (t : Bool) → ltb i (length ws) ≡ t → getD ws i 0 ≤ maxPrice
+    go true h =
+        within-high (lowestPrice (1 + i)) maxPrice (getD ws i 0)
+        (not-false _ (lowest-good 2 (λ k x. not (within (lowestPrice k) maxPrice x)) 0 1 ws e i (ltb-true _ _ h)))
+    go false h = rw (List·getD-eq-default ws 0 {n = i} (ltb-false _ _ h)) (omega arith)
+
+-- demands of words that passed are at most 4,000
+pub demands-small : (ws : List ℕ) (n : ℕ) → jobWords ws ≡ pass → length ws ≡ jobSize n → (i : ℕ) → 1 ≤ i → i ≤ n → itemAt (jobOf ws) i .demand ≤ maxPieces
+demands-small ws n e l i h g = let r = words-right ws e in r .each-item i h (omega (arith, r .whole)) .demand-limits .1
+
+-- a price times a demand
+pub product-small : {p d : ℕ} → p ≤ maxPrice → d ≤ maxPieces → p * d ≤ maxPrice * maxPieces
+product-small h l = mul-le-mul h l
+
+-- the sum of price times demand: what has been added up, and the rest
+module _ (job : Job) (n : ℕ) (ws : List ℕ) (e : length (job .items) ≡ n) (l : n < length ws) where
+  prices-from : (i : ℕ) → 1 ≤ i → i ≤ n → drop (i - 1) (pricesAt n ws .items) ≡ getD ws i 0 ∷ drop (i + 1 - 1) (pricesAt n ws .items)
+  prices-from zero h g = absurd (omega arith)
+  prices-from (suc j) h g =
+      let a : suc j - 1 ≡ j = omega arith in
+      let b : suc j + 1 - 1 ≡ suc j = omega arith in
+      let d : 1 + j ≡ suc j = omega arith in
+      let m : length (take n (drop 1 ws)) ≡ min n (length (drop 1 ws)) = length-take n (drop 1 ws) in
+      let r : length (drop 1 ws) ≡ length ws - 1 = length-drop 1 ws in
+      let v : getD (take n (drop 1 ws)) j 0 ≡ getD ws (suc j) 0 = getD-take n (drop 1 ws) j 0 (omega arith) ∙ getD-drop 1 ws j 0 ∙ rw d in
+      rw (a, b) (drop-cons (take n (drop 1 ws)) j 0 (omega arith) ∙ rw v)
+
+  module _ (i sum : ℕ) {whole : ℕ} (w : whole ≡ sum + priced (drop (i - 1) (job .items)) (drop (i - 1) (pricesAt n ws .items))) where
+    pub priced-next : {x : Item} → x ≡ itemAt job i → 1 ≤ i → i ≤ n → whole ≡ sum + getD ws i 0 * x .demand + priced (drop (i + 1 - 1) (job .items)) (drop (i + 1 - 1) (pricesAt n ws .items))
+    unfolding priced
+    priced-next f h g = w ∙ rw (items-from job i h (omega arith), prices-from i h g, f) (omega arith)
+
+    pub priced-end : n < i → sum ≡ whole
+    unfolding priced
+    priced-end h = let z : whole ≡ sum + 0 = w ∙ rw (items-end job i (omega arith)) in omega arith

@@ -1,0 +1,3 @@
+// The price test.
+pub mod call;
+pub mod prices;

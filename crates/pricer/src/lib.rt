@@ -1,3 +1,0 @@
-// The price test.
-pub mod price_test;
-pub mod prices;

@@ -1,3 +1,0 @@
-// The end of a saw text by any state: the job is listed afresh.
-pub mod afresh;
-pub mod finish;

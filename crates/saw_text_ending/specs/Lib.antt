@@ -1,0 +1,3 @@
+-- The definitions of this crate: how a saw text ends.
+pub mod SawEnd
+pub mod Finished

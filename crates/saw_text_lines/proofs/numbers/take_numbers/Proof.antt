@@ -1,0 +1,104 @@
+-- `take_numbers` goes by what comes next.
+use Prim.Native.Nat.{suc}
+use native.Mathlib.Omega.{arith}
+use denote.Ref.{now}
+use mathlib.Core.Path.{sym, ap, _∙_}
+use lib.Dec.{leb}
+use borrow.Author.Tests.{leb-true}
+use Rattle.job.specs.Sizes.{maxTypes, maxResiduals}
+use Rattle.listing.proofs.CodeHolds.{held-word}
+use Rattle.texts.proofs.Basics.{and-parts, within-parts}
+use Rattle.texts_reading.specs.declared.text.Place.the-variants.{Done}
+use Rattle.texts_reading.specs.Standing.{placeOf}
+use Rattle.saw_text_body.proofs.BodyRows.{row-done}
+use Rattle.saw_text_lines.specs.SawKept.{lent}
+use Rattle.saw_text_lines.proofs.TakeLaws.{taken-refused}
+use borrow.Author.Needs.{needs}
+use Rattle.saw_text_lines.proofs.numbers.take_numbers.Statement.{statement}
+use Rattle.saw_text_lines.proofs.numbers.take_numbers.Tie as tie
+
+take-item-requires : tie.Need-take-item-requires
+take-item-requires c κs =
+    let s = c .before .before .before .before .before .before .before .before .before .before .before .before in
+    let g = c .before .before .before .before .place .given in
+    let w = within-parts 1 maxTypes (g .0 .0 .0) (rw (g .1) at (s .pre .1 .1)) in
+    (w .0, (omega (arith, w .1), omega (arith, w .1, s .pre .0 .for-job)))
+
+take-item-price-requires : tie.Need-take-item-price-requires
+take-item-price-requires c κs =
+    let s = c .before .before .before .before .before .before .before .before .before .before in
+    let g = c .before .before .place2 .given in
+    let few = leb-true (g .0 .0 .0) maxTypes (rw (g .1) at (s .pre .1 .1)) in
+    (omega (arith, few), omega (arith, few, s .pre .0 .for-prices))
+
+take-plate-price-requires : tie.Need-take-plate-price-requires
+take-plate-price-requires c κs =
+    let s = c .before .before .before .before .before .before .before .before .before .before in
+    let g = c .before .before .place3 .given in
+    let parts = and-parts (leb (g .0 .0 .0) maxResiduals) (leb (s .args .held .prices .types .0) maxTypes) (rw (g .1) at (s .pre .1 .1)) in
+    let few = leb-true (g .0 .0 .0) maxResiduals (parts .0) in
+    let types = leb-true (s .args .held .prices .types .0) maxTypes (parts .1) in
+    (omega (arith, few), omega (arith, few, types, s .pre .0 .for-prices))
+
+returns : tie.Need-returns
+returns c s lines p here kept =
+    let a = c .before .before .before .before .before .before .before .before .before .before .before .before .args in
+    c .before .before .take-first .ensures s lines (now (a .plates)) (now (a .cuts)) (now (a .counts)) (now (a .prices)) (sym p ∙ ap placeOf (c .before .before .before .before .enum-told .given .1)) kept
+
+returns-2 : tie.Need-returns-2
+returns-2 c s lines p here kept =
+    let b = c .before .before .before .before .before .before .before .before .before .before .before .before .before .before .before .before .before .before .before in
+    c .before .before .before .before .before .before .take-item .ensures s lines (now (b .args .counts)) (now (b .args .prices)) (sym p ∙ ap placeOf (c .before .before .before .before .before .before .before .before .before .before .before .place .given .1)) (b .pre .0) kept
+
+returns-3 : tie.Need-returns-3
+returns-3 c s lines p here kept =
+    let a = c .before .before .before .before .before .before .before .before .before .before .before .before .before .before .before .before .before .before .args in
+    c .before .before .before .before .take-body .ensures s lines (now (a .job)) (now (a .plates)) (sym p ∙ ap placeOf (c .before .before .before .before .before .before .before .before .before .before .enum-told2 .given .1)) here (sym (c .before .before .before .before .before .before .before .before .head-of .ensures .of-types ∙ held-word (s .job) (kept .words) 4)) kept
+
+returns-4 : tie.Need-returns-4
+returns-4 c s lines p here kept =
+    let a = c .before .before .before .before .before .before .before .before .before .before .before .before .before .args in
+    c .before .before .take-item-price .ensures s lines (now (a .job)) (now (a .plates)) (now (a .cuts)) (now (a .counts)) (sym p ∙ ap placeOf (c .before .before .before .before .before .place2 .given .1)) kept
+
+returns-5 : tie.Need-returns-5
+returns-5 c s lines p here kept =
+    let a = c .before .before .before .before .before .before .before .before .before .before .before .before .before .args in
+    c .before .before .take-plate-price .ensures s lines (now (a .job)) (now (a .plates)) (now (a .cuts)) (now (a .counts)) (sym p ∙ ap placeOf (c .before .before .before .before .before .place3 .given .1)) kept
+
+returns-6 : tie.Need-returns-6
+returns-6 c s lines p here kept =
+    let a = c .before .before .before .before .before .before .before .before .args in
+    taken-refused s lines 1 (now (a .numbers)) Done (a .held) (lent (now (a .job)) (now (a .plates)) (now (a .cuts)) (now (a .counts)) (now (a .prices))) (row-done s (suc lines) (now (a .numbers)) (sym p ∙ ap placeOf (c .enum-told3 .given .1))) (λ e. omega (arith, e)) kept
+
+pub take-numbers-spec : {M : Type 1} → statement M
+take-numbers-spec =
+    tie.close
+    (tie.spec
+    (λ c. search needs)
+    (λ c κs. search needs)
+    (λ c. search needs)
+    take-item-requires
+    (λ c. search needs)
+    (λ c κs. search needs)
+    (λ c κs. search needs)
+    (λ c. search needs)
+    take-item-price-requires
+    (λ c. search needs)
+    take-plate-price-requires
+    (λ c. search needs)
+    (λ c. search needs)
+    returns
+    (λ c. search needs)
+    (λ c. search needs)
+    (λ c. search needs)
+    returns-2
+    (λ c. search needs)
+    (λ c. search needs)
+    (λ c. search needs)
+    (λ c. search needs)
+    returns-3
+    (λ c. search needs)
+    returns-4
+    (λ c. search needs)
+    returns-5
+    returns-6)

@@ -1,0 +1,36 @@
+// The plan row of a saw text: 8 and 9 of its lines 3, then 10, 11 and 12 of the counts that they give.
+ghost use mathlib.Core.Path.{_≡_};
+ghost use Prim.Native.Nat.{_≤_};
+ghost use lib.ListN.{length};
+ghost use Rattle.listing.specs.Listing.{Listing};
+ghost use Rattle.listing.specs.CutRead.{cutsRead, Lent};
+ghost use Rattle.saw_text_rows.specs.Tail.{PlanTold};
+use job::counters::CutNumber;
+use job::counters::ItemType;
+use job::counters::PlateTypes;
+use plan_test::plan_row::PlanAnswer;
+use plan_test::plan_row::plan_rows;
+use saw_text_body::plan_lines::PlanLines;
+
+// The plan row, whole: 8 a line that names no cut, 9 a line whose cut is not after the last, each naming the line; then the test of the counts.
+pub fn plan_row_of_text(
+    plan: PlanLines,
+    job: &[u16],
+    n: ItemType,
+    cuts: &[u16],
+    m: PlateTypes,
+    k: CutNumber,
+    counts: &[u16],
+) -> PlanAnswer
+    requires { ⌜ Lent (now job) (now cuts) (n .0) (m .0) (k .0) ⌝ }
+    requires { ⌜ k .0 ≤ length (now counts) ⌝ }
+    ensures { λ a. ⌜ ((l : Listing) → length (l .plates) ≡ m .0 → l .cuts ≡ cutsRead (k .0) (now (cuts .entry)) → PlanTold l (now (job .entry)) (now (counts .entry)) plan a) ⌝ }
+{
+    if plan.unnamed != 0 {
+        return PlanAnswer::Refused(8, plan.unnamed as usize);
+    }
+    if plan.fallen != 0 {
+        return PlanAnswer::Refused(9, plan.fallen as usize);
+    }
+    plan_rows(job, n, cuts, m, k, counts)
+}

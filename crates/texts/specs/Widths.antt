@@ -1,0 +1,39 @@
+-- Document 01, "Texts": the bytes of a line of each kind, byte 10 included, each said once; `src/widths.rt` has the same for the code.
+use Prim.Native.Nat.{ℕ}
+use Rattle.columns.specs.Widths.{lineBytes}
+
+-- kind 1: the kind, stages, exact, W, H, n
+abbrev pub jobLineBytes : ℕ
+jobLineBytes = lineBytes 6
+
+-- kind 2: the kind, type, width, height, demand
+abbrev pub typeLineBytes : ℕ
+typeLineBytes = lineBytes 5
+
+-- kind 3: the kind, plate, item, count
+abbrev pub planLineBytes : ℕ
+planLineBytes = lineBytes 4
+
+-- kind 4: the kind, D, n, m
+abbrev pub pricesLineBytes : ℕ
+pricesLineBytes = lineBytes 4
+
+-- kinds 5 and 6: the kind, type or plate type, price
+abbrev pub priceLineBytes : ℕ
+priceLineBytes = lineBytes 3
+
+-- kind 7: the kind, board, strip, stack, place, type, x, y
+abbrev pub placementLineBytes : ℕ
+placementLineBytes = lineBytes 8
+
+-- kind 8: the kind, boards, sum, D, fewest
+abbrev pub summaryLineBytes : ℕ
+summaryLineBytes = lineBytes 5
+
+-- kind 9: the kind, refusal, place
+abbrev pub refusalLineBytes : ℕ
+refusalLineBytes = lineBytes 3
+
+-- the place that the code writes on line 9 is below 2^32
+abbrev pub placeLimit : ℕ
+placeLimit = 4294967296

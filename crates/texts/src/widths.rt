@@ -1,0 +1,46 @@
+// The bytes of a line of each kind, byte 10 included; `texts/Widths` has the same as definitions.
+use columns::widths::GROUP;
+use job::sizes::MAX_TYPES;
+
+// Kind 1: the kind, stages, exact, W, H, n.
+pub const JOB_LINE: usize = GROUP * 6 + 1;
+
+// Kind 2: the kind, type, width, height, demand.
+pub const TYPE_LINE: usize = GROUP * 5 + 1;
+
+// Kind 3: the kind, plate, item, count.
+pub const PLAN_LINE: usize = GROUP * 4 + 1;
+
+// Kind 4: the kind, D, n, m.
+pub const PRICES_LINE: usize = GROUP * 4 + 1;
+
+// Kinds 5 and 6: the kind, type or plate type, price.
+pub const PRICE_LINE: usize = GROUP * 3 + 1;
+
+// Kind 7: the kind, board, strip, stack, place, type, x, y.
+pub const PLACEMENT_LINE: usize = GROUP * 8 + 1;
+
+// Kind 8: the kind, boards, sum, D, fewest.
+pub const SUMMARY_LINE: usize = GROUP * 5 + 1;
+
+// Kind 9: the kind, refusal, place.
+pub const REFUSAL_LINE: usize = GROUP * 3 + 1;
+
+// No line is longer than one of kind 7.
+pub const LONGEST_LINE: usize = PLACEMENT_LINE;
+
+// The most lines of a text.
+pub const MAX_LINES: u32 = 99_999;
+
+// The bytes of the longest saw text: line 1, 40 lines 2, and a line 3 for each line after them.
+pub const LONGEST_SAW_TEXT: usize = JOB_LINE
+    + TYPE_LINE * (MAX_TYPES as usize)
+    + PLAN_LINE * (MAX_LINES as usize - 1 - MAX_TYPES as usize);
+
+// The bytes of the longest fold text: line 1, one line 2, and a line 7 for each line after them.
+pub const LONGEST_FOLD_TEXT: usize = JOB_LINE
+    + TYPE_LINE
+    + PLACEMENT_LINE * (MAX_LINES as usize - 2);
+
+// A place that is written on line 9 is below this.
+pub const PLACE_LIMIT: usize = 4_294_967_296;

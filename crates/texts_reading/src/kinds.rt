@@ -1,0 +1,103 @@
+// The kinds of lines: each gives the refusal of a line's numbers, 0 where there is none.
+ghost use mathlib.Core.Path.{_≡_};
+ghost use mathlib.Core.List.{[], _∷_};
+ghost use Prim.Native.Nat.{ℕ};
+ghost use Rattle.texts.specs.Shape.{jobLine, itemLine, planLine, pricesLine, itemPriceLine, platePriceLine, layoutLine, numbersRow};
+ghost use Rattle.texts_reading.specs.Judged.{lineVerdict};
+use crate::judge::judge;
+use job::counters::ItemType;
+use job::counters::PlateType;
+use job::sizes::MAX_PIECES;
+use job::sizes::MAX_PRICE;
+use job::sizes::MAX_RESIDUALS;
+use job::sizes::MAX_SIDE;
+use job::sizes::MAX_TYPES;
+
+// The limits as numbers of a line: sides, item types, pieces, prices, residual types.
+const SIDE_LIMIT: u32 = MAX_SIDE as u32;
+
+const TYPES_LIMIT: u32 = MAX_TYPES as u32;
+
+const PIECES_LIMIT: u32 = MAX_PIECES as u32;
+
+const PRICE_LIMIT: u32 = MAX_PRICE as u32;
+
+const RESIDUALS_LIMIT: u32 = MAX_RESIDUALS as u32;
+
+// Kind 1: stages, exact, W, H, n.
+pub fn job_line(numbers: &[u32]) -> u16
+    ensures { λ r. ⌜ ((line : ℕ) → lineVerdict r line ≡ numbersRow line (jobLine ∷ []) (now (numbers .entry))) ⌝ }
+{
+    let head = [1u32];
+    let low = [2u32, 0, 1, 1, 1];
+    let high = [3u32, 1, SIDE_LIMIT, SIDE_LIMIT, TYPES_LIMIT];
+    judge(numbers, &head, &low, &high)
+}
+
+// Kind 2 of type i: width, height, demand.
+pub fn item_line(numbers: &[u32], i: ItemType) -> u16
+    ensures { λ r. ⌜ ((line : ℕ) → lineVerdict r line ≡ numbersRow line (itemLine (i .0) ∷ []) (now (numbers .entry))) ⌝ }
+{
+    let head = [2, i.0 as u32];
+    let low = [1u32, 1, 1];
+    let high = [SIDE_LIMIT, SIDE_LIMIT, PIECES_LIMIT];
+    judge(numbers, &head, &low, &high)
+}
+
+// Kind 3 of a job whose last item type is n: plate, item, count.
+pub fn plan_line(numbers: &[u32], n: ItemType) -> u16
+    ensures { λ r. ⌜ ((line : ℕ) → lineVerdict r line ≡ numbersRow line (planLine (n .0) ∷ []) (now (numbers .entry))) ⌝ }
+{
+    let head = [3u32];
+    let low = [0u32, 1, 1];
+    let high = [RESIDUALS_LIMIT, n.0 as u32, PIECES_LIMIT];
+    judge(numbers, &head, &low, &high)
+}
+
+// Kind 4: D, n, m.
+pub fn prices_line(numbers: &[u32]) -> u16
+    ensures { λ r. ⌜ ((line : ℕ) → lineVerdict r line ≡ numbersRow line (pricesLine ∷ []) (now (numbers .entry))) ⌝ }
+{
+    let head = [4u32];
+    let low = [1u32, 1, 0];
+    let high = [PRICE_LIMIT, TYPES_LIMIT, RESIDUALS_LIMIT];
+    judge(numbers, &head, &low, &high)
+}
+
+// Kind 5 of type i: price.
+pub fn item_price_line(numbers: &[u32], i: ItemType) -> u16
+    ensures { λ r. ⌜ ((line : ℕ) → lineVerdict r line ≡ numbersRow line (itemPriceLine (i .0) ∷ []) (now (numbers .entry))) ⌝ }
+{
+    let head = [5, i.0 as u32];
+    let low = [0u32];
+    let high = [PRICE_LIMIT];
+    judge(numbers, &head, &low, &high)
+}
+
+// Kind 6 of plate type j: price.
+pub fn plate_price_line(numbers: &[u32], j: PlateType) -> u16
+    ensures { λ r. ⌜ ((line : ℕ) → lineVerdict r line ≡ numbersRow line (platePriceLine (j .0) ∷ []) (now (numbers .entry))) ⌝ }
+{
+    let head = [6, j.0 as u32];
+    let low = [0u32];
+    let high = [PRICE_LIMIT];
+    judge(numbers, &head, &low, &high)
+}
+
+// Kind 7 of a job whose last item type is n: board, strip, stack, place, type, x, y.
+pub fn layout_line(numbers: &[u32], n: ItemType) -> u16
+    ensures { λ r. ⌜ ((line : ℕ) → lineVerdict r line ≡ numbersRow line (layoutLine (n .0) ∷ []) (now (numbers .entry))) ⌝ }
+{
+    let head = [7u32];
+    let low = [1u32, 1, 1, 1, 1, 0, 0];
+    let high = [
+        PIECES_LIMIT,
+        PIECES_LIMIT,
+        PIECES_LIMIT,
+        PIECES_LIMIT,
+        n.0 as u32,
+        SIDE_LIMIT,
+        SIDE_LIMIT,
+    ];
+    judge(numbers, &head, &low, &high)
+}

@@ -1,0 +1,39 @@
+-- `put_count` writes nothing where the count is 0, else the line of the cut.
+use Prim.Native.Nat.{_-_}
+use mathlib.Core.Path.{refl}
+use lib.ListN.{length}
+use Rattle.listing.specs.CutRead.{cutIn, cutRead}
+use Rattle.texts_writing.proofs.WroteLaws.{wrote-none}
+use Rattle.texts_writing.proofs.CountLaws.{line-absent, line-room, line-wrote}
+use borrow.Author.Needs.{needs}
+use Rattle.texts_writing.proofs.lines3.put_count.Statement.{statement}
+use Rattle.texts_writing.proofs.lines3.put_count.Tie as tie
+
+returns : tie.Need-returns
+returns c =
+    let a = c .before .before .before .args in
+    rw (line-absent (cutRead (a .cuts .now) (a .c .0 - 1)) (a .n) (c .if1 .taken)) (wrote-none _ _)
+
+put-line-requires : tie.Need-put-line-requires
+put-line-requires c κs =
+    let s = c .before .before .before .before .before .before .before .before in
+    line-room (s .args .at) (length (s .args .out .now)) (cutRead (s .args .cuts .now) (s .args .c .0 - 1)) (s .args .n) (c .before .before .before .before .before .if1 .left) (s .pre .1)
+
+returns-2 : tie.Need-returns-2
+returns-2 c =
+    let cut = c .before .before .before .before .before .before .before .cut-at in
+    line-wrote (cutIn (cut .result)) _ _ (cut .ensures) (c .before .before .before .before .before .before .before .before .if1 .left) (c .before .before .put-line .ensures) refl
+
+pub put-count-spec : {M : Type 1} → statement M
+put-count-spec =
+    tie.close
+    (tie.spec
+    returns
+    (λ c κs. search needs)
+    (λ c. search needs)
+    (λ c. search needs)
+    (λ c. search needs)
+    put-line-requires
+    (λ c. search needs)
+    (λ c. search needs)
+    returns-2)

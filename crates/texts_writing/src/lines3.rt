@@ -1,0 +1,42 @@
+// Lines 3: a line for each cut that is counted.
+ghost use Prim.Native.Nat.{_+_, _-_, _*_, _≤_};
+ghost use lib.ListN.{length};
+ghost use Rattle.job.specs.Sizes.{wordsOfCut};
+ghost use Rattle.listing.specs.CutRead.{cutRead, cutsRead};
+ghost use Rattle.texts.specs.FoldText.{countLines};
+ghost use Rattle.texts_writing.specs.Wrote.{Wrote, countLine};
+use columns::line::put_line;
+use job::counters::CutNumber;
+use listing::cut::cut_at;
+use texts::widths::PLAN_LINE;
+
+// Writes line 3 of cut c at a position, unless its count n is 0; its end is handed back.
+fn put_count(out: &mut [u8], at: usize, cuts: &[u16], c: CutNumber, n: u16) -> usize
+    requires { ⌜ (1 ≤ c .0) × (wordsOfCut * c .0 ≤ length (now cuts)) ⌝ }
+    requires { ⌜ at + length (countLine (cutRead (now cuts) (c .0 - 1)) n) ≤ length (now out) ⌝ }
+    ensures { λ r. ⌜ Wrote (now (out .entry)) at (countLine (cutRead (now (cuts .entry)) (c .0 - 1)) n) r (now (out .exit)) ⌝ }
+{
+    if n == 0 {
+        return at;
+    }
+    let cut = cut_at(cuts, c);
+    let line = [3, cut.plate.0 as u32, cut.item.0 as u32, n as u32];
+    put_line(out, at, &line);
+    at + PLAN_LINE
+}
+
+// Writes a line 3 for each of k cuts whose count is not 0, at the start of the output; their end is handed back.
+pub fn write_counts(out: &mut [u8], cuts: &[u16], k: CutNumber, counts: &[u16]) -> usize
+    requires { ⌜ (wordsOfCut * k .0 ≤ length (now cuts)) × (k .0 ≤ length (now counts)) ⌝ }
+    requires { ⌜ length (countLines (cutsRead (k .0) (now cuts)) (now counts)) ≤ length (now out) ⌝ }
+    ensures { λ r. ⌜ Wrote (now (out .entry)) 0 (countLines (cutsRead (k .0) (now (cuts .entry))) (now (counts .entry))) r (now (out .exit)) ⌝ }
+{
+    let end = k.0;
+    let mut at: usize = 0;
+    let mut c: u16 = 0;
+    while c < end {
+        at = put_count(out, at, cuts, CutNumber(c + 1), counts[c as usize]);
+        c += 1;
+    }
+    at
+}

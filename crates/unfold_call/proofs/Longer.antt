@@ -1,0 +1,87 @@
+-- Words past the last cut play no part: the unfolding of counts with more words behind them is that of the counts, with these words behind what is left.
+use Prim.Native.Nat.{ℕ, zero, suc, _-_, _≤_, _<_}
+use native.Mathlib.Omega.{arith}
+use mathlib.Core.Path.{_≡_, refl, sym, _∙_, ap}
+use mathlib.Core.Logic.{_⊎_, inl, inr}
+use mathlib.Core.Bool.{Bool, true, false, _&&_}
+use mathlib.Core.List.{List, [], _∷_, _++_}
+use mathlib.Core.Option.{Option, some}
+use lib.Dec.{ltb}
+use lib.ListN.{length, getD, List·getD-append}
+use lib.Seq.{take-append-le, set-append-left}
+use Rattle.job.specs.Job.{Job}
+use Rattle.job.proofs.Tests.{at-most-or-above}
+use Rattle.listing.specs.Listing.{Cut, Listing}
+use Rattle.plan.specs.Plan.{countOf, onPlate, boards}
+use Rattle.plan.proofs.PlanExact.{countOf-take}
+use Rattle.layouts.specs.Unfold.{State, search, spent, Step, placed, leftOver, idle, done, step, openBoard, Run, placing, run}
+use Rattle.layouts.proofs.machine.Search.{found-cut}
+use Rattle.layouts.proofs.machine.MachineSteps.{step-ends}
+use Rattle.unfold_step.proofs.Steps.{step-idle, step-over, step-cut, step-by, step-length, run-placed, run-over, run-open}
+
+search-longer : (j k : ℕ) (cs : List Cut) (ns zs : List ℕ) → length cs ≤ length ns → search j k cs (ns ++ zs) ≡ search j k cs ns
+unfolding search
+search-longer j k [] ns zs h = refl
+search-longer j k (c ∷ cs) [] zs h = absurd (omega arith)
+search-longer j k (c ∷ cs) (n ∷ ns) zs h = ap (λ (o : Option ℕ). elim (onPlate j c && ltb 0 n) as (λ _. Option ℕ) [ true ↦ some k | false ↦ o ]) (search-longer j (suc k) cs ns zs (omega arith))
+
+count-longer : (test : Cut → Bool) (cs : List Cut) (ns zs : List ℕ) → length cs ≤ length ns → countOf test cs (ns ++ zs) ≡ countOf test cs ns
+count-longer test cs ns zs h =
+    sym (countOf-take test cs (ns ++ zs)) ∙ ap (countOf test cs) (take-append-le (length cs) ns zs h) ∙ countOf-take test cs ns
+
+spent-longer : (ns zs : List ℕ) (k : ℕ) → k ≤ length ns → spent (ns ++ zs) k ≡ spent ns k ++ zs
+unfolding spent
+spent-longer ns zs zero h = refl
+spent-longer ns zs (suc k) h = rw (List·getD-append ns zs 0 k (omega arith)) (set-append-left ns zs k (getD ns k 0 - 1) (omega arith))
+
+module _ (job : Job) (l : Listing) (zs : List ℕ) where
+  -- a state, a step, a run with the words behind its counts
+  abbrev pub longer : State → State
+  longer st = record { counts = st .counts ++ zs; waiting = st .waiting; turn = st .turn }
+
+  abbrev longerStep : Step → Step
+  longerStep (placed p st) = placed p (longer st)
+  longerStep (leftOver p st) = leftOver p (longer st)
+  longerStep idle = idle
+
+  abbrev pub longerRun : Run → Run
+  longerRun r = record { placements = r .placements; last = longer (r .last) }
+
+  step-longer : (st : State) → length (l .cuts) ≤ length (st .counts) → step job l (longer st) ≡ longerStep (step job l st)
+  unfolding done
+  step-longer st h =
+      let same : (j : ℕ) → search j 1 (l .cuts) (st .counts ++ zs) ≡ search j 1 (l .cuts) (st .counts) = λ j. search-longer j 1 (l .cuts) (st .counts) zs h in
+      step-by job l st (λ s. step job l (longer st) ≡ longerStep s)
+      (λ e. step-idle job l (longer st) e)
+      (λ t e f. step-over job l (longer st) t e (same (t .piece .plate) ∙ f))
+      (λ t e k f.
+      let (is, on) = found-cut l (t .piece .plate) (st .counts) k f in
+      step-cut job l (longer st) t e k (same (t .piece .plate) ∙ f) ∙ rw (spent-longer (st .counts) zs k (omega arith)))
+
+  pub boards-longer : (st : State) → length (l .cuts) ≤ length (st .counts) → boards l (st .counts ++ zs) ≡ boards l (st .counts)
+  unfolding boards
+  boards-longer st h = count-longer (onPlate 0) (l .cuts) (st .counts) zs h
+
+  -- a run with one step more
+  module _ (fuel : ℕ) (st : State) (h : length (l .cuts) ≤ length (st .counts)) (rest : (st′ : State) → length (l .cuts) ≤ length (st′ .counts) → run fuel job l (longer st′) ≡ longerRun (run fuel job l st′)) where
+    by-boards : step job l st ≡ idle → (boards l (st .counts) ≤ 0) ⊎ (0 < boards l (st .counts)) → run (suc fuel) job l (longer st) ≡ longerRun (run (suc fuel) job l st)
+    unfolding openBoard
+    by-boards e (inl n) =
+        step-ends job l (longer st) (step-longer st h ∙ ap longerStep e) (boards-longer st h ∙ omega arith) (suc fuel) ∙ ap longerRun (sym (step-ends job l st e (omega arith) (suc fuel)))
+    by-boards e (inr n) =
+        run-open job l (longer st) fuel (step-longer st h ∙ ap longerStep e) (rw (boards-longer st h) n) ∙ rest (openBoard st) h ∙ ap longerRun (sym (run-open job l st fuel e n))
+
+    by-step : (s : Step) → step job l st ≡ s → run (suc fuel) job l (longer st) ≡ longerRun (run (suc fuel) job l st)
+    unfolding placing
+    by-step (placed p st′) e =
+        let n : length (st′ .counts) ≡ length (st .counts) = rw e at (step-length job l st) in
+        run-placed job l (longer st) fuel p (longer st′) (step-longer st h ∙ ap longerStep e) ∙ ap (placing p) (rest st′ (omega arith)) ∙ ap longerRun (sym (run-placed job l st fuel p st′ e))
+    by-step (leftOver p st′) e =
+        let n : length (st′ .counts) ≡ length (st .counts) = rw e at (step-length job l st) in
+        run-over job l (longer st) fuel p (longer st′) (step-longer st h ∙ ap longerStep e) ∙ rest st′ (omega arith) ∙ ap longerRun (sym (run-over job l st fuel p st′ e))
+    by-step idle e = by-boards e (at-most-or-above (boards l (st .counts)) 0)
+
+  pub run-longer : (fuel : ℕ) (st : State) → length (l .cuts) ≤ length (st .counts) → run fuel job l (longer st) ≡ longerRun (run fuel job l st)
+  unfolding run
+  run-longer zero st h = refl
+  run-longer (suc fuel) st h = by-step fuel st h (run-longer fuel) (step job l st) refl

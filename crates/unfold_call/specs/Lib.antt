@@ -1,0 +1,2 @@
+-- The definitions of this crate: what the call's answer says, and how a call ends.
+pub mod UnfoldSays

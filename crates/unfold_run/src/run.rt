@@ -1,0 +1,135 @@
+// The run of an unfolding: step after step, board after board, within a budget of steps.
+ghost use mathlib.Core.Path.{_≡_};
+ghost use mathlib.Core.List.{[]};
+ghost use Prim.Native.Nat.{ℕ, suc, _-_, _≤_};
+ghost use lib.ListN.{length};
+ghost use Rattle.job.specs.Sizes.{maxPieces, placementsSize};
+ghost use Rattle.listing.specs.Holds.{Holds};
+ghost use Rattle.plan.specs.Plan.{boards as boardsOf};
+ghost use Rattle.layouts.specs.Unfold.{Run};
+ghost use Rattle.layouts.specs.Demand3.{J, L};
+ghost use Rattle.unfold_step.specs.Meaning.{spends};
+ghost use Rattle.unfold_step.specs.Ready.{ModelLent};
+ghost use Rattle.unfold_run.specs.Going.{GoingAt, GoesOn, Advanced, Gives, started};
+use job::counters::CutNumber;
+use job::counters::PlateType;
+use placement::put_placement;
+use unfold_step::placements::placement_of;
+use unfold_step::state::State;
+use unfold_step::state::Step;
+use unfold_waiting::turn::MAX_STEPS;
+
+// Where a run stands: its state, the boards that are left to be opened, and the items placed.
+pub struct Progress {
+    pub state: State,
+    pub boards: u16,
+    pub pieces: u16,
+}
+
+// What a step makes of a run: it goes on, or has ended.
+pub enum Advance {
+    On(Progress),
+    Ended,
+}
+
+// The boards used and the items placed.
+pub struct Ran {
+    pub boards: u16,
+    pub pieces: u16,
+}
+
+// The boards that are left after a cut on a plate type.
+fn boards_after(boards: u16, plate: PlateType) -> u16
+    requires { ⌜ spends (plate .0) ≤ boards ⌝ }
+    ensures { λ r. ⌜ r ≡ boards - spends (plate .0) ⌝ }
+{
+    if plate.0 == 0 {
+        return boards - 1;
+    }
+    boards
+}
+
+impl Progress {
+    // One step: an item is placed, a piece is left over, or the next board is opened; the run ends where nothing waits and no board is left.
+    fn advance(
+        self,
+        job: &[u16],
+        plates: &[u16],
+        cuts: &[u16],
+        k: CutNumber,
+        counts: &mut [u16],
+        placements: &mut [u16],
+    ) -> Advance
+        requires { ⌜ ModelLent (now job) (now plates) (now cuts) (k .0) ⌝ }
+        requires { ⌜ GoesOn (J (now job)) (L (now job)) self (now counts) (now placements) ⌝ }
+        ensures { λ r. ⌜ ((whole : Run) (fuel : ℕ) → GoingAt (J (now (job .entry))) (L (now (job .entry))) whole (suc fuel) self (now (counts .entry)) (now (placements .entry)) → Advanced (J (now (job .entry))) (L (now (job .entry))) whole fuel self r (now (counts .exit)) (now (placements .exit))) ⌝ }
+    {
+        let state = self.state;
+        let boards = self.boards;
+        let pieces = self.pieces;
+        match state.step(job, plates, cuts, k, counts) {
+            Step::Placed(item, next) => {
+                put_placement(placements, pieces, placement_of(item));
+                let plate = item.plate;
+                Advance::On(Progress {
+                    state: next,
+                    boards: boards_after(boards, plate),
+                    pieces: pieces + 1,
+                })
+            }
+            Step::LeftOver(_, next) => Advance::On(Progress {
+                state: next,
+                boards,
+                pieces,
+            }),
+            Step::Idle => {
+                if boards == 0 {
+                    return Advance::Ended;
+                }
+                Advance::On(Progress {
+                    state: state.open_board(),
+                    boards,
+                    pieces,
+                })
+            }
+        }
+    }
+}
+
+// The whole unfolding of counts that open a number of boards.
+pub fn run(
+    job: &[u16],
+    plates: &[u16],
+    cuts: &[u16],
+    k: CutNumber,
+    counts: &mut [u16],
+    boards: u16,
+    placements: &mut [u16],
+) -> Ran
+    requires { ⌜ ModelLent (now job) (now plates) (now cuts) (k .0) ⌝ }
+    requires { ⌜ (k .0 ≤ length (now counts)) × (boards ≡ boardsOf (L (now job)) (now counts)) ⌝ }
+    requires { ⌜ (Holds (now placements) []) × (placementsSize ≤ length (now placements)) ⌝ }
+    requires { ⌜ length (started (J (now job)) (L (now job)) (now counts) .placements) ≤ maxPieces ⌝ }
+    ensures { λ r. ⌜ Gives (started (J (now (job .entry))) (L (now (job .entry))) (now (counts .entry))) r (now (placements .exit)) ⌝ }
+{
+    let mut at = Progress {
+        state: State::start(),
+        boards,
+        pieces: 0,
+    };
+    let mut fuel: u16 = MAX_STEPS;
+    while 0 < fuel {
+        let Advance::On(next) = at.advance(job, plates, cuts, k, counts, placements) else {
+            return Ran {
+                boards: at.state.turn.board,
+                pieces: at.pieces,
+            };
+        };
+        at = next;
+        fuel -= 1;
+    }
+    Ran {
+        boards: at.state.turn.board,
+        pieces: at.pieces,
+    }
+}

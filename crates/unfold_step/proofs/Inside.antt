@@ -1,0 +1,146 @@
+-- Every piece that waits lies inside the board, and no number runs ahead of the steps: each step keeps both.
+use Prim.Native.Nat.{ℕ, zero, suc, _+_, _≤_, _<_}
+use native.Mathlib.Omega.{arith}
+use mathlib.Core.Path.{_≡_, refl}
+use mathlib.Core.Bool.{Bool, true, false}
+use mathlib.Core.Option.{Option, none, some}
+use lib.Dec.{eqb}
+use Rattle.job.specs.declared.item.Item.{Item}
+use Rattle.job.specs.Job.{Job, itemAt}
+use Rattle.listing.specs.declared.plate.Residuals.{Residuals}
+use Rattle.listing.specs.Listing.{Listing, plateAt, cutAt}
+use Rattle.listing.specs.Model.{Model, leftBy}
+use Rattle.listing.proofs.Plates.{may-cut}
+use Rattle.listing.proofs.Residuals.{leaves-by}
+use Rattle.layouts.specs.Placement.{Turn}
+use Rattle.layouts.specs.Unfold.{Piece, Waiting, State, search, Taken, highest, waitAt, wait, nextTurn, Step, placed, leftOver, idle, done, step}
+use Rattle.layouts.proofs.trees.Cuts.{IsCut, plateOf, cut-fits, top-number, right-number, number-kept}
+use Rattle.layouts.proofs.machine.MachineSteps.{piece}
+use Rattle.layouts.proofs.machine.Search.{found-cut}
+use Rattle.unfold_waiting.specs.Turns.{TurnTo}
+use Rattle.unfold_step.specs.Ready.{InBoard, InSlot, Within}
+use Rattle.unfold_step.proofs.Steps.{step-by}
+
+-- the residuals r of a plate at (x, y), from which an item is cut, end by (across, up)
+pub record Ends (x y across up : ℕ) (item : Item) (r : Residuals) : Type 0 where
+  pub top-across : x + r .top .width ≤ across
+  pub top-up : y + item .height + r .top .height ≤ up
+  pub right-across : x + item .width + r .right .width ≤ across
+  pub right-up : y + r .right .height ≤ up
+
+module _ (job : Job) (l : Listing) (m : Model job l) where
+  -- a cut c on the type of a piece that lies inside the board
+  module _ (c : ℕ) (is : IsCut l c) (p : Piece) (on : cutAt l c .plate ≡ p .plate) (i : InBoard job l p) where
+    abbrev item : Item
+    item = itemAt job (cutAt l c .item)
+
+    -- the piece ends inside the board by the sides of the cut's plate type, within which the item is
+    ends-across : p .x + plateOf l c .width ≤ job .width
+    ends-across = rw on (i .across)
+
+    ends-up : p .y + plateOf l c .height ≤ job .height
+    ends-up = rw on (i .up)
+
+    item-within : (item .width ≤ plateOf l c .width) × (item .height ≤ plateOf l c .height)
+    item-within = let p = may-cut (job .mode) item (plateOf l c) (cut-fits job l m c is .allowed) in (p .in-width, p .in-height)
+
+    -- the item lies inside the board
+    pub item-across : p .x + item .width ≤ job .width
+    item-across = omega (arith, ends-across, item-within .0)
+
+    pub item-up : p .y + item .height ≤ job .height
+    item-up = omega (arith, ends-up, item-within .1)
+
+    -- and so do its residuals
+    residuals-end : Ends (p .x) (p .y) (job .width) (job .height) item (leftBy job l (cutAt l c))
+    residuals-end =
+        let a = ends-across in
+        let b = ends-up in
+        let (u, v) = item-within in
+        leaves-by (job .mode) item (plateOf l c) (Ends (p .x) (p .y) (job .width) (job .height) item)
+        (λ _. record { top-across = omega arith; top-up = omega arith; right-across = omega arith; right-up = omega arith })
+        (λ _ _. record { top-across = omega arith; top-up = omega arith; right-across = omega arith; right-up = omega arith })
+        (λ _ _. record { top-across = omega arith; top-up = omega arith; right-across = omega arith; right-up = omega arith })
+        (λ _ _. record { top-across = omega arith; top-up = omega arith; right-across = omega arith; right-up = omega arith })
+
+    pub top-in : 0 < cutAt l c .top → InBoard job l (piece (cutAt l c .top) (p .x) (p .y + item .height))
+    top-in h =
+        let (k, j, e) = number-kept job l m (leftBy job l (cutAt l c) .top) (cutAt l c .top) (top-number job l m c is) h in
+        record { listed = j; across = rw e (residuals-end .top-across); up = rw e (residuals-end .top-up) }
+
+    pub right-in : 0 < cutAt l c .right → InBoard job l (piece (cutAt l c .right) (p .x + item .width) (p .y))
+    right-in h =
+        let (k, j, e) = number-kept job l m (leftBy job l (cutAt l c) .right) (cutAt l c .right) (right-number job l m c is) h in
+        record { listed = j; across = rw e (residuals-end .right-across); up = rw e (residuals-end .right-up) }
+
+  -- a residual that waits leaves the others where they are
+  waitAt-in : (s : ℕ) (p : Piece) (w : Waiting) → InBoard job l p → Within job l w → Within job l (waitAt s p w)
+  unfolding waitAt
+  waitAt-in s p w i h = go (eqb s 1) refl (eqb s 2) refl
+    where
+      go : (a : Bool) → eqb s 1 ≡ a → (b : Bool) → eqb s 2 ≡ b → Within job l (waitAt s p w)
+      go true e b f = rw (e, waitAt) (record { one = i; two = h .two; three = h .three })
+      go false e true f = rw (e, waitAt, f, waitAt) (record { one = h .one; two = i; three = h .three })
+      go false e false f = rw (e, waitAt, f, waitAt) (record { one = h .one; two = h .two; three = i })
+
+  wait-in : (j x y : ℕ) (w : Waiting) → (0 < j → InBoard job l (piece j x y)) → Within job l w → Within job l (wait l j x y w)
+  unfolding wait
+  wait-in zero x y w i h = h
+  wait-in (suc j) x y w i h = waitAt-in (plateAt l (suc j) .stage) (piece (suc j) x y) w (i (omega arith)) h
+
+  -- the piece taken lies inside the board, and so do those that wait on
+  abbrev TakenIn : Option Taken → Type 0
+  TakenIn none = Unit {0}
+  TakenIn (some t) = InBoard job l (t .piece) × Within job l (t .rest)
+
+  highest-in : (a b c : Option Piece) → InSlot job l a → InSlot job l b → InSlot job l c → TakenIn (highest (record { first = a; second = b; third = c }))
+  unfolding highest
+  highest-in a b (some p) x y z = (z, record { one = x; two = y; three = tt })
+  highest-in a (some p) none x y z = (y, record { one = x; two = tt; three = tt })
+  highest-in (some p) none none x y z = (x, record { one = tt; two = tt; three = tt })
+  highest-in none none none x y z = tt
+
+  pub taken-in : (w : Waiting) (t : Taken) → highest w ≡ some t → Within job l w → InBoard job l (t .piece) × Within job l (t .rest)
+  taken-in w t e h = rw e at (highest-in (w .first) (w .second) (w .third) (h .one) (h .two) (h .three))
+
+  -- the next turn is at most one step ahead
+  pub next-to : (n s : ℕ) (t : Turn) → TurnTo n t → TurnTo (suc n) (nextTurn s t)
+  unfolding nextTurn
+  next-to n s t h = go (eqb s 1) refl (eqb s 2) refl
+    where
+      go : (a : Bool) → eqb s 1 ≡ a → (b : Bool) → eqb s 2 ≡ b → TurnTo (suc n) (nextTurn s t)
+      go true e b f = rw (e, nextTurn) (record { board-to = omega arith; strip-to = omega arith; stack-to = omega arith; place-to = omega arith })
+      go false e true f = rw (e, nextTurn, f, nextTurn) (record { board-to = omega arith; strip-to = omega arith; stack-to = omega arith; place-to = omega arith })
+      go false e false f = rw (e, nextTurn, f, nextTurn) (record { board-to = omega arith; strip-to = omega arith; stack-to = omega arith; place-to = omega arith })
+
+  -- a state that a step leads to, after at most n others
+  pub record Kept (n : ℕ) (st′ : State) : Type 0 where
+    pub within : Within job l (st′ .waiting)
+    pub turns : TurnTo (suc n) (st′ .turn)
+
+  abbrev pub StepKeeps : ℕ → Step → Type 0
+  StepKeeps n (placed p st′) = Kept n st′
+  StepKeeps n (leftOver p st′) = Kept n st′
+  StepKeeps n idle = Unit {0}
+
+  module _ (n : ℕ) (st : State) (w : Within job l (st .waiting)) (t : TurnTo n (st .turn)) where
+    done-keeps : (u : Taken) → highest (st .waiting) ≡ some u → (k : ℕ) → search (u .piece .plate) 1 (l .cuts) (st .counts) ≡ some k → StepKeeps n (done job l st u k)
+    unfolding done
+    done-keeps u e k f =
+        let (i, r) = taken-in (st .waiting) u e w in
+        let (is, on) = found-cut l (u .piece .plate) (st .counts) k f in
+        let c = cutAt l k in
+        let item = itemAt job (c .item) in
+        let x = u .piece .x in
+        let y = u .piece .y in
+        record {
+          within = wait-in (c .top) x (y + item .height) (wait l (c .right) (x + item .width) y (u .rest)) (top-in k is (u .piece) on i) (wait-in (c .right) (x + item .width) y (u .rest) (right-in k is (u .piece) on i) r);
+          turns = next-to n (u .stage) (st .turn) t;
+        }
+
+    -- each step keeps the pieces inside the board
+    pub step-keeps : StepKeeps n (step job l st)
+    step-keeps =
+        step-by job l st (StepKeeps n) (λ _. tt)
+        (λ u e f. record { within = taken-in (st .waiting) u e w .1; turns = record { board-to = omega arith; strip-to = omega arith; stack-to = omega arith; place-to = omega arith } })
+        done-keeps

@@ -1,0 +1,88 @@
+-- `step` takes the piece of the highest stage, searches a cut for it, and does the cut or leaves the piece over.
+use mathlib.Core.Path.{sym, ap, _∙_}
+use native.Mathlib.Omega.{arith}
+use borrow.Author.Needs.{needs}
+use denote.Ref.{now}
+use Rattle.layouts.specs.Unfold.{taken, Step}
+use Rattle.layouts.specs.Demand3.{J, L}
+use Rattle.unfold_waiting.specs.Meaning.{pieceOf, waitingOf, foundMeans}
+use Rattle.unfold_waiting.proofs.CodeWaiting.{picked-none}
+use Rattle.unfold_step.specs.Meaning.{stateOf, countsAfter}
+use Rattle.unfold_step.proofs.CodeCut.{cuts-there}
+use Rattle.unfold_step.proofs.Steps.{step-idle, step-over}
+use Rattle.unfold_step.proofs.CodeStep.{picked-rest, rest-ready, found-cuttable, done-step, done-spends}
+use Rattle.unfold_step.proofs.state.State.step.Statement.{statement}
+use Rattle.unfold_step.proofs.state.State.step.Tie as tie
+
+returns : tie.Need-returns
+returns c =
+    let a = c .before .before .before .before .before .before .before .before .before .before .before .before .args in
+    let idles = step-idle (J (now (a .job))) (L (now (a .job))) (stateOf (a .self) (now (a .counts))) (picked-none (a .self .waiting) (sym (c .before .before .next-of .ensures) ∙ c .enum-told .given .1)) in (
+      sym idles,
+      (ap (λ (s : Step). countsAfter s (now (a .counts))) (sym idles), omega arith),
+    )
+
+find-cut-requires : tie.Need-find-cut-requires
+find-cut-requires c κs =
+    let s = c .before .before .before .before .before .before .before .before .before .before .before .before .before .before .before in
+    (cuts-there _ _ _ _ (s .pre .0), omega (arith, s .pre .0 .cuts-number, s .pre .1 .counted))
+
+returns-2 : tie.Need-returns-2
+returns-2 c =
+    let s = c .before .before .before .before .before .before .before .before .before .before .before .before .before .before .before .before .before .before in
+    let a = s .args in
+    let p = c .before .before .before .before .before .before .stage .given in
+    let lent = s .pre .0 in
+    let took = picked-rest (a .self .waiting) _ (p .0 .1 .0) (c .before .before .before .before .before .before .before .before .next-of .ensures) (p .1) (c .before .before .before .before .without .ensures) in
+    let over = step-over (J (now (a .job))) (L (now (a .job))) (stateOf (a .self) (now (a .counts))) _ took (sym (c .before .before .find-cut .ensures (L (now (a .job)) .cuts) (lent .cuts-number) (lent .cuts-held)) ∙ ap foundMeans (c .enum-told2 .given .1)) in (
+      sym over,
+      (ap (λ (s : Step). countsAfter s (now (a .counts))) (sym over), omega arith),
+    )
+
+cut-requires : tie.Need-cut-requires
+cut-requires c κs =
+    let s = c .before .before .before .before .before .before .before .before .before .before .before .before .before .before .before .before .before .before .before .before in
+    let a = s .args in
+    let p = c .before .before .before .before .before .before .before .before .stage .given in
+    let lent = s .pre .0 in
+    let job = J (now (a .job)) in
+    let l = L (now (a .job)) in
+    let st = stateOf (a .self) (now (a .counts)) in
+    let took = picked-rest (a .self .waiting) (p .0 .0) (p .0 .1 .0) (c .before .before .before .before .before .before .before .before .before .before .next-of .ensures) (p .1) (c .before .before .before .before .before .before .without .ensures) in
+    let t = taken (pieceOf (p .0 .1 .0)) (p .0 .0) (waitingOf (c .before .before .before .before .before .before .without .result)) in (
+      lent,
+      (rest-ready job l (lent .model) st t took (s .pre .1), found-cuttable job l (lent .model) st t took _ (sym (c .before .before .before .before .find-cut .ensures (l .cuts) (lent .cuts-number) (lent .cuts-held)) ∙ ap foundMeans (c .before .before .c .given .1)) (s .pre .1)),
+    )
+
+returns-3 : tie.Need-returns-3
+returns-3 c =
+    let s = c .before .before .before .before .before .before .before .before .before .before .before .before .before .before .before .before .before .before .before .before .before .before .before in
+    let a = s .args in
+    let p = c .before .before .before .before .before .before .before .before .before .before .before .stage .given in
+    let lent = s .pre .0 in
+    let l = L (now (a .job)) in
+    let took = picked-rest (a .self .waiting) (p .0 .0) (p .0 .1 .0) (c .before .before .before .before .before .before .before .before .before .before .before .before .before .next-of .ensures) (p .1) (c .before .before .before .before .before .before .before .before .before .without .ensures) in
+    let t = taken (pieceOf (p .0 .1 .0)) (p .0 .0) (waitingOf (c .before .before .before .before .before .before .before .before .before .without .result)) in
+    let found = sym (c .before .before .before .before .before .before .before .find-cut .ensures (l .cuts) (lent .cuts-number) (lent .cuts-held)) ∙ ap foundMeans (c .before .before .before .before .before .c .given .1) in
+    let does = done-step (J (now (a .job))) l (lent .model) (stateOf (a .self) (now (a .counts))) t took _ found in (
+      c .before .before .cut .ensures .0 ∙ does,
+      (c .before .before .cut .ensures .1 .0 ∙ done-spends (J (now (a .job))) l (stateOf (a .self) (now (a .counts))) t _ ∙ ap (λ (s : Step). countsAfter s (now (a .counts))) does, c .before .before .cut .ensures .1 .1),
+    )
+
+pub step-spec : {M : Type 1} → statement M
+step-spec =
+    tie.close
+    (tie.spec
+    (λ c κs. search needs)
+    (λ c. search needs)
+    (λ c. search needs)
+    returns
+    (λ c κs. search needs)
+    find-cut-requires
+    (λ c. search needs)
+    (λ c. search needs)
+    (λ c. search needs)
+    returns-2
+    cut-requires
+    (λ c. search needs)
+    returns-3)

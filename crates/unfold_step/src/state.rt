@@ -1,0 +1,150 @@
+// The state of an unfolding and its step: the piece of the highest stage is cut, or is left over.
+ghost use mathlib.Core.Path.{_≡_};
+ghost use mathlib.Core.List.{List};
+ghost use Prim.Native.Nat.{ℕ, _+_};
+ghost use Rattle.plan.specs.Plan.{boards};
+ghost use Rattle.layouts.specs.Placement.{turn};
+ghost use Rattle.layouts.specs.Unfold.{nothingWaits, spent, taken, done, step, openBoard};
+ghost use Rattle.layouts.specs.Demand3.{J, L};
+ghost use Rattle.unfold_waiting.specs.Meaning.{pieceOf, waitingOf, turnOf};
+ghost use Rattle.unfold_waiting.specs.Turns.{TurnTo, maxSteps};
+ghost use Rattle.unfold_step.specs.Meaning.{stateOf, stepMeans, stepSpends, countsAfter};
+ghost use Rattle.unfold_step.specs.Ready.{ModelLent, Cuttable, Ready};
+use job::counters::CutNumber;
+use job::counters::ItemType;
+use job::counters::PlateType;
+use job::words::item_at;
+use listing::cut::cut_at;
+use unfold_pick::Next;
+use unfold_pick::Piece;
+use unfold_pick::next_of;
+use unfold_waiting::search::Found;
+use unfold_waiting::search::find_cut;
+use unfold_waiting::search::spend;
+use unfold_waiting::turn::Turn;
+use unfold_waiting::waiting::Waiting;
+
+// The pieces that wait, and where the last item was placed. The counts that are left stand beside it.
+pub struct State {
+    pub waiting: Waiting,
+    pub turn: Turn,
+}
+
+// An item that is placed: where it comes in turn, the plate type that it is cut from, its type and its position.
+pub struct PlacedItem {
+    pub turn: Turn,
+    pub plate: PlateType,
+    pub item: ItemType,
+    pub x: u16,
+    pub y: u16,
+}
+
+// What a step does: an item is placed, a piece is left over, or nothing waits.
+pub enum Step {
+    Placed(PlacedItem, State),
+    LeftOver(Piece, State),
+    Idle,
+}
+
+impl State {
+    // Before the first board.
+    pub fn start() -> State
+        ensures { λ r. ⌜ ((ns : List ℕ) → stateOf r ns ≡ record { counts = ns; waiting = nothingWaits; turn = turn 0 0 0 0 }) ⌝ }
+    {
+        State {
+            waiting: Waiting::nothing(),
+            turn: Turn::none(),
+        }
+    }
+
+    // The next board waits.
+    pub fn open_board(self) -> State
+        requires { ⌜ TurnTo maxSteps (turnOf (self .turn)) ⌝ }
+        ensures { λ r. ⌜ ((ns : List ℕ) → stateOf r ns ≡ openBoard (stateOf self ns)) ⌝ }
+    {
+        let turn = self.turn;
+        State {
+            waiting: Waiting::board(),
+            turn: turn.next_board(),
+        }
+    }
+
+    // Cut c is done on the piece p, of a stage, which waits no more: the item lies in its lower left corner, and kept residuals wait.
+    fn cut(
+        self,
+        job: &[u16],
+        plates: &[u16],
+        cuts: &[u16],
+        k: CutNumber,
+        c: CutNumber,
+        counts: &mut [u16],
+        stage: u16,
+        p: Piece,
+    ) -> Step
+        requires { ⌜ ModelLent (now job) (now plates) (now cuts) (k .0) ⌝ }
+        requires { ⌜ Ready (J (now job)) (L (now job)) (stateOf self (now counts)) ⌝ }
+        requires { ⌜ Cuttable (J (now job)) (L (now job)) (now counts) (c .0) (pieceOf p) ⌝ }
+        ensures { λ r. ⌜ stepMeans r (now (counts .exit)) ≡ done (J (now (job .entry))) (L (now (job .entry))) (stateOf self (now (counts .entry))) (taken (pieceOf p) stage (waitingOf (self .waiting))) (c .0) ⌝ }
+        ensures { λ r. ⌜ now (counts .exit) ≡ spent (now (counts .entry)) (c .0) ⌝ }
+        ensures { λ r. ⌜ boards (L (now (job .entry))) (now (counts .entry)) ≡ stepSpends r + boards (L (now (job .entry))) (now (counts .exit)) ⌝ }
+    {
+        let waiting = self.waiting;
+        let turn = self.turn;
+        spend(counts, c);
+        let cut = cut_at(cuts, c);
+        let of = cut.item;
+        let top = cut.top;
+        let right = cut.right;
+        let item = item_at(job, of);
+        let here = turn.next(stage);
+        let beside = waiting.wait(plates, right, p.x + item.width, p.y);
+        let both = beside.wait(plates, top, p.x, p.y + item.height);
+        let plate = cut.plate;
+        Step::Placed(
+            PlacedItem {
+                turn: here,
+                plate,
+                item: of,
+                x: p.x,
+                y: p.y,
+            },
+            State {
+                waiting: both,
+                turn: here,
+            },
+        )
+    }
+
+    // One step: of the pieces that wait the one of the highest stage is cut, or is left over.
+    pub fn step(
+        self,
+        job: &[u16],
+        plates: &[u16],
+        cuts: &[u16],
+        k: CutNumber,
+        counts: &mut [u16],
+    ) -> Step
+        requires { ⌜ ModelLent (now job) (now plates) (now cuts) (k .0) ⌝ }
+        requires { ⌜ Ready (J (now job)) (L (now job)) (stateOf self (now counts)) ⌝ }
+        ensures { λ r. ⌜ stepMeans r (now (counts .exit)) ≡ step (J (now (job .entry))) (L (now (job .entry))) (stateOf self (now (counts .entry))) ⌝ }
+        ensures { λ r. ⌜ now (counts .exit) ≡ countsAfter (step (J (now (job .entry))) (L (now (job .entry))) (stateOf self (now (counts .entry)))) (now (counts .entry)) ⌝ }
+        ensures { λ r. ⌜ boards (L (now (job .entry))) (now (counts .entry)) ≡ stepSpends r + boards (L (now (job .entry))) (now (counts .exit)) ⌝ }
+    {
+        let waiting = self.waiting;
+        let turn = self.turn;
+        let one = waiting.first;
+        let two = waiting.second;
+        let three = waiting.third;
+        let Next::Of(stage, p) = next_of(one, two, three) else {
+            return Step::Idle;
+        };
+        let rest = State {
+            waiting: waiting.without(stage),
+            turn,
+        };
+        let Found::Cut(c) = find_cut(cuts, k, counts, p.plate) else {
+            return Step::LeftOver(p, rest);
+        };
+        rest.cut(job, plates, cuts, k, c, counts, stage, p)
+    }
+}

@@ -1,0 +1,191 @@
+//! Theorems below the calls: the walk within small limits, sets of layouts and their rules,
+//! rectangles, and whether a plan is the fewest.
+
+use crate::antt::{list, numbers, outcome, words, Equation};
+use crate::Theorem;
+use inputs::layouts::{grow_anywhere, random_set, words_of_lines};
+use inputs::prices::random_prices;
+use inputs::{Model, Random};
+use reference::layout::{keeps_rules, placements};
+use reference::listing::Limits;
+use reference::plan::ensure_demands;
+use reference::{Board, Job, Listing, Placement, Prices};
+use std::collections::HashSet;
+
+/// A theorem over the walk within limits about the size of the listing, refused 6 or 7 or not.
+pub fn walk_theorem(random: &mut Random) -> Theorem {
+    let model = Model::random(random);
+    let [plates, cuts] = [model.listing.plates.len(), model.listing.cuts.len()];
+    let about = |random: &mut Random, size: usize| match random.below(3) {
+        0 => random.below(size + 1),
+        more => size + more - 1,
+    };
+    let limits = Limits {
+        plate_types: about(random, plates).max(1),
+        cuts: about(random, cuts),
+    };
+    let walked = Listing::walk(&model.job, limits);
+    let lent = match &walked {
+        Ok(listing) => [listing.plate_words(), listing.cut_words()],
+        Err(_) => [Vec::new(), Vec::new()],
+    };
+    let sizes = |listing: Listing| [listing.residual_types(), listing.cuts.len()];
+    let answer = walked.map(|listing| sizes(listing).map(|size| size as u32).to_vec());
+    let [plate_types, cuts] = [limits.plate_types, limits.cuts].map(|limit| limit.to_string());
+    Theorem {
+        equation: Equation {
+            definition: "walkCall",
+            arguments: vec![plate_types, cuts, words(&model.words)],
+            answer: outcome(&answer, &lent),
+        },
+        refusal: answer.err().map(|refusal| refusal.number),
+    }
+}
+
+/// A theorem over a set of layouts: whether it keeps the rules, meets the demands, lies inside
+/// its boards and without overlap; and its lines.
+pub fn set_theorem(random: &mut Random) -> Theorem {
+    let model = Model::random(random);
+    let set = set_or_broken(random, &model.job);
+    let lines = placements(&model.job, &set);
+    let mut laid = vec![0; model.job.items.len() + 1];
+    for line in &lines {
+        laid[usize::from(line.item)] += 1;
+    }
+    let holds = [
+        set.iter().all(|board| keeps_rules(&model.job, board)),
+        ensure_demands(&model.job, &laid).is_ok(),
+        is_inside(&model.job, &lines),
+        is_without_overlap(&model.job, &lines),
+    ];
+    Theorem {
+        equation: Equation {
+            definition: "judged",
+            arguments: vec![words(&model.words), set_of(&set)],
+            answer: vec![
+                format!("judgement {}", list(holds.map(|held| held.to_string()))),
+                words(&words_of_lines(&lines)),
+            ],
+        },
+        refusal: None,
+    }
+}
+
+/// A theorem over the rules alone, of a set that may have an empty list or a type that the job
+/// has not.
+pub fn rules_theorem(random: &mut Random) -> Theorem {
+    let model = Model::random(random);
+    let mut set = set_or_broken(random, &model.job);
+    let board = random.below(set.len());
+    let strip = random.below(set[board].len());
+    let types = model.job.items.len() as u16;
+    match random.below(10) {
+        0 => set.push(Board::new()),
+        1 => set[board].push(Vec::new()),
+        2 => set[board][strip].push(Vec::new()),
+        3 => set[board][strip][0][0] = random.pick(&[0, types + 1]),
+        4 => set.clear(),
+        _ => {}
+    }
+    let kept = set.iter().all(|board| keeps_rules(&model.job, board));
+    Theorem {
+        equation: Equation {
+            definition: "rules",
+            arguments: vec![words(&model.words), set_of(&set)],
+            answer: vec![kept.to_string()],
+        },
+        refusal: None,
+    }
+}
+
+/// A theorem over rectangles: those of a set, of which one may be moved, to another board too.
+pub fn rectangle_theorem(random: &mut Random) -> Theorem {
+    let model = Model::random(random);
+    let set = random_set(random, &model.job);
+    let mut lines = placements(&model.job, &set);
+    let moved = random.below(lines.len());
+    let line = &mut lines[moved];
+    match random.below(5) {
+        0 => line.x += 1,
+        1 => line.y += 1,
+        2 => line.x = line.x.saturating_sub(1),
+        3 => line.y = line.y.saturating_sub(1),
+        _ => line.board = random.between(1, 2),
+    }
+    let holds = [
+        is_inside(&model.job, &lines),
+        is_without_overlap(&model.job, &lines),
+    ];
+    Theorem {
+        equation: Equation {
+            definition: "rectangles",
+            arguments: vec![words(&model.words), words(&words_of_lines(&lines))],
+            answer: vec![list(holds.map(|held| held.to_string()))],
+        },
+        refusal: None,
+    }
+}
+
+/// A theorem over "fewest": of accepted prices and a number of boards about their bound.
+pub fn fewest_theorem(random: &mut Random) -> Theorem {
+    let model = Model::random(random);
+    let price_words = random_prices(random, &model);
+    let prices = Prices::from_words(&price_words, &model.job, &model.listing);
+    let bound = prices.and_then(|prices| prices.test(&model.job, &model.listing));
+    let bound = bound.expect("the prices are accepted");
+    let boards = bound.sum / bound.d + random.below(3) as u32;
+    Theorem {
+        equation: Equation {
+            definition: "isFewest",
+            arguments: vec![words(&model.words), words(&price_words), boards.to_string()],
+            answer: vec![bound.is_fewest(boards).to_string()],
+        },
+        refusal: None,
+    }
+}
+
+/// A set that keeps the rules and meets the demands, or one without its first board, or one in
+/// which items are put anywhere.
+fn set_or_broken(random: &mut Random, job: &Job) -> Vec<Board> {
+    let mut set = random_set(random, job);
+    if random.once_in(4) && set.len() > 1 {
+        set.remove(0);
+    }
+    if random.once_in(2) {
+        for _ in 0..=random.below(3) {
+            grow_anywhere(random, job, &mut set);
+        }
+    }
+    set
+}
+
+/// The square millimetres that items cover, by board; one that two of them cover stands twice.
+fn cells(job: &Job, lines: &[Placement]) -> Vec<[u16; 3]> {
+    let mut cells = Vec::new();
+    for line in lines {
+        let item = job.item(line.item);
+        for x in line.x..line.x + item.width {
+            cells.extend((line.y..line.y + item.height).map(|y| [line.board, x, y]));
+        }
+    }
+    cells
+}
+
+/// Whether only the boards are covered.
+fn is_inside(job: &Job, lines: &[Placement]) -> bool {
+    let inside = |&[_, x, y]: &[u16; 3]| x < job.width && y < job.height;
+    cells(job, lines).iter().all(inside)
+}
+
+/// Whether no square millimetre is covered twice.
+fn is_without_overlap(job: &Job, lines: &[Placement]) -> bool {
+    let mut covered = HashSet::new();
+    let mut cells = cells(job, lines).into_iter();
+    cells.all(|cell| covered.insert(cell))
+}
+
+/// A set as a list of lists of lists of lists.
+fn set_of(set: &[Board]) -> String {
+    let strip = |strip: &reference::Strip| list(strip.iter().map(numbers));
+    list(set.iter().map(|board| list(board.iter().map(strip))))
+}

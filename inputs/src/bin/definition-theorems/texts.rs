@@ -1,0 +1,60 @@
+//! Theorems over the saw text and the fold text: bytes in, bytes out.
+
+use crate::antt::{bytes, Equation};
+use crate::{is_small_job, Theorem};
+use inputs::lines::{fold_lines, saw_lines, text_of, Line};
+use inputs::text::refusal_in;
+use inputs::{Model, Random};
+use reference::text_lines::Lines;
+use reference::{fold_text, saw_text};
+
+/// The most lines that the definitions are asked to read or to write.
+const MOST_LINES: usize = 25;
+
+/// A theorem over a saw text.
+pub fn saw_theorem(random: &mut Random) -> Theorem {
+    theorem(random, "sawText", saw_lines, saw_text)
+}
+
+/// A theorem over a fold text.
+pub fn fold_theorem(random: &mut Random) -> Theorem {
+    theorem(random, "foldText", fold_lines, fold_text)
+}
+
+/// A theorem over a text of some lines, which a program answers; a good half is not damaged.
+fn theorem(
+    random: &mut Random,
+    definition: &'static str,
+    lines: fn(&mut Random, &Model) -> Vec<Line>,
+    program: fn(&[u8]) -> Vec<u8>,
+) -> Theorem {
+    loop {
+        let model = Model::random(random);
+        let lines = lines(random, &model);
+        let damages = random.pick(&[0, 0, 0, 0, 0, 1, 1, 1, 2]);
+        let text = text_of(random, lines, model.job.items.len(), damages);
+        let output = program(&text);
+        if !is_small_text(&text) || !is_short(&text) || !is_short(&output) {
+            continue;
+        }
+        return Theorem {
+            equation: Equation {
+                definition,
+                arguments: vec![bytes(&text)],
+                answer: vec![bytes(&output)],
+            },
+            refusal: refusal_in(&output),
+        };
+    }
+}
+
+/// Whether the text is of few lines.
+fn is_short(text: &[u8]) -> bool {
+    text.iter().filter(|&&byte| byte == b'\n').count() <= MOST_LINES
+}
+
+/// Whether the job that the text begins with, if there is one, has a small listing.
+fn is_small_text(text: &[u8]) -> bool {
+    let job = Lines::new(text).job();
+    job.map_or(true, |job| is_small_job(&job))
+}

@@ -1,0 +1,64 @@
+//! Sets of layouts from the layout rules, and broken ones.
+
+use crate::missing::Missing;
+use crate::random::Random;
+use reference::layout::{keeps_rules, placements};
+use reference::{Board, Job, Placement};
+
+/// A set of layouts that keeps the rules and meets the demands.
+pub fn random_set(random: &mut Random, job: &Job) -> Vec<Board> {
+    let mut missing = Missing::of(job);
+    let mut set = Vec::new();
+    while !missing.is_none() || random.once_in(6) {
+        let item = missing.pick(random);
+        missing.take(item);
+        let mut board = vec![vec![vec![item]]];
+        for _ in 0..random.below(24) {
+            let item = missing.pick(random);
+            let mut grown = board.clone();
+            grow(random, &mut grown, item);
+            if keeps_rules(job, &grown) {
+                board = grown;
+                missing.take(item);
+            }
+        }
+        set.push(board);
+    }
+    set
+}
+
+/// Puts an item into a stack, or as a stack into a strip, or as a strip on the board.
+fn grow(random: &mut Random, board: &mut Board, item: u16) {
+    let which = random.below(board.len());
+    let strip = &mut board[which];
+    match random.below(4) {
+        0 | 1 => {
+            let which = random.below(strip.len());
+            let stack = &mut strip[which];
+            stack.insert(random.below(stack.len() + 1), item);
+        }
+        2 => strip.insert(random.below(strip.len() + 1), vec![item]),
+        _ => board.insert(random.below(board.len() + 1), vec![vec![item]]),
+    }
+}
+
+/// The layout words of a set; in a broken one an item more is put anywhere.
+pub fn random_layouts(random: &mut Random, job: &Job, broken: bool) -> Vec<u16> {
+    let mut set = random_set(random, job);
+    if broken {
+        grow_anywhere(random, job, &mut set);
+    }
+    words_of_lines(&placements(job, &set))
+}
+
+/// Puts an item of any type into any board of a set, whatever the rules are.
+pub fn grow_anywhere(random: &mut Random, job: &Job, set: &mut [Board]) {
+    let board = random.below(set.len());
+    let item = random.between(1, job.items.len() as u16);
+    grow(random, &mut set[board], item);
+}
+
+/// Layout words of lines.
+pub fn words_of_lines(lines: &[Placement]) -> Vec<u16> {
+    lines.iter().flat_map(Placement::words).collect()
+}

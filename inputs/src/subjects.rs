@@ -1,0 +1,114 @@
+//! What a call is about: a small random job, or a job of `data/`, which is a published instance or
+//! lies at a limit of document 01 or one past it.
+
+use crate::layouts::random_layouts;
+use crate::model::Model;
+use crate::plans::random_plan;
+use crate::prices::random_prices;
+use crate::random::Random;
+use reference::instances::inputs::Inputs;
+use reference::instances::limit_jobs::limit_jobs;
+use reference::instances::{jobs, NamedJob};
+
+pub enum Subject {
+    /// A small job, with its listing.
+    Small(Model),
+    /// The words of a job of `data/`, with a plan, prices and layouts unless its listing is refused.
+    Known(Vec<u16>, Option<Inputs>),
+}
+
+impl Subject {
+    pub fn small(random: &mut Random) -> Subject {
+        Subject::Small(Model::random(random))
+    }
+
+    fn known(job: NamedJob) -> Subject {
+        let inputs = Inputs::of(&job.words).ok();
+        Subject::Known(job.words, inputs)
+    }
+
+    /// The job's words.
+    pub fn job(&self) -> &[u16] {
+        match self {
+            Subject::Small(model) => &model.words,
+            Subject::Known(words, _) => words,
+        }
+    }
+
+    /// The counts of an accepted plan; any if the listing is refused.
+    pub fn counts(&self, random: &mut Random) -> Vec<u16> {
+        match self {
+            Subject::Small(model) if random.once_in(8) => single_items(model),
+            Subject::Small(model) => random_plan(random, model),
+            Subject::Known(_, Some(inputs)) => inputs.counts.clone(),
+            Subject::Known(_, None) => vec![1; random.below(3)],
+        }
+    }
+
+    /// The words of accepted prices; any if the listing is refused.
+    pub fn prices(&self, random: &mut Random) -> Vec<u16> {
+        match self {
+            Subject::Small(model) => random_prices(random, model),
+            Subject::Known(_, Some(inputs)) => inputs.prices.clone(),
+            Subject::Known(_, None) => vec![1; random.below(60)],
+        }
+    }
+
+    /// The words of layouts that keep the rules and meet the demands; broken ones have an item more
+    /// anywhere. Any if the listing is refused.
+    pub fn layouts(&self, random: &mut Random, broken: bool) -> Vec<u16> {
+        match self {
+            Subject::Small(model) => random_layouts(random, &model.job, broken),
+            Subject::Known(_, Some(inputs)) => inputs.layouts.clone(),
+            Subject::Known(_, None) => vec![1; 7 * random.below(3)],
+        }
+    }
+}
+
+/// The counts that cut each item from a board of its own.
+fn single_items(model: &Model) -> Vec<u16> {
+    let mut counts = vec![0; model.listing.cuts.len()];
+    for index in model.listing.cuts_on(0) {
+        let item = model.listing.cuts[index].item;
+        counts[index] = model.job.item(item).demand;
+    }
+    counts
+}
+
+/// The jobs of `data/`, published ones and those at the limits.
+pub struct Known {
+    published: Vec<Subject>,
+    limits: Vec<Subject>,
+}
+
+impl Known {
+    /// All that there are.
+    pub fn of_data() -> Known {
+        let limits = limit_jobs().into_iter().map(|limit| limit.job);
+        Known {
+            published: jobs().into_iter().map(Subject::known).collect(),
+            limits: limits.map(Subject::known).collect(),
+        }
+    }
+
+    /// How many there are.
+    pub fn count(&self) -> usize {
+        self.limits.len() + self.published.len()
+    }
+
+    /// The one of a number, the limits first.
+    pub fn get(&self, number: usize) -> Option<&Subject> {
+        self.limits.iter().chain(&self.published).nth(number)
+    }
+
+    /// Now and then some job; those at the limits, which take longer, are rare.
+    pub fn pick(&self, random: &mut Random) -> Option<&Subject> {
+        if random.once_in(400) {
+            Some(&self.limits[random.below(self.limits.len())])
+        } else if random.once_in(25) {
+            Some(&self.published[random.below(self.published.len())])
+        } else {
+            None
+        }
+    }
+}

@@ -1,0 +1,144 @@
+//! What is generated: the same for the same seed, accepted by the reference where it is valid, and
+//! changed where it is damaged.
+
+use inputs::damage::{damage_job, damage_words, Words};
+use inputs::layouts::random_layouts;
+use inputs::lines::{fold_lines, saw_lines, text_of};
+use inputs::longest::{line_of, longest};
+use inputs::plans::random_plan;
+use inputs::prices::random_prices;
+use inputs::text::refusal_in;
+use inputs::{Model, Random, Text};
+use reference::buffers::{COUNTS, CUTS, PLATES};
+
+/// A text of a small job, damaged so many times.
+fn text(random: &mut Random, kind: Text, damages: usize) -> Vec<u8> {
+    let model = Model::random(random);
+    let lines = match kind {
+        Text::Saw => saw_lines(random, &model),
+        Text::Fold => fold_lines(random, &model),
+    };
+    text_of(random, lines, model.job.items.len(), damages)
+}
+
+/// A checksum of bytes (FNV-1a).
+fn checksum(bytes: &[u8]) -> u64 {
+    let step = |sum: u64, &byte: &u8| (sum ^ u64::from(byte)).wrapping_mul(0x100_0000_01B3);
+    bytes.iter().fold(0xCBF2_9CE4_8422_2325, step)
+}
+
+#[test]
+fn a_seed_gives_these_numbers() {
+    for (seed, numbers) in [
+        (1, [330, 33, 419, 456, 976, 281, 542, 63]),
+        (2, [959, 280, 659, 817, 614, 486, 372, 664]),
+    ] {
+        let mut random = Random::new(seed);
+        assert_eq!([0; 8].map(|_| random.below(1_000)), numbers, "seed {seed}");
+    }
+}
+
+#[test]
+fn a_seed_gives_these_texts() {
+    let sums = Text::BOTH.map(|kind| {
+        let mut random = Random::new(1);
+        let texts = (0..500).flat_map(|number| text(&mut random, kind, number % 4));
+        checksum(&texts.collect::<Vec<u8>>())
+    });
+    assert_eq!(sums, [0xA200_DE2B_D351_AE19, 0xDC5C_F452_90E2_0F0E]);
+}
+
+#[test]
+fn valid_words_are_accepted() {
+    let mut random = Random::new(2);
+    let [mut plates, mut cuts, mut counts] =
+        [PLATES, CUTS, COUNTS].map(|kind| vec![0; kind.full_size]);
+    for _ in 0..300 {
+        let model = Model::random(&mut random);
+        let job = &model.words;
+        let mut plan = random_plan(&mut random, &model);
+        plan.resize(COUNTS.full_size, 0);
+        let boards = reference::test_plan(job, &plan, &mut plates, &mut cuts);
+        assert!(boards.is_ok(), "{boards:?}: {job:?}");
+        let prices = random_prices(&mut random, &model);
+        let bound = reference::test_prices(job, &prices, &mut plates, &mut cuts);
+        assert!(bound.is_ok(), "{bound:?}: {job:?}, {prices:?}");
+        let layouts = random_layouts(&mut random, &model.job, false);
+        let boards = reference::fold(job, &layouts, &mut plates, &mut cuts, &mut counts);
+        assert!(boards.is_ok(), "{boards:?}: {job:?}, {layouts:?}");
+    }
+}
+
+#[test]
+fn undamaged_texts_are_accepted_or_break_a_rule() {
+    let mut random = Random::new(3);
+    for kind in Text::BOTH {
+        let broken: &[u32] = match kind {
+            Text::Saw => &[2, 13, 14],
+            Text::Fold => &[16, 17],
+        };
+        let mut accepted = 0;
+        for _ in 0..1_000 {
+            let text = text(&mut random, kind, 0);
+            match refusal_in(&kind.answer(&text)) {
+                None => accepted += 1,
+                Some(number) => assert!(broken.contains(&number), "{number}"),
+            }
+        }
+        assert!((600..1_000).contains(&accepted), "{accepted}");
+    }
+}
+
+#[test]
+fn damaged_texts_differ() {
+    for kind in Text::BOTH {
+        let damaged = |damages| {
+            let mut differ = 0;
+            for seed in 0..1_000 {
+                let [whole, text] =
+                    [0, damages].map(|damages| text(&mut Random::new(seed), kind, damages));
+                differ += usize::from(text != whole);
+            }
+            differ
+        };
+        let [none, one, three] = [0, 1, 3].map(damaged);
+        assert_eq!(none, 0);
+        assert!(one > 900 && three > one, "{one}, {three}");
+    }
+}
+
+#[test]
+fn damaged_words_differ() {
+    let mut random = Random::new(4);
+    let mut differ = [0; 4];
+    for _ in 0..1_000 {
+        let model = Model::random(&mut random);
+        let whole = [
+            model.words.clone(),
+            random_plan(&mut random, &model),
+            random_prices(&mut random, &model),
+            random_layouts(&mut random, &model.job, false),
+        ];
+        let mut damaged = whole.clone();
+        damage_job(&mut random, &mut damaged[0]);
+        damage_words(&mut random, &mut damaged[1], Words::Counts);
+        damage_words(&mut random, &mut damaged[2], Words::Prices);
+        damage_words(&mut random, &mut damaged[3], Words::Layouts);
+        for (differ, (damaged, whole)) in differ.iter_mut().zip(damaged.iter().zip(&whole)) {
+            *differ += usize::from(damaged != whole);
+        }
+    }
+    assert!(differ.iter().all(|&differ| differ > 800), "{differ:?}");
+}
+
+#[test]
+fn no_line_of_the_longest_texts_is_refused_and_the_next_one_is() {
+    for (kind, length) in Text::BOTH.into_iter().zip([3_700_341, 7_299_882]) {
+        let mut text = longest(kind);
+        assert_eq!(text.len(), length);
+        let refusal = refusal_in(&kind.answer(&text)).expect("the lines are all the same");
+        assert!(refusal > 2, "{refusal}");
+        text.extend(line_of(kind));
+        assert_eq!(kind.answer(&text), b"        9        1   100000\n");
+    }
+}
