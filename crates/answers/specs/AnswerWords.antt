@@ -20,6 +20,10 @@ abbrev pub answerWords : Answer → List ℕ
 answerWords (given results) = 0 ∷ getD results 0 0 ∷ getD results 1 0 ∷ []
 answerWords (refused number place) = number ∷ placeWord place ∷ 0 ∷ []
 
--- what is promised of the two values where the refusal number is 0
+-- the words say that the call accepts: the refusal number is 0
+abbrev pub WordsAccept : List ℕ → Type 0
+WordsAccept words = getD words 0 0 ≡ 0
+
+-- what is promised of the two values where they say so
 abbrev pub WhereAccepted : List ℕ → (ℕ → ℕ → Type 0) → Type 0
-WhereAccepted words promise = getD words 0 0 ≡ 0 → promise (getD words 1 0) (getD words 2 0)
+WhereAccepted words promise = WordsAccept words → promise (getD words 1 0) (getD words 2 0)

@@ -1,4 +1,4 @@
--- The proofs of this crate's tables, by computation.
+-- The proofs of this crate's tables, by computation, and of the order of the rows for every input.
 pub mod Opened
 pub mod Table
 pub mod Output
@@ -6,3 +6,14 @@ pub mod Example
 pub mod Readings
 pub mod Refusals
 pub mod TextRefusals
+pub mod Limits
+pub mod FullSizes
+pub mod TextLimits
+pub mod RowOrder
+pub mod Faults
+pub mod TextFaults
+pub mod Leavings
+pub mod UnfoldOrder
+pub mod FoldOrder
+pub mod Tests
+pub mod Hypotheses

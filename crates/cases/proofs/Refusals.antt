@@ -16,7 +16,6 @@ refusals =
       job-many-types = refl;
       job-stages = refl;
       job-exact = refl;
-      job-board = refl;
       job-type = refl;
       type-before-size = refl;
       large-item = refl;

@@ -1,4 +1,4 @@
--- The statements of this crate: document 01's cases as tables, and the inputs that they speak of.
+-- The statements of this crate: document 01's cases as tables, further cases and laws that pin its limits, sizes, numbers, places and orders, and the inputs that they speak of.
 pub mod Bytes
 pub mod Calls
 pub mod Jobs
@@ -9,3 +9,14 @@ pub mod Example
 pub mod Readings
 pub mod Refusals
 pub mod TextRefusals
+pub mod Limits
+pub mod FullSizes
+pub mod TextLimits
+pub mod RowOrder
+pub mod Faults
+pub mod TextFaults
+pub mod Leavings
+pub mod UnfoldOrder
+pub mod FoldOrder
+pub mod Tests
+pub mod Hypotheses

@@ -7,8 +7,8 @@ use Prim.Native.Nat.{ℕ, suc, _+_, _≤_}
 use native.Mathlib.Omega.{arith}
 use lib.Dec.{ltb, eqb}
 use lib.ListN.{length, getD, drop}
-use Rattle.job.specs.Sizes.{maxPieces, jobSize}
-use Rattle.job.specs.Verdict.{Verdict, pass, refuse, _then_, refuseIf, lowest}
+use Rattle.job.specs.Sizes.{maxPieces, maxPrice, jobSize}
+use Rattle.job.specs.Verdict.{Verdict, pass, refuse, _then_, refuseIf, within, lowest}
 use Rattle.job.specs.Buffers.{sized}
 use Rattle.job.specs.Job.{Job, jobOf, jobWords, admission, boardRight, itemRight, demanded}
 use Rattle.job.proofs.CodeEnds.{refused-not}
@@ -83,7 +83,11 @@ plan-above job l ns =
 
 pub price-words-above : (ws : List ℕ) → Above (priceWords ws)
 unfolding priceWords
-price-words-above ws = above-lowest 2 _ 1 ws (omega arith)
+price-words-above [] = above-pass
+price-words-above (d ∷ prices) =
+    let out = not (within 1 maxPrice d) in
+    let high = lowest 2 (λ _ price. ltb maxPrice price) 2 prices in
+    above-then (refuseIf out 2 1) high (above-if out 2 1 (omega arith)) (above-lowest 2 _ 2 prices (omega arith))
 
 pub prices-above : (job : Job) (l : Listing) (ws : List ℕ) (ps : Prices) → Above (pricesSized job l ws then pricesRow l ps)
 unfolding pricesSized pricesRow

@@ -1,45 +1,96 @@
--- What a call promises of an answer whose refusal number is 0.
-use mathlib.Core.Path.{_≡_, ap}
+-- What a refusal number of 0 says: which calls have it exactly where they accept, and what it promises.
+use mathlib.Core.Path.{_≡_, refl, ap}
+use mathlib.Core.Logic.{_↔_}
 use mathlib.Core.List.{List, [], _∷_}
 use Prim.Native.Nat.{ℕ}
 use native.Mathlib.Omega.{arith}
 use lib.ListN.{getD}
 use Rattle.job.specs.Sizes.{platesSize, cutsSize, countsSize, placementsSize}
-use Rattle.job.specs.Verdict.{Verdict}
+use Rattle.job.specs.Verdict.{Verdict, pass, refuse}
 use Rattle.job.specs.Buffers.{given, refused, answer, sized}
 use Rattle.job.specs.Job.{jobOf, jobWords, admission}
+use Rattle.job.proofs.CodeEnds.{refused-not, refused-refuse}
+use Rattle.job.proofs.Decides.{Passes}
 use Rattle.listing.specs.Listing.{modelRow, listingOf}
+use Rattle.listing.specs.ListCall.{listVerdict, listAnswer}
 use Rattle.plan.specs.Prices.{pricesOf, priceWords}
+use Rattle.plan.specs.PlanCall.{planVerdict, planAnswer}
 use Rattle.plan.specs.PriceCall.{priceVerdict, priceAnswer}
+use Rattle.plan.specs.Exactly.{PlanRight, PricesRight}
+use Rattle.plan.proofs.AcceptsExactly.{accepts-exactly}
 use Rattle.layouts.specs.Lines.{rowsOf, layoutWords}
 use Rattle.layouts.specs.FoldCall.{foldVerdict, foldAnswer}
 use Rattle.layouts.specs.UnfoldCall.{unfoldVerdict, unfoldAnswer}
+use Rattle.layouts.specs.Promises.{PricePromise}
 use Rattle.price_test.specs.declared.prices.PriceAnswer.{PriceAnswer}
 use Rattle.price_test.specs.declared.prices.PriceAnswer.the-variants.{Accepted}
-use Rattle.price_test.specs.PriceBound.{Bounds, OnAccepted}
-use Rattle.plan_test.proofs.CodeCall.{refused-refuse}
+use Rattle.price_test.specs.PriceSays.{OnAccepted}
 use Rattle.unfold_call.specs.declared.call.Unfolded.{Unfolded}
 use Rattle.unfold_call.specs.declared.call.Unfolded.the-variants.{Done}
 use Rattle.unfold_call.specs.UnfoldSays.{OnSuccess}
 use Rattle.fold_call.specs.declared.call.FoldAnswer.{FoldAnswer}
 use Rattle.fold_call.specs.declared.call.FoldAnswer.the-variants.{Folded}
 use Rattle.fold_call.specs.FoldSays.{OnSuccess as OnFolded}
-use Rattle.answers.specs.AnswerWords.{answerWords, WhereAccepted}
+use Rattle.answers.specs.AnswerWords.{answerWords, WordsAccept, WhereAccepted}
 use Rattle.engine.proofs.Numbers.{Above, above-then, words-above, admission-above, sized-above, model-above, plan-above, price-words-above, prices-above}
 use Rattle.engine.proofs.LayoutNumbers.{layout-words-above, layouts-above}
 
--- a refusal promises nothing, since its number is above 0
+-- a refusal accepts nothing, since its number is above 0
 none-refused :
     (v : Verdict) (results words : List ℕ) {number place : ℕ}
     → Above v
     → refused number place ≡ answer v results
     → words ≡ answerWords (refused number place)
-    → (promise : ℕ → ℕ → Type 0)
-    → WhereAccepted words promise
-none-refused v results words {number} {place} a e w promise zero =
+    → WordsAccept words
+    → ⊥
+none-refused v results words {number} {place} a e w zero =
     let h = a .above number place (refused-refuse v results e) in
     let same : getD words 0 0 ≡ number = ap (λ (l : List ℕ). getD l 0 0) w in
-    absurd (omega arith)
+    omega arith
+
+-- the number is 0 exactly where the verdict passes
+zero-accepts : {P : Type 0} (v : Verdict) (results words : List ℕ) → Above v → words ≡ answerWords (answer v results) → Passes v P → WordsAccept words ↔ P
+zero-accepts pass results words a w p = (λ zero. p .0 refl, λ h. rw w)
+zero-accepts (refuse number place) results words a w p = (
+  λ zero.
+      let h = a .above number place refl in
+      let same : getD words 0 0 ≡ number = ap (λ (l : List ℕ). getD l 0 0) w in
+      absurd (omega arith),
+  λ h. absurd (refused-not (p .1 h)),
+)
+
+module _ (ws plates cuts : List ℕ) where
+  list-above : Above (listVerdict ws plates cuts)
+  unfolding listVerdict
+  list-above =
+      above-then (jobWords ws) _ (words-above ws)
+      (above-then (admission (jobOf ws)) _ (admission-above (jobOf ws))
+      (above-then (sized 1 platesSize plates) _ (sized-above 1 platesSize plates)
+      (above-then (sized 2 cutsSize cuts) _ (sized-above 2 cutsSize cuts)
+      (model-above (jobOf ws)))))
+
+  -- where the listing refuses, no more is promised
+  pub list-refused : (words : List ℕ) {number place : ℕ} → refused number place ≡ listAnswer ws plates cuts → words ≡ answerWords (refused number place) → WordsAccept words → ⊥
+  unfolding listAnswer
+  list-refused words e w = none-refused (listVerdict ws plates cuts) _ words list-above e w
+
+module _ (ws counts plates cuts : List ℕ) where
+  test-above : Above (planVerdict ws counts plates cuts)
+  unfolding planVerdict
+  test-above =
+      above-then (jobWords ws) _ (words-above ws)
+      (above-then (admission (jobOf ws)) _ (admission-above (jobOf ws))
+      (above-then (sized 1 platesSize plates) _ (sized-above 1 platesSize plates)
+      (above-then (sized 2 cutsSize cuts) _ (sized-above 2 cutsSize cuts)
+      (above-then (sized 3 countsSize counts) _ (sized-above 3 countsSize counts)
+      (above-then (modelRow (jobOf ws)) _ (model-above (jobOf ws))
+      (plan-above (jobOf ws) (listingOf (jobOf ws)) counts))))))
+
+  -- the plan test accepts exactly what is right
+  pub plan-exactly : (words : List ℕ) → words ≡ answerWords (planAnswer ws counts plates cuts) → WordsAccept words ↔ PlanRight ws counts plates cuts
+  unfolding planAnswer
+  plan-exactly words w =
+      zero-accepts (planVerdict ws counts plates cuts) _ words test-above w (accepts-exactly .plans ws counts plates cuts)
 
 module _ (ws prices plates cuts : List ℕ) where
   price-above : Above (priceVerdict ws prices plates cuts)
@@ -53,13 +104,19 @@ module _ (ws prices plates cuts : List ℕ) where
       (above-then (modelRow (jobOf ws)) _ (model-above (jobOf ws))
       (prices-above (jobOf ws) (listingOf (jobOf ws)) prices (pricesOf (jobOf ws) prices)))))))
 
-  -- the price test's promise, where it refuses
-  pub price-refused : (words : List ℕ) {number place : ℕ} → refused number place ≡ priceAnswer ws prices plates cuts → words ≡ answerWords (refused number place) → WhereAccepted words (Bounds ws)
+  -- the price test accepts exactly what is right
+  pub prices-exactly : (words : List ℕ) → words ≡ answerWords (priceAnswer ws prices plates cuts) → WordsAccept words ↔ PricesRight ws prices plates cuts
   unfolding priceAnswer
-  price-refused words e w = none-refused (priceVerdict ws prices plates cuts) _ words price-above e w (Bounds ws)
+  prices-exactly words w =
+      zero-accepts (priceVerdict ws prices plates cuts) _ words price-above w (accepts-exactly .prices ws prices plates cuts)
+
+  -- and where it refuses, no more is promised
+  pub price-refused : (words : List ℕ) {number place : ℕ} → refused number place ≡ priceAnswer ws prices plates cuts → words ≡ answerWords (refused number place) → WordsAccept words → ⊥
+  unfolding priceAnswer
+  price-refused words e w = none-refused (priceVerdict ws prices plates cuts) _ words price-above e w
 
 -- the price test's promise, where it accepts
-pub price-accepted : (ws words : List ℕ) (r : PriceAnswer) {sum d : ℕ} → r ≡ Accepted sum d → OnAccepted r (Bounds ws) → words ≡ answerWords (given (sum ∷ d ∷ [])) → WhereAccepted words (Bounds ws)
+pub price-accepted : (ws words : List ℕ) (r : PriceAnswer) {sum d : ℕ} → r ≡ Accepted sum d → OnAccepted r (PricePromise ws) → words ≡ answerWords (given (sum ∷ d ∷ [])) → WhereAccepted words (PricePromise ws)
 price-accepted ws words r told h w = rw w (λ zero. rw told at h)
 
 module _ (ws counts plates cuts placements : List ℕ) where
@@ -75,15 +132,14 @@ module _ (ws counts plates cuts placements : List ℕ) where
       (above-then (modelRow (jobOf ws)) _ (model-above (jobOf ws))
       (plan-above (jobOf ws) (listingOf (jobOf ws)) counts)))))))
 
-  -- the unfolding's promise, where it refuses
-  pub unfold-refused : (words : List ℕ) {number place : ℕ} → refused number place ≡ unfoldAnswer ws counts plates cuts placements → words ≡ answerWords (refused number place) → (promise : Type 0) → WhereAccepted words (λ _ _. promise)
+  -- where the unfolding refuses, no more is promised
+  pub unfold-refused : (words : List ℕ) {number place : ℕ} → refused number place ≡ unfoldAnswer ws counts plates cuts placements → words ≡ answerWords (refused number place) → WordsAccept words → ⊥
   unfolding unfoldAnswer
-  unfold-refused words e w promise =
-      none-refused (unfoldVerdict ws counts plates cuts placements) _ words unfold-above e w (λ _ _. promise)
+  unfold-refused words e w = none-refused (unfoldVerdict ws counts plates cuts placements) _ words unfold-above e w
 
 -- the unfolding's promise, where it accepts
-pub unfold-accepted : (r : Unfolded) {boards pieces : ℕ} {promise : Type 0} → r ≡ Done boards pieces → OnSuccess r promise → promise
-unfold-accepted r told h = rw told at h
+pub unfold-accepted : (words : List ℕ) (r : Unfolded) {boards pieces : ℕ} (promise : ℕ → ℕ → Type 0) → r ≡ Done boards pieces → OnSuccess r promise → words ≡ answerWords (given (boards ∷ pieces ∷ [])) → WhereAccepted words promise
+unfold-accepted words r promise told h w = rw w (λ zero. rw told at h)
 
 module _ (ws layouts plates cuts counts : List ℕ) where
   fold-above : Above (foldVerdict ws layouts plates cuts counts)
@@ -98,12 +154,11 @@ module _ (ws layouts plates cuts counts : List ℕ) where
       (above-then (modelRow (jobOf ws)) _ (model-above (jobOf ws))
       (layouts-above 1 (jobOf ws) (rowsOf layouts))))))))
 
-  -- the folding's promise, where it refuses
-  pub fold-refused : (words : List ℕ) {number place : ℕ} → refused number place ≡ foldAnswer ws layouts plates cuts counts → words ≡ answerWords (refused number place) → (promise : Type 0) → WhereAccepted words (λ _ _. promise)
+  -- where the folding refuses, no more is promised
+  pub fold-refused : (words : List ℕ) {number place : ℕ} → refused number place ≡ foldAnswer ws layouts plates cuts counts → words ≡ answerWords (refused number place) → WordsAccept words → ⊥
   unfolding foldAnswer
-  fold-refused words e w promise =
-      none-refused (foldVerdict ws layouts plates cuts counts) _ words fold-above e w (λ _ _. promise)
+  fold-refused words e w = none-refused (foldVerdict ws layouts plates cuts counts) _ words fold-above e w
 
 -- the folding's promise, where it accepts
-pub fold-accepted : (r : FoldAnswer) {n : ℕ} {promise : Type 0} → r ≡ Folded n → OnFolded r promise → promise
-fold-accepted r told h = rw told at h
+pub fold-accepted : (words : List ℕ) (r : FoldAnswer) {n : ℕ} (promise : ℕ → Type 0) → r ≡ Folded n → OnFolded r promise → words ≡ answerWords (given (n ∷ 0 ∷ [])) → WhereAccepted words (λ boards _. promise boards)
+fold-accepted words r promise told h w = rw w (λ zero. rw told at h)

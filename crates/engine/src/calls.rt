@@ -1,15 +1,18 @@
 // The calls, as a host calls them. `answer` ends as three words: the refusal number, 0 where accepted; the first value, or the place that is named; the
 // second value, or 0. The lent buffers end as those of the call do.
 ghost use mathlib.Core.Path.{_≡_};
+ghost use mathlib.Core.Logic.{_↔_};
+ghost use Rattle.job.specs.Job.{jobOf};
+ghost use Rattle.listing.specs.Listing.{listingOf};
+ghost use Rattle.listing.specs.Numbering.{IsListing};
 ghost use Rattle.listing.specs.ListCall.{listVerdict, listAnswer, platesEnd, cutsEnd};
 ghost use Rattle.plan.specs.PlanCall.{planVerdict, planAnswer};
 ghost use Rattle.plan.specs.PriceCall.{priceVerdict, priceAnswer};
-ghost use Rattle.layouts.specs.UnfoldCall.{unfoldVerdict, unfoldingOf, unfoldAnswer, placementsEnd};
+ghost use Rattle.plan.specs.Exactly.{PlanRight, PricesRight};
+ghost use Rattle.layouts.specs.UnfoldCall.{unfoldVerdict, unfoldAnswer, placementsEnd};
 ghost use Rattle.layouts.specs.FoldCall.{foldVerdict, foldAnswer, countsEnd};
-ghost use Rattle.layouts.specs.Demand3.{J, L, Unfolds};
-ghost use Rattle.price_test.specs.PriceBound.{Bounds};
-ghost use Rattle.fold_call.specs.FoldSays.{Promise};
-ghost use Rattle.answers.specs.AnswerWords.{answerWords, WhereAccepted};
+ghost use Rattle.layouts.specs.Promises.{UnfoldPromise, FoldPromise, PricePromise};
+ghost use Rattle.answers.specs.AnswerWords.{answerWords, WordsAccept, WhereAccepted};
 use answers::words::accept;
 use answers::words::refuse;
 use fold_call::call::FoldAnswer;
@@ -23,12 +26,13 @@ use price_test::prices::PriceAnswer;
 use unfold_call::call::Unfolded;
 use unfold_call::call::unfold;
 
-// The listing call: the values are the numbers of residual types and of cuts.
+// The listing call: the values are the numbers of residual types and of cuts. Where it is accepted plates and cuts hold the one listing of the job.
 #[no_mangle]
 pub extern "C" fn saw_list(job: &[u16], plates: &mut [u16], cuts: &mut [u16], answer: &mut [u32; 3])
     ensures { λ _. ⌜ now (answer .exit) ≡ answerWords (listAnswer (now (job .entry)) (now (plates .entry)) (now (cuts .entry))) ⌝ }
     ensures { λ _. ⌜ now (plates .exit) ≡ platesEnd (listVerdict (now (job .entry)) (now (plates .entry)) (now (cuts .entry))) (now (job .entry)) (now (plates .entry)) ⌝ }
     ensures { λ _. ⌜ now (cuts .exit) ≡ cutsEnd (listVerdict (now (job .entry)) (now (plates .entry)) (now (cuts .entry))) (now (job .entry)) (now (cuts .entry)) ⌝ }
+    ensures { λ _. ⌜ WhereAccepted (now (answer .exit)) (λ _ _. IsListing (jobOf (now (job .entry))) (listingOf (jobOf (now (job .entry))))) ⌝ }
 {
     match list(job, plates, cuts) {
         Listed::Done(m, k) => {
@@ -39,7 +43,7 @@ pub extern "C" fn saw_list(job: &[u16], plates: &mut [u16], cuts: &mut [u16], an
     }
 }
 
-// The plan test: the value is the number of boards.
+// The plan test: the value is the number of boards. It accepts exactly where all that `PlanRight` names is right.
 #[no_mangle]
 pub extern "C" fn saw_test_plan(
     job: &[u16],
@@ -51,6 +55,7 @@ pub extern "C" fn saw_test_plan(
     ensures { λ _. ⌜ now (answer .exit) ≡ answerWords (planAnswer (now (job .entry)) (now (counts .entry)) (now (plates .entry)) (now (cuts .entry))) ⌝ }
     ensures { λ _. ⌜ now (plates .exit) ≡ platesEnd (planVerdict (now (job .entry)) (now (counts .entry)) (now (plates .entry)) (now (cuts .entry))) (now (job .entry)) (now (plates .entry)) ⌝ }
     ensures { λ _. ⌜ now (cuts .exit) ≡ cutsEnd (planVerdict (now (job .entry)) (now (counts .entry)) (now (plates .entry)) (now (cuts .entry))) (now (job .entry)) (now (cuts .entry)) ⌝ }
+    ensures { λ _. ⌜ WordsAccept (now (answer .exit)) ↔ PlanRight (now (job .entry)) (now (counts .entry)) (now (plates .entry)) (now (cuts .entry)) ⌝ }
 {
     match test_plan(job, counts, plates, cuts) {
         PlanAnswer::Accepted(boards) => accept(answer, boards as u32, 0),
@@ -58,7 +63,8 @@ pub extern "C" fn saw_test_plan(
     }
 }
 
-// The price test: the values are the sum of price times demand and D. Where it is accepted they bound every set of layouts, by demand 3.
+// The price test: the values are the sum of price times demand and D. It accepts exactly where all that `PricesRight` names is right; then the values bound
+// every set of layouts, by demand 3.
 #[no_mangle]
 pub extern "C" fn saw_test_prices(
     job: &[u16],
@@ -70,7 +76,8 @@ pub extern "C" fn saw_test_prices(
     ensures { λ _. ⌜ now (answer .exit) ≡ answerWords (priceAnswer (now (job .entry)) (now (prices .entry)) (now (plates .entry)) (now (cuts .entry))) ⌝ }
     ensures { λ _. ⌜ now (plates .exit) ≡ platesEnd (priceVerdict (now (job .entry)) (now (prices .entry)) (now (plates .entry)) (now (cuts .entry))) (now (job .entry)) (now (plates .entry)) ⌝ }
     ensures { λ _. ⌜ now (cuts .exit) ≡ cutsEnd (priceVerdict (now (job .entry)) (now (prices .entry)) (now (plates .entry)) (now (cuts .entry))) (now (job .entry)) (now (cuts .entry)) ⌝ }
-    ensures { λ _. ⌜ WhereAccepted (now (answer .exit)) (Bounds (now (job .entry))) ⌝ }
+    ensures { λ _. ⌜ WordsAccept (now (answer .exit)) ↔ PricesRight (now (job .entry)) (now (prices .entry)) (now (plates .entry)) (now (cuts .entry)) ⌝ }
+    ensures { λ _. ⌜ WhereAccepted (now (answer .exit)) (PricePromise (now (job .entry))) ⌝ }
 {
     match test_prices(job, prices, plates, cuts) {
         PriceAnswer::Accepted(sum, d) => accept(answer, sum, d as u32),
@@ -78,7 +85,8 @@ pub extern "C" fn saw_test_prices(
     }
 }
 
-// The unfolding call: the values are the numbers of boards and of pieces. Where it is accepted the placements are what demand 3 says.
+// The unfolding call: the values are the numbers of boards and of pieces. Where it is accepted the values and the placements are
+// those of a set of layouts that is what demand 3 says.
 #[no_mangle]
 pub extern "C" fn saw_unfold(
     job: &[u16],
@@ -92,7 +100,7 @@ pub extern "C" fn saw_unfold(
     ensures { λ _. ⌜ now (plates .exit) ≡ platesEnd (unfoldVerdict (now (job .entry)) (now (counts .entry)) (now (plates .entry)) (now (cuts .entry)) (now (placements .entry))) (now (job .entry)) (now (plates .entry)) ⌝ }
     ensures { λ _. ⌜ now (cuts .exit) ≡ cutsEnd (unfoldVerdict (now (job .entry)) (now (counts .entry)) (now (plates .entry)) (now (cuts .entry)) (now (placements .entry))) (now (job .entry)) (now (cuts .entry)) ⌝ }
     ensures { λ _. ⌜ now (placements .exit) ≡ placementsEnd (unfoldVerdict (now (job .entry)) (now (counts .entry)) (now (plates .entry)) (now (cuts .entry)) (now (placements .entry))) (now (job .entry)) (now (counts .entry)) (now (placements .entry)) ⌝ }
-    ensures { λ _. ⌜ WhereAccepted (now (answer .exit)) (λ _ _. Unfolds (J (now (job .entry))) (L (now (job .entry))) (now (counts .entry)) (unfoldingOf (now (job .entry)) (now (counts .entry)))) ⌝ }
+    ensures { λ _. ⌜ WhereAccepted (now (answer .exit)) (UnfoldPromise (now (job .entry)) (now (counts .entry)) (now (placements .exit))) ⌝ }
 {
     match unfold(job, counts, plates, cuts, placements) {
         Unfolded::Done(boards, pieces) => accept(answer, boards as u32, pieces as u32),
@@ -100,7 +108,8 @@ pub extern "C" fn saw_unfold(
     }
 }
 
-// The folding call: the value is the number of boards. Where it is accepted the layouts and the counts are what demand 3 says.
+// The folding call: the value is the number of boards. Where it is accepted the value, the layouts and the counts are what
+// demand 3 says.
 #[no_mangle]
 pub extern "C" fn saw_fold(
     job: &[u16],
@@ -114,7 +123,7 @@ pub extern "C" fn saw_fold(
     ensures { λ _. ⌜ now (plates .exit) ≡ platesEnd (foldVerdict (now (job .entry)) (now (layouts .entry)) (now (plates .entry)) (now (cuts .entry)) (now (counts .entry))) (now (job .entry)) (now (plates .entry)) ⌝ }
     ensures { λ _. ⌜ now (cuts .exit) ≡ cutsEnd (foldVerdict (now (job .entry)) (now (layouts .entry)) (now (plates .entry)) (now (cuts .entry)) (now (counts .entry))) (now (job .entry)) (now (cuts .entry)) ⌝ }
     ensures { λ _. ⌜ now (counts .exit) ≡ countsEnd (foldVerdict (now (job .entry)) (now (layouts .entry)) (now (plates .entry)) (now (cuts .entry)) (now (counts .entry))) (now (job .entry)) (now (layouts .entry)) (now (counts .entry)) ⌝ }
-    ensures { λ _. ⌜ WhereAccepted (now (answer .exit)) (λ _ _. Promise (now (job .entry)) (now (layouts .entry)) (now (counts .exit))) ⌝ }
+    ensures { λ _. ⌜ WhereAccepted (now (answer .exit)) (λ boards _. FoldPromise (now (job .entry)) (now (layouts .entry)) (now (counts .exit)) boards) ⌝ }
 {
     match fold(job, layouts, plates, cuts, counts) {
         FoldAnswer::Folded(boards) => accept(answer, boards as u32, 0),

@@ -1,2 +1,2 @@
--- The laws of this crate: a text that is read, and its answer.
-pub mod Outputs
+-- The laws of this crate: parts that have been read.
+pub mod Reading

@@ -13,22 +13,22 @@ use Rattle.job.specs.Job.{Job, jobOf, jobWords, admission}
 use Rattle.job.proofs.Sums.{tally-length}
 use Rattle.job.proofs.Verdicts.{then-assoc, then-first, then-second, then-both, then-passed, then-refused}
 use Rattle.job.proofs.Buffers.{sized-pass}
-use Rattle.job.proofs.CodeEnds.{Not5, not5-pass, not5-refuse, not5-if, not5-then, not5-lowest, ends-zeros}
+use Rattle.job.proofs.CodeEnds.{Not5, not5-pass, not5-refuse, not5-if, not5-then, not5-lowest, ends-zeros, given-pass, refused-refuse}
 use Rattle.listing.specs.Listing.{modelRow, listingOf}
 use Rattle.listing.specs.ListCall.{platesEnd, cutsEnd}
 use Rattle.listing.proofs.Limits.{model-not5}
 use Rattle.listing_call.proofs.CodeEnding.{Left}
-use Rattle.plan_test.proofs.CodeCall.{given-pass, refused-refuse}
 use Rattle.layouts.specs.Placement.{Turn, Placement, linesOf}
 use Rattle.layouts.specs.Lines.{rowsOf, layoutWords, sameTurn, follows, inTurn, turns, grouped, setOf}
 use Rattle.layouts.specs.LayoutsRow.{Laid, laidSet, lowestStrip, breaksStage, pastBoard, positioned, lacks, layoutsRow}
 use Rattle.layouts.specs.Fold.{setCuts, folded}
 use Rattle.layouts.specs.FoldCall.{foldVerdict, foldAnswer, countsEnd}
 use Rattle.layouts.specs.Demand3.{J, L, Listed}
+use Rattle.layouts.specs.Promises.{FoldPromise}
 use Rattle.layouts.proofs.demand.Demand3.{demand3}
 use Rattle.fold_call.specs.declared.call.FoldAnswer.{FoldAnswer}
 use Rattle.fold_call.specs.declared.call.FoldAnswer.the-variants.{Folded, Refused}
-use Rattle.fold_call.specs.FoldSays.{saysOf, OnSuccess, Promise, foldTail, Ended}
+use Rattle.fold_call.specs.FoldSays.{saysOf, OnSuccess, foldTail, Ended}
 use Rattle.fold_call.proofs.Passed.{words-passed, job-passed, listed-model}
 use Rattle.fold_call.proofs.Filling.{filled-count, filled-boards, filled-accepted}
 
@@ -146,7 +146,7 @@ module _ (ws layouts plates cuts counts : List ℕ) where
       × ((plates′ ≡ platesEnd verdict ws plates)
       × ((cuts′ ≡ cutsEnd verdict ws cuts)
       × ((counts′ ≡ countsEnd verdict ws layouts counts)
-      × OnSuccess r (Promise ws layouts counts′))))
+      × OnSuccess r (FoldPromise ws layouts counts′))))
 
   -- where the rows before the model refuse, the call does, and the three buffers end as after that refusal
   pub before-refuses :
@@ -183,17 +183,22 @@ module _ (ws layouts plates cuts counts : List ℕ) where
       unfolding folded
       plan-length = tally-length (length (listingOf (jobOf ws) .cuts)) 1 (setCuts (jobOf ws) (listingOf (jobOf ws)) (setOf layouts))
 
-      folds-so : Promise ws layouts (filled (length counts) plan)
-      folds-so =
-          let only = demand3 ws listed .folds-only layouts plates cuts counts (fold-rows ∙ then-both rowsBefore (foldTail (jobOf ws) layouts) e tail) in
-          let f = demand3 ws listed .folds (setOf layouts) (only .0) in
+      folds-so : {n : ℕ} → n ≡ length (setOf layouts) → FoldPromise ws layouts (filled (length counts) plan) n
+      folds-so shown =
+          let d = demand3 .every-listed ws listed in
+          let only = d .folds-only layouts plates cuts counts (fold-rows ∙ then-both rowsBefore (foldTail (jobOf ws) layouts) e tail) in
+          let f = d .folds (setOf layouts) (only .0) .folds-to in
           let h : length plan ≤ length counts = omega (arith, plan-length, listed-model ws (words-passed ws layouts (before-passed .0)) (job-passed ws layouts (before-passed .0)) modelled .few-cuts, before-passed .1 .1 .1) in
           record {
             named = only .0;
             lines = only .1;
-            accepted = filled-accepted (J ws) (L ws) plan (length counts) plan-length h (f .accepted);
-            as-many = filled-boards (J ws) (L ws) plan (length counts) plan-length h ∙ f .as-many;
-            as-often = λ i. filled-count (J ws) (L ws) plan (length counts) plan-length h _ ∙ f .as-often i;
+            boards-given = shown;
+            folds-to =
+                record {
+                  accepted = filled-accepted (J ws) (L ws) plan (length counts) plan-length h (f .accepted);
+                  as-many = filled-boards (J ws) (L ws) plan (length counts) plan-length h ∙ f .as-many;
+                  as-often = λ i. filled-count (J ws) (L ws) plan (length counts) plan-length h _ ∙ f .as-often i;
+                };
           }
 
     -- and these rows decide
@@ -202,9 +207,10 @@ module _ (ws layouts plates cuts counts : List ℕ) where
     before-pass r plates′ cuts′ counts′ h =
         rw (fold-rows ∙ then-passed rowsBefore (foldTail (jobOf ws) layouts) e) (h .answered, (h .plates-end, (h .cuts-end, (h .counts-end, promised r (h .answered) (h .counts-end)))))
       where
-        promised : (r : FoldAnswer) → saysOf r ≡ answer (foldTail (jobOf ws) layouts) (length (setOf layouts) ∷ []) → counts′ ≡ countsEnd (foldTail (jobOf ws) layouts) ws layouts counts → OnSuccess r (Promise ws layouts counts′)
+        promised : (r : FoldAnswer) → saysOf r ≡ answer (foldTail (jobOf ws) layouts) (length (setOf layouts) ∷ []) → counts′ ≡ countsEnd (foldTail (jobOf ws) layouts) ws layouts counts → OnSuccess r (FoldPromise ws layouts counts′)
         promised (Refused number place) q c = tt
         promised (Folded n) q c =
             let v : foldTail (jobOf ws) layouts ≡ pass = given-pass (foldTail (jobOf ws) layouts) (length (setOf layouts) ∷ []) q in
             let z : counts′ ≡ filled (length counts) (folded (jobOf ws) (listingOf (jobOf ws)) (setOf layouts)) = rw v at c in
-            rw z (folds-so v)
+            let a : given (n ∷ []) ≡ given (length (setOf layouts) ∷ []) = rw v at q in
+            rw z (folds-so v (cc))

@@ -1,2 +1,2 @@
--- The definitions of this crate: what the folding call's answer says, how the call ends, and what it promises.
+-- The definitions of this crate: what the folding call's answer says and how the call ends.
 pub mod FoldSays

@@ -13,8 +13,9 @@ ghost use Rattle.layouts.specs.Lines.{rowsOf, layoutWords, setOf};
 ghost use Rattle.layouts.specs.LayoutsRow.{layoutsRow};
 ghost use Rattle.layouts.specs.Fold.{folded};
 ghost use Rattle.layouts.specs.FoldCall.{foldVerdict, foldAnswer, countsEnd};
+ghost use Rattle.layouts.specs.Promises.{FoldPromise};
 ghost use Rattle.fold_counts.specs.Lent.{CutsLent};
-ghost use Rattle.fold_call.specs.FoldSays.{saysOf, foldTail, Ended, OnSuccess, Promise};
+ghost use Rattle.fold_call.specs.FoldSays.{saysOf, foldTail, Ended, OnSuccess};
 use crate::boards::count_boards;
 use fold_counts::fold::fold_into;
 use job::counters::CutNumber;
@@ -106,7 +107,7 @@ pub fn fold(
     ensures { λ _. ⌜ now (plates .exit) ≡ platesEnd (foldVerdict (now (job .entry)) (now (layouts .entry)) (now (plates .entry)) (now (cuts .entry)) (now (counts .entry))) (now (job .entry)) (now (plates .entry)) ⌝ }
     ensures { λ _. ⌜ now (cuts .exit) ≡ cutsEnd (foldVerdict (now (job .entry)) (now (layouts .entry)) (now (plates .entry)) (now (cuts .entry)) (now (counts .entry))) (now (job .entry)) (now (cuts .entry)) ⌝ }
     ensures { λ _. ⌜ now (counts .exit) ≡ countsEnd (foldVerdict (now (job .entry)) (now (layouts .entry)) (now (plates .entry)) (now (cuts .entry)) (now (counts .entry))) (now (job .entry)) (now (layouts .entry)) (now (counts .entry)) ⌝ }
-    ensures { λ r. ⌜ OnSuccess r (Promise (now (job .entry)) (now (layouts .entry)) (now (counts .exit))) ⌝ }
+    ensures { λ r. ⌜ OnSuccess r (FoldPromise (now (job .entry)) (now (layouts .entry)) (now (counts .exit))) ⌝ }
 {
     match fold_checks(job, layouts, plates, cuts, counts) {
         Row::Refuses(number, place) => {

@@ -6,29 +6,25 @@ use mathlib.Core.Bool.{Bool, true, false}
 use mathlib.Core.List.{List, [], _∷_, _++_}
 use lib.Dec.{eqb}
 use lib.ListN.{length, replicate}
-use Rattle.job.specs.Verdict.{pass, _then_}
+use Rattle.job.specs.Verdict.{pass}
 use Rattle.job.specs.Buffers.{filled}
-use Rattle.job.specs.Job.{jobOf, jobWords, admission, maxPieces}
-use Rattle.job.proofs.Sums.{tally-length}
-use Rattle.job.proofs.Verdicts.{then-second, then-both}
-use Rattle.listing.specs.Listing.{Cut, modelRow, listingOf}
-use Rattle.plan.specs.Plan.{total, countsRow, planRow}
-use Rattle.plan.proofs.PlanExact.{plan-exact}
+use Rattle.job.specs.Job.{jobOf}
+use Rattle.listing.specs.Listing.{Cut, listingOf}
+use Rattle.plan.specs.Plan.{total}
 use Rattle.layouts.specs.Lines.{rowsOf, layoutWords, setOf}
 use Rattle.layouts.specs.LayoutsRow.{layoutsRow}
-use Rattle.layouts.specs.Fold.{setCuts, folded}
-use Rattle.layouts.specs.Demand3.{J, L, Listed, Named}
-use Rattle.layouts.proofs.row.RowWords.{words-set}
-use Rattle.layouts.proofs.demand.Demand3.{demand3}
+use Rattle.layouts.specs.Fold.{folded}
 use Rattle.listing.specs.CutRead.{cutsRead}
 use Rattle.columns.specs.Line.{lineOf}
 use Rattle.texts.specs.Widths.{planLineBytes}
-use Rattle.texts.specs.JobLines.{body}
+use Rattle.texts.specs.JobLines.{body, bodyLine}
 use Rattle.texts.specs.FoldText.{foldOf, countLines, foldLines}
+use Rattle.texts.specs.Held.{FoldWhole}
+use Rattle.texts.proofs.FoldRows.{layouts-any}
+use Rattle.texts.proofs.FoldDemand.{FoldAccepted, fold-length, fold-few}
 use Rattle.texts_writing.specs.Wrote.{Wrote, longestFold}
 use Rattle.texts_writing.proofs.CountLaws.{lines-few}
 use Rattle.fold_text_ending.specs.FoldEnd.{ListedLent}
-use Rattle.fold_text_ending.proofs.Places.{items-grouped}
 
 -- counts past the last cut give no line
 lines-past : (cs : List Cut) (ns zs : List ℕ) → length ns ≡ length cs → countLines cs (ns ++ zs) ≡ countLines cs ns
@@ -53,41 +49,26 @@ module _ (ws ls plates cuts : List ℕ) (k : ℕ) (lent : ListedLent ws plates c
   abbrev plan : List ℕ
   plan = folded (jobOf ws) (listingOf (jobOf ws)) (setOf ls)
 
-  plan-length : length plan ≡ length (listingOf (jobOf ws) .cuts)
-  unfolding folded
-  plan-length = tally-length (length (listingOf (jobOf ws) .cuts)) 1 (setCuts (jobOf ws) (listingOf (jobOf ws)) (setOf ls))
+  -- the words pass as those of a fold text
+  held : FoldWhole (foldOf body ws ls)
+  held = record { place = refl; job = lent .words; layouts = lines }
 
-  listed : Listed ws
-  listed =
-      then-both (jobWords ws) (admission (jobOf ws) then modelRow (jobOf ws)) (lent .words)
-      (then-both (admission (jobOf ws)) (modelRow (jobOf ws)) (lent .admitted) (lent .modelled))
-
-  named : Named (J ws) (L ws) (setOf ls)
-  unfolding setOf
-  named =
-      let s = words-set (jobOf ws) 1 ls lines row in
-      record { rules = s .rules; demands = s .demands; pieces = omega (arith, items-grouped (rowsOf ls), s .few) }
-
-  -- at most 4,000 pieces are cut
-  plan-few : total plan ≤ maxPieces
-  plan-few =
-      plan-exact (J ws) (L ws) plan .0
-      (then-second (countsRow (L ws) plan) (planRow (J ws) (L ws) plan) (demand3 ws listed .folds (setOf ls) named .accepted .passed))
-      .few
+  passed : FoldAccepted (foldOf body ws ls)
+  passed = record { admitted = lent .admitted; listed = lent .modelled; laid = layouts-any 1 (bodyLine ws) (jobOf ws) (rowsOf ls) row }
 
   module _ (size : ℕ) (counts : List ℕ) (e : counts ≡ filled size plan) where
     pub lines-are : countLines (cutsRead k cuts) counts ≡ foldLines (foldOf body ws ls)
     unfolding filled foldLines
     lines-are =
         rw (← lent .lent .listed, e)
-        (lines-past (listingOf (jobOf ws) .cuts) plan (replicate (size - length plan) 0) plan-length)
+        (lines-past (listingOf (jobOf ws) .cuts) plan (replicate (size - length plan) 0) (fold-length (foldOf body ws ls)))
 
     pub lines-fit : length (countLines (cutsRead k cuts) counts) ≤ longestFold
     unfolding foldLines
     lines-fit =
         let e′ = ap length lines-are in
         let f : length (foldLines (foldOf body ws ls)) ≤ planLineBytes * total plan = lines-few (listingOf (jobOf ws) .cuts) plan in
-        omega (arith, e′, f, plan-few)
+        omega (arith, e′, f, fold-few (foldOf body ws ls) held passed)
 
     pub lines-written : {out out′ : List ℕ} {n : ℕ} → Wrote out 0 (countLines (cutsRead k cuts) counts) n out′ → Wrote out 0 (foldLines (foldOf body ws ls)) n out′
     lines-written w = rw lines-are at w

@@ -12,6 +12,7 @@ use Rattle.job.specs.Job.{Job, jobOf, jobWords, admission, maxPieces}
 use Rattle.job.specs.declared.counters.PlateTypes.{PlateTypes}
 use Rattle.job.specs.declared.counters.CutNumber.{CutNumber}
 use Rattle.job.proofs.Verdicts.{then-assoc, then-first, then-second, then-passed, then-refused}
+use Rattle.job.proofs.CodeEnds.{given-pass, refused-refuse}
 use Rattle.listing.specs.Listing.{modelRow}
 use Rattle.listing.specs.Holds.{Holds}
 use Rattle.listing.specs.ListCall.{listVerdict, listAnswer, platesEnd, cutsEnd}
@@ -19,7 +20,6 @@ use Rattle.listing_call.specs.declared.call.Listed.{Listed}
 use Rattle.listing_call.specs.declared.call.Listed.the-variants.{Done, Refused}
 use Rattle.listing_call.specs.ListSays.{saysOf, SomePlate}
 use Rattle.listing_call.proofs.CodeEnding.{some-types}
-use Rattle.plan_test.proofs.CodeCall.{given-pass, refused-refuse}
 use Rattle.plan_test.proofs.CodeListed.{Ready, ready}
 use Rattle.layouts.specs.Lines.{rowsOf, layoutWords}
 use Rattle.layouts.specs.LayoutsRow.{layoutsRow}

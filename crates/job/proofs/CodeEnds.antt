@@ -3,11 +3,12 @@ use mathlib.Core.Path.{_≡_, refl, sym, ap, _∙_}
 use mathlib.Core.Bool.{Bool, true, false}
 use mathlib.Core.List.{List, [], _∷_}
 use Prim.Native.Nat.{ℕ, suc}
+use native.Mathlib.Omega.{arith}
 use borrow.Author.Tests.{ne-eqb}
 use lib.Dec.{eqb}
 use lib.ListN.{length, replicate}
 use Rattle.job.specs.Verdict.{Verdict, pass, refuse, _then_, refuseIf, lowest}
-use Rattle.job.specs.Buffers.{ends}
+use Rattle.job.specs.Buffers.{given, refused, answer, ends}
 use Rattle.job.proofs.Verdicts.{pass-not-refuse, then-first, then-second, then-passed, then-refused}
 
 -- a refusal is no pass
@@ -24,6 +25,16 @@ then-stop {u} w number place e r = r ∙ sym (then-refused u w number place (sym
 
 pub then-on : {u v w : Verdict} → u ≡ pass → v ≡ w → v ≡ (u then w)
 then-on {u} {v} {w} p e = e ∙ sym (then-passed u w p)
+
+-- results are given only where the verdict passes
+pub given-pass : (v : Verdict) (bs : List ℕ) {xs : List ℕ} → given xs ≡ answer v bs → v ≡ pass
+given-pass pass bs e = refl
+given-pass (refuse number place) bs e = let z : _≡_ {A = ℕ} 0 1 = cc in absurd (omega arith)
+
+-- a refusal is the verdict's
+pub refused-refuse : (v : Verdict) (bs : List ℕ) {number place : ℕ} → refused number place ≡ answer v bs → v ≡ refuse number place
+refused-refuse pass bs e = let z : _≡_ {A = ℕ} 0 1 = cc in absurd (omega arith)
+refused-refuse (refuse n p) bs e = cc
 
 -- some checks do not refuse with 5
 pub record Not5 (v : Verdict) : Type 0 where

@@ -20,11 +20,11 @@ answer (refuse number place) results = refused number place
 unfoldable pub filled : ℕ → List ℕ → List ℕ
 filled size ws = ws ++ replicate (size - length ws) 0
 
--- what a lent buffer ends as: after success its words and then zeros, after 5 as it was, after any other refusal zeros
+-- what a lent buffer ends as, by the call's verdict: after success its words and then zeros, after refusal 5 as it was, after any other refusal zeros
 abbrev pub ends : Verdict → List ℕ → List ℕ → List ℕ
 ends pass buffer ws = filled (length buffer) ws
 ends (refuse number place) buffer ws = elim (eqb number 5) [ true ↦ buffer | false ↦ replicate (length buffer) 0 ]
 
--- 5: buffer `number`, which is 1 for plates, 2 for cuts, 3 for counts, 4 for placements, is shorter than its full size
+-- 5: a lent buffer is shorter than its full size. The place names `which` it is: 1 plates, 2 cuts, 3 counts, 4 placements
 unfoldable pub sized : ℕ → ℕ → List ℕ → Verdict
-sized number size buffer = refuseIf (ltb (length buffer) size) 5 number
+sized which size buffer = refuseIf (ltb (length buffer) size) 5 which

@@ -2,5 +2,5 @@
 pub mod Bound
 pub mod DemandUnfold
 pub mod DemandFold
-pub mod Demand3
 pub mod Exact
+pub mod Demand3

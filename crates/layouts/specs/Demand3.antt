@@ -1,6 +1,6 @@
--- Demand 3, in its own words, for any job whose listing is not refused: every accepted plan unfolds into layouts that keep the rules; every set of
--- layouts that keeps the rules folds into an accepted plan; every accepted price list bounds every such set.
-use Prim.Native.Nat.{ℕ, _*_, _≤_}
+-- Demand 3, in its own words, for every job whose listing is not refused: every accepted plan unfolds into layouts that keep the rules; every set of
+-- layouts that keeps the rules folds into an accepted plan; every accepted price list bounds every such set. `Demand3` is the whole of it.
+use Prim.Native.Nat.{ℕ, _*_, _-_, _≤_, _<_}
 use mathlib.Core.Path.{_≡_}
 use mathlib.Core.Logic.{_⊎_}
 use mathlib.Core.Bool.{true}
@@ -13,7 +13,7 @@ use Rattle.job.specs.Job.{Job, jobOf, jobWords, admission, maxPieces}
 use Rattle.listing.specs.Listing.{Listing, modelRow, listingOf}
 use Rattle.plan.specs.Plan.{countOf, ofItem, boards, total, countsRow, planRow}
 use Rattle.plan.specs.Prices.{pricesOf, priceWords, pricesSized, pricesRow, priceSum, fewest}
-use Rattle.layouts.specs.Layout.{Board, layoutRules}
+use Rattle.layouts.specs.Layout.{Stack, Strip, Board, widthOf, stackHeight, layoutRules}
 use Rattle.layouts.specs.Placement.{placementWords, linesOf, itemsOfSet, meetsDemands}
 use Rattle.layouts.specs.Rectangle.{inside, noOverlap}
 use Rattle.layouts.specs.Unfold.{Run, unfolded}
@@ -22,6 +22,7 @@ use Rattle.layouts.specs.LayoutsRow.{layoutsRow}
 use Rattle.layouts.specs.Fold.{folded}
 use Rattle.layouts.specs.UnfoldCall.{unfoldVerdict}
 use Rattle.layouts.specs.FoldCall.{foldVerdict}
+use Rattle.layouts.specs.Exact.{TestsExact, InOrder}
 
 -- "take any job whose listing is not refused": its words are admitted, and its walk meets no limit
 abbrev pub Listed : List ℕ → Type 0
@@ -47,31 +48,45 @@ module _ (job : Job) (l : Listing) where
   abbrev pub Priced : List ℕ → Type 0
   Priced prices = (priceWords prices then pricesSized job l prices then pricesRow l (pricesOf job prices)) ≡ pass
 
+  -- the set of layouts that a plan unfolds into
+  pub record UnfoldsTo (counts : List ℕ) (set : List Board) : Type 0 where
+    -- it keeps the rules of the mode, meets every demand and has at most 4,000 pieces
+    pub named : Named set
+    -- rectangles inside their boards, no two overlapping
+    pub inside-boards : all (inside job) (linesOf job set) ≡ true
+    pub no-overlap : noOverlap job (linesOf job set) ≡ true
+    -- exactly as many boards as the plan opened, none of them empty
+    pub as-many : length set ≡ boards l counts
+    pub none-empty : all nonEmpty set ≡ true
+    -- exactly as many pieces as the counts come to, and each item type exactly as often as the plan cuts it
+    pub all-pieces : length (itemsOfSet set) ≡ total counts
+    pub as-often : (i : ℕ) → occurs i (itemsOfSet set) ≡ countOf (ofItem i) (l .cuts) counts
+    -- board, strip, stack and place run in turn from 1
+    pub in-turn : turns 1 (linesOf job set) ≡ pass
+    -- folding it gives back the counts, word for word
+    pub back : filled (length counts) (folded job l set) ≡ counts
+
   -- what the unfolding r of a plan gives
   pub record Unfolds (counts : List ℕ) (r : Run) : Type 0 where
     -- every count ends at 0
     pub spent : r .last .counts ≡ replicate (length counts) 0
-    -- the placements are the lines of a set of layouts that keeps the rules of the mode
+    -- the placements are the lines of a set of layouts, which their words are read as
     pub set : List Board
     pub lines : r .placements ≡ linesOf job set
-    pub rules : layoutRules job set ≡ true
-    -- rectangles inside their boards, no two overlapping
-    pub inside-boards : all (inside job) (r .placements) ≡ true
-    pub no-overlap : noOverlap job (r .placements) ≡ true
-    -- each item type lies there exactly as often as the plan cuts it, so every demand is met
-    pub as-often : (i : ℕ) → occurs i (itemsOfSet set) ≡ countOf (ofItem i) (l .cuts) counts
-    pub demands : meetsDemands job set ≡ true
-    -- exactly as many boards as the plan opened, none of them empty
-    pub as-many : length set ≡ boards l counts
-    pub none-empty : all nonEmpty set ≡ true
+    pub read : setOf (placementWords (r .placements)) ≡ set
+    pub unfolds-to : UnfoldsTo counts set
     -- the result's boards and pieces are the set's; the pieces fit the buffer
     pub boards-given : r .last .turn .board ≡ length set
-    pub pieces-given : length (r .placements) ≡ total counts
+    pub pieces-given : length (r .placements) ≡ length (itemsOfSet set)
     pub room : length (placementWords (r .placements)) ≤ placementsSize
-    -- board, strip, stack and place run in turn from 1
-    pub in-turn : turns 1 (r .placements) ≡ pass
-    -- folding the unfolding gives back its counts, word for word
-    pub back : filled (length counts) (folded job l (setOf (placementWords (r .placements)))) ≡ counts
+
+  -- the plan that a set folds into
+  pub record FoldsTo (set : List Board) (counts : List ℕ) : Type 0 where
+    -- it is accepted
+    pub accepted : Accepted counts
+    -- it opens exactly as many boards as the set has, and cuts each type exactly as often as it lies there
+    pub as-many : boards l counts ≡ length set
+    pub as-often : (i : ℕ) → countOf (ofItem i) (l .cuts) counts ≡ occurs i (itemsOfSet set)
 
   -- what folding makes of a set
   pub record Folds (set : List Board) : Type 0 where
@@ -79,11 +94,25 @@ module _ (job : Job) (l : Listing) where
     pub words : layoutWords job (placementWords (linesOf job set)) ≡ pass
     pub row : layoutsRow 1 job (linesOf job set) ≡ pass
     pub read : setOf (placementWords (linesOf job set)) ≡ set
-    -- the counts are an accepted plan
-    pub accepted : Accepted (folded job l set)
-    -- it opens exactly as many boards as the set has, and cuts each type exactly as often as it lies there
-    pub as-many : boards l (folded job l set) ≡ length set
-    pub as-often : (i : ℕ) → countOf (ofItem i) (l .cuts) (folded job l set) ≡ occurs i (itemsOfSet set)
+    -- the counts
+    pub folds-to : FoldsTo set (folded job l set)
+
+  -- what a sum and a D say of every set of layouts that keeps the rules and meets the demands, whoever made it
+  pub record Bounds (sum d : ℕ) : Type 0 where
+    -- "at least as many boards as the bound": times D they are "at least the sum of price times demand, nothing rounded"
+    pub at-least :
+        (set : List Board)
+        → layoutRules job set ≡ true
+        → meetsDemands job set ≡ true
+        → sum ≤ length set * d
+    -- where "(boards−1)×D is below that sum", no such set has fewer boards
+    pub none-fewer :
+        (n : ℕ)
+        → (n - 1) * d < sum
+        → (set : List Board)
+        → layoutRules job set ≡ true
+        → meetsDemands job set ≡ true
+        → n ≤ length set
 
 module _ (ws : List ℕ) where
   -- the job of the words, and its listing
@@ -93,16 +122,55 @@ module _ (ws : List ℕ) where
   abbrev pub L : Listing
   L = listingOf J
 
-  pub record Demand3 : Type 0 where
+  -- demand 3 of one job
+  pub record Demand3Of : Type 0 where
     -- for every accepted plan
-    pub unfolds : (counts : List ℕ) → Accepted J L counts → Unfolds J L counts (unfolded J L counts)
-    pub unfolds-but-for-five : (counts : List ℕ) → Accepted J L counts → (plates cuts placements : List ℕ) → OnlyFive (unfoldVerdict ws counts plates cuts placements)
+    pub unfolds :
+        (counts : List ℕ)
+        → Accepted J L counts
+        → Unfolds J L counts (unfolded J L counts)
+    pub unfolds-but-for-five :
+        (counts : List ℕ)
+        → Accepted J L counts
+        → (plates cuts placements : List ℕ)
+        → OnlyFive (unfoldVerdict ws counts plates cuts placements)
     -- for every set of layouts that it names
-    pub folds : (set : List Board) → Named J L set → Folds J L set
-    pub folds-but-for-five : (set : List Board) → Named J L set → (plates cuts counts : List ℕ) → OnlyFive (foldVerdict ws (placementWords (linesOf J set)) plates cuts counts)
+    pub folds :
+        (set : List Board)
+        → Named J L set
+        → Folds J L set
+    pub folds-but-for-five :
+        (set : List Board)
+        → Named J L set
+        → (plates cuts counts : List ℕ)
+        → OnlyFive (foldVerdict ws (placementWords (linesOf J set)) plates cuts counts)
     -- conversely, layout words that folding accepts are the lines of such a set
-    pub folds-only : (layouts plates cuts counts : List ℕ) → foldVerdict ws layouts plates cuts counts ≡ pass → Named J L (setOf layouts) × (layouts ≡ placementWords (linesOf J (setOf layouts)))
-    -- for every accepted price list, every such set, whoever made it, uses at least as many boards as the bound: nothing rounded
-    pub bounds : (prices : List ℕ) → Priced J L prices → (set : List Board) → layoutRules J set ≡ true → meetsDemands J set ≡ true → priceSum J (pricesOf J prices) ≤ length set * pricesOf J prices .denominator
+    pub folds-only :
+        (layouts plates cuts counts : List ℕ)
+        → foldVerdict ws layouts plates cuts counts ≡ pass
+        → Named J L (setOf layouts) × (layouts ≡ placementWords (linesOf J (setOf layouts)))
+    -- for every accepted price list, the sum and D bound every such set
+    pub bounds :
+        (prices : List ℕ)
+        → Priced J L prices
+        → Bounds J L (priceSum J (pricesOf J prices)) (pricesOf J prices .denominator)
     -- where "fewest" is 1 for n boards, no such set has fewer
-    pub none-fewer : (prices : List ℕ) → Priced J L prices → (n : ℕ) → fewest J (pricesOf J prices) n ≡ true → (set : List Board) → layoutRules J set ≡ true → meetsDemands J set ≡ true → n ≤ length set
+    pub fewest-boards :
+        (prices : List ℕ)
+        → Priced J L prices
+        → (n : ℕ)
+        → fewest J (pricesOf J prices) n ≡ true
+        → (set : List Board)
+        → layoutRules J set ≡ true
+        → meetsDemands J set ≡ true
+        → n ≤ length set
+
+-- demand 3
+pub record Demand3 : Type 0 where
+  -- of every job whose listing is not refused
+  pub every-listed : (ws : List ℕ) → Listed ws → Demand3Of ws
+  -- the tests by which it speaks of rules, demands and rectangles decide the plain statements of `Rules`
+  pub tests : (job : Job) → TestsExact job
+  -- folding's order: "within each two-stage strip by falling height and within each three-stage stack by falling width"
+  pub strip-order : (job : Job) (strip : Strip) → InOrder (stackHeight job) strip
+  pub stack-order : (job : Job) (stack : Stack) → InOrder (widthOf job) stack

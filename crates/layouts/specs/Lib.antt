@@ -1,4 +1,4 @@
--- The definitions of this crate: sets of layouts and the words of demand 3, unfolding, folding, and the two calls.
+-- The definitions of this crate: sets of layouts and the words of demand 3, unfolding, folding, the two calls, demand 3 and what the calls promise by it.
 pub mod Layout
 pub mod Placement
 pub mod Rectangle
@@ -8,6 +8,7 @@ pub mod LayoutsRow
 pub mod Fold
 pub mod UnfoldCall
 pub mod FoldCall
-pub mod Demand3
 pub mod Rules
 pub mod Exact
+pub mod Demand3
+pub mod Promises

@@ -118,7 +118,8 @@ before stack k (b ∷ bs) = beside k b ∷ bs
 before strip k (b ∷ bs) = ((k ∷ []) ∷ b) ∷ bs
 before board k (b ∷ bs) = ((k ∷ []) ∷ []) ∷ b ∷ bs
 
--- the set of layouts of lines that run in turn
+-- the set of layouts of lines that run in turn, read from the last line back: what the next line begins says what this line shares with it. Where it begins
+-- nothing, both are of one stack, and this item lies below; else this line's item is a stack of its own, put before the lines that are grouped already
 unfoldable pub grouped : List Placement → List Board
 grouped [] = []
 grouped (r ∷ rs) =

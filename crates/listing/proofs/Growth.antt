@@ -1,11 +1,13 @@
 -- The walk only adds: plate types and cuts keep their numbers, a cut is added at the end, and at most two plate types with it.
 use Prim.Native.Nat.{ℕ, suc, _≤_, _<_}
 use native.Mathlib.Omega.{arith}
-use mathlib.Core.Path.{_≡_, refl, _∙_}
+use mathlib.Core.Path.{_≡_, refl, sym, _∙_}
+use mathlib.Core.Logic.{_⊎_, inl, inr}
 use mathlib.Core.List.{List, [], _∷_, _++_}
 use lib.ListN.{length, getD, length-append, List·getD-append}
 use lib.Seq.{getD-append-seam}
 use Rattle.job.specs.Job.{Job}
+use Rattle.job.proofs.Tests.{at-most-or-above}
 use Rattle.listing.specs.declared.plate.Plate.{Plate}
 use Rattle.listing.specs.declared.plate.Residuals.{Residuals}
 use Rattle.listing.specs.Plate.{waste}
@@ -31,6 +33,23 @@ module _ {A : Type 0} (d : A) where
         no-fewer = omega (arith, a .no-fewer, b .no-fewer);
         keeps = λ k h. b .keeps k (omega (arith, a .no-fewer)) ∙ a .keeps k h;
       }
+
+  -- no elements begin every list
+  pub longer-none : (ys : List A) → Longer d [] ys
+  longer-none ys = record { no-fewer = omega arith; keeps = λ k h. absurd (omega arith) }
+
+  -- a list with one more element begins a list that has this element at that place
+  pub longer-one : (a : A) (xs ys : List A) → Longer d xs ys → length xs < length ys → getD ys (length xs) d ≡ a → Longer d (xs ++ (a ∷ [])) ys
+  longer-one a xs ys m h e = record { no-fewer = omega (arith, length-append xs (a ∷ [])); keeps = at }
+    where
+      at : (k : ℕ) → k < length (xs ++ (a ∷ [])) → getD ys k d ≡ getD (xs ++ (a ∷ [])) k d
+      at k b = go (at-most-or-above (length xs) k)
+        where
+          go : (length xs ≤ k) ⊎ (k < length xs) → getD ys k d ≡ getD (xs ++ (a ∷ [])) k d
+          go (inl c) =
+              let s : k ≡ length xs = omega (arith, length-append xs (a ∷ [])) in
+              rw (s, getD-append-seam xs a [] d) e
+          go (inr c) = m .keeps k c ∙ sym (longer-append xs (a ∷ []) .keeps k c)
 
 -- plate types and cuts keep their numbers
 pub record Grown (l l′ : Listing) : Type 0 where

@@ -18,5 +18,8 @@ pub mod Fuel
 pub mod Limits
 pub mod ModelLaws
 pub mod Origin
+pub mod FirstMet
+pub mod Prefix
+pub mod ListingExact
 pub mod WalkLaws
 pub mod CodePlate

@@ -11,7 +11,7 @@ use Rattle.listing.specs.declared.plate.Plate.{Plate}
 use Rattle.listing.specs.declared.plate.Residuals.{Residuals}
 use Rattle.listing.specs.Plate.{leaves}
 use Rattle.listing.specs.Listing.{Listing, going, plateAt, entered, walkWithin}
-use Rattle.listing.specs.WalkLaws.{Left}
+use Rattle.listing.specs.Numbering.{Left}
 use Rattle.listing.proofs.Numbers.{Entering, not-kept, met, fresh, entering}
 use Rattle.listing.proofs.Steps.{done-plates}
 use Rattle.listing.proofs.Growth.{done-count, done-cut, done-last}
@@ -19,7 +19,7 @@ use Rattle.listing.proofs.Reached.{Reached, start, skipped, done, row, 
 use Rattle.listing.proofs.Ends.{walk-complete}
 
 -- a plate type that is added with a residual is the residual's
-entered-last :
+pub entered-last :
     (job : Job) (p : Plate) (ps : List Plate) (k : ℕ)
     → length ps ≤ k
     → k < length (entered job p ps .plates)

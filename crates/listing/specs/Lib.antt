@@ -1,7 +1,8 @@
--- The definitions of this crate: plates and cuts, the walk that numbers them, their records in lent buffers, the listing call.
+-- The definitions of this crate: plates and cuts, the walk that numbers them, what the listing of a job is, their records in lent buffers, the listing call.
 pub mod Plate
 pub mod Listing
 pub mod Model
+pub mod Numbering
 pub mod WalkLaws
 pub mod Records
 pub mod Holds

@@ -78,7 +78,8 @@ walkStart job = record { plates = board job ∷ []; cuts = [] }
 
 -- The walk, over its two limits, so that it can also be computed with small ones.
 module _ (plateLimit cutLimit : ℕ) (job : Job) where
-  -- "a pair is counted as a cut before its residuals": where one pair passes both limits, 7 is met first
+  -- what a pair's cut makes of the walk: 7, one cut too many; 6, too many plate types; else the walk goes on. "A pair is counted as a cut before its
+  -- residuals": where one pair passes both limits, 7 is met first
   unfoldable pub limited : Listing → Walk
   limited l =
       elim (ltb cutLimit (length (l .cuts))) [

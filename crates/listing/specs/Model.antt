@@ -1,4 +1,5 @@
--- What a listing is, in plain statements: document 01's "Plates and cuts" and "Numbering", without the walk that makes one.
+-- Document 01, "Plates and cuts", in plain statements: what the proofs of demand 3 use of a listing. It leaves open which residual type has which
+-- number, and whether a cut leaves each: `Numbering` says both, and so what the listing of a job is.
 use Prim.Native.Nat.{ℕ, suc, _≤_, _<_}
 use mathlib.Core.Path.{_≡_}
 use mathlib.Core.Logic.{_⊎_}

@@ -26,13 +26,19 @@ waste = plate 0 0 0
 unfoldable pub same : Plate → Plate → Bool
 same p q = eqb (p .width) (q .width) && eqb (p .height) (q .height) && eqb (p .stage) (q .stage)
 
--- "in 2E at stage 2 its height equals h; in 3E at stage 3 its width equals w"
+-- "in 2E at stage 2 its height equals h"
+abbrev pub heightAtTwo : Item → Plate → Bool
+heightAtTwo item p = not (eqb (p .stage) 2) || eqb (item .height) (p .height)
+
+-- "in 3E at stage 3 its width equals w"
+abbrev pub widthAtThree : Item → Plate → Bool
+widthAtThree item p = not (eqb (p .stage) 3) || eqb (item .width) (p .width)
+
+-- what the exact modes ask besides: 3E of width, 2E of height; the non-exact modes ask nothing
 unfoldable pub exactFit : Mode → Item → Plate → Bool
 exactFit m item p =
     cond (exact m)
-    (cond (three m)
-    (not (eqb (p .stage) 3) || eqb (item .width) (p .width))
-    (not (eqb (p .stage) 2) || eqb (item .height) (p .height)))
+    (cond (three m) (widthAtThree item p) (heightAtTwo item p))
     true
 
 -- the item may be cut from the plate
@@ -42,20 +48,31 @@ mayCut m item p = leb (item .width) (p .width) && leb (item .height) (p .height)
 abbrev pub residuals : Plate → Plate → Residuals
 residuals top right = record { top = top; right = right }
 
--- "the cut leaves, with wi and hi for the item's sides": top and right, by the stage and the mode
+-- "The cut leaves, with wi and hi for the item's sides", in document 01's four rows:
+-- "Stage 1: top (w, h−hi, 1); right (w−wi, hi, 2)."
+abbrev pub stageOne : Item → Plate → Residuals
+stageOne item p = residuals (plate (p .width) (p .height - item .height) 1) (plate (p .width - item .width) (item .height) 2)
+
+-- "Stage 2, two-stage modes: right (w−wi, hi, 2); what lies above is waste."
+abbrev pub stageTwoOfTwo : Item → Plate → Residuals
+stageTwoOfTwo item p = residuals waste (plate (p .width - item .width) (item .height) 2)
+
+-- "Stage 2, three-stage modes: top (wi, h−hi, 3); right (w−wi, h, 2)."
+abbrev pub stageTwoOfThree : Item → Plate → Residuals
+stageTwoOfThree item p = residuals (plate (item .width) (p .height - item .height) 3) (plate (p .width - item .width) (p .height) 2)
+
+-- "Stage 3: top (wi, h−hi, 3); what lies beside is waste."
+abbrev pub stageThree : Item → Plate → Residuals
+stageThree item p = residuals (plate (item .width) (p .height - item .height) 3) waste
+
+-- the row that holds, by the plate's stage and the mode
 unfoldable pub leaves : Mode → Item → Plate → Residuals
 leaves m item p =
-    let w = p .width in
-    let h = p .height in
-    let wi = item .width in
-    let hi = item .height in
     cond (eqb (p .stage) 1)
-    (residuals (plate w (h - hi) 1) (plate (w - wi) hi 2))
+    (stageOne item p)
     (cond (eqb (p .stage) 2)
-    (cond (three m)
-    (residuals (plate wi (h - hi) 3) (plate (w - wi) h 2))
-    (residuals waste (plate (w - wi) hi 2)))
-    (residuals (plate wi (h - hi) 3) waste))
+    (cond (three m) (stageTwoOfThree item p) (stageTwoOfTwo item p))
+    (stageThree item p))
 
 -- "a residual is kept if at least one item type may be cut from it, otherwise it is waste"
 unfoldable pub kept : Job → Plate → Bool

@@ -1,17 +1,10 @@
 -- What the walk does within its limits, as statements: what 6 and 7 mean, where each residual type comes from, and that the limits are the only bounds.
-use Prim.Native.Nat.{ℕ, suc, _+_, _≤_, _<_}
+use Prim.Native.Nat.{ℕ, _+_, _≤_, _<_}
 use mathlib.Core.Path.{_≡_}
-use mathlib.Core.Logic.{_⊎_}
 use lib.ListN.{length}
 use Rattle.job.specs.Job.{Job}
-use Rattle.listing.specs.Listing.{Listing, going, stopped, cutAt, walkStart, overPlates, walkWithin}
-
--- plate type k is the top or the right of a cut on a plate type with a lower number
-pub record Left (l : Listing) (k : ℕ) : Type 0 where
-  pub cut : ℕ
-  pub listed : cut < length (l .cuts)
-  pub lower : cutAt l (suc cut) .plate < k
-  pub either : (cutAt l (suc cut) .top ≡ k) ⊎ (cutAt l (suc cut) .right ≡ k)
+use Rattle.listing.specs.Listing.{Listing, going, stopped, walkStart, overPlates, walkWithin}
+use Rattle.listing.specs.Numbering.{Left}
 
 -- a walk within P plate types and C cuts
 pub record WalkLaws (P C : ℕ) (job : Job) : Type 0 where

@@ -14,17 +14,19 @@ use Rattle.job.specs.Job.{jobOf, jobWords, admission}
 use Rattle.job.specs.Head.{HeadOf}
 use Rattle.job.proofs.Verdicts.{then-assoc, then-first, then-second}
 use Rattle.job.proofs.Buffers.{sized-pass}
-use Rattle.job.proofs.CodeEnds.{not5-refuse, ends-zeros}
+use Rattle.job.proofs.CodeEnds.{given-pass, not5-refuse, ends-zeros}
 use Rattle.listing.specs.Listing.{going, stopped, walkStart, walk, modelRow, listingOf, residualTypes}
+use Rattle.listing.specs.Numbering.{IsListing}
 use Rattle.listing.specs.ListCall.{listVerdict, platesEnd, cutsEnd}
 use Rattle.listing.specs.Plate.{plate}
 use Rattle.listing.specs.Records.{plateWords, cutWords}
 use Rattle.listing.specs.Holds.{Holds}
 use Rattle.listing.proofs.CodeHolds.{cleared}
-use Rattle.listing.proofs.Steps.{row-going, row-stopped, listing-going}
+use Rattle.listing.proofs.Steps.{row-going, row-stopped, row-listing, listing-going}
+use Rattle.listing.proofs.ListingExact.{listing-exact}
 use Rattle.listing_call.specs.declared.call.Listed.{Listed}
-use Rattle.listing_call.specs.declared.call.Listed.the-variants.{Done}
-use Rattle.listing_call.specs.ListSays.{SomePlate}
+use Rattle.listing_call.specs.declared.call.Listed.the-variants.{Done, Refused}
+use Rattle.listing_call.specs.ListSays.{saysOf, SomePlate, OnListed}
 use Rattle.listing_call.specs.Steps.{Rep, Here}
 
 -- before the walk: cleared buffers, and the board written as the first plate type
@@ -118,13 +120,31 @@ module _ (ws plates cuts : List ℕ) where
       let e = modelRow (jobOf ws) in
       sym (then-assoc (a then b) (c then d) e ∙ then-assoc a b ((c then d) then e) ∙ ap (λ (v : Verdict). a then b then v) (then-assoc c d e))
 
-  -- where these rows pass, the words are right and both buffers of full size
+  -- where these rows pass, the job is admitted
+  pub before-admitted : rowsBefore ws plates cuts ≡ pass → (jobWords ws then admission (jobOf ws)) ≡ pass
+  before-admitted e = then-first (jobWords ws then admission (jobOf ws)) _ e
+
+  -- and so the words are right and both buffers of full size
   pub before-passed : rowsBefore ws plates cuts ≡ pass → (jobWords ws ≡ pass) × ((platesSize ≤ length plates) × (cutsSize ≤ length cuts))
   before-passed e =
-      let a = then-first (jobWords ws then admission (jobOf ws)) _ e in
+      let a = before-admitted e in
       let b = then-second (jobWords ws then admission (jobOf ws)) _ e in
       (then-first (jobWords ws) _ a, (sized-pass 1 platesSize plates (then-first (sized 1 platesSize plates) _ b), sized-pass 2 cutsSize cuts (then-second (sized 1 platesSize plates) _ b)))
 
 -- a listing that is done has a plate type
 pub some-types : {a : Listed} {m : PlateTypes} {k : CutNumber} → a ≡ Done m k → SomePlate a → 1 ≤ m .0
 some-types e = subst SomePlate e
+
+-- what a call that succeeds has listed is the listing of the job
+pub listed-is :
+    (ws : List ℕ) (a : Listed)
+    → (jobWords ws then admission (jobOf ws)) ≡ pass
+    → saysOf a ≡ answer (modelRow (jobOf ws)) (listingResults ws)
+    → OnListed a (IsListing (jobOf ws) (listingOf (jobOf ws)))
+listed-is ws (Done m k) admitted e =
+    listing-exact .admitted ws admitted .walked (listingOf (jobOf ws)) .0 (row-listing (jobOf ws) (given-pass (modelRow (jobOf ws)) (listingResults ws) e))
+listed-is ws (Refused number place) admitted e = tt
+
+-- a call that succeeds keeps its promise
+pub listed-done : {a : Listed} {m : PlateTypes} {k : CutNumber} {promise : Type 0} → a ≡ Done m k → OnListed a promise → promise
+listed-done {promise = promise} e = subst (λ (x : Listed). OnListed x promise) e

@@ -11,59 +11,56 @@ use Rattle.job.specs.Job.{Job}
 use Rattle.listing.specs.declared.plate.Plate.{Plate}
 use Rattle.listing.specs.declared.plate.Residuals.{Residuals}
 use Rattle.listing.specs.Plate.{mayCut, leaves}
-use Rattle.listing.specs.Listing.{Listing, Walk, stopped, Entry, entered, cutDone, limited, pair}
+use Rattle.listing.specs.Listing.{Listing, Walk, going, stopped, Entry, entered, cutDone, limited, pair}
 use Rattle.listing.specs.Records.{cutWords}
 use Rattle.listing.specs.Holds.{Holds, cutOfWords}
 use Rattle.listing.proofs.Steps.{limited-cuts, limited-plates, limited-going, pair-skipped, pair-cut}
-use Rattle.listing_call.specs.Steps.{andThen, Here, EnteredIn}
+use Rattle.listing_call.specs.Steps.{Rep, Here, EnteredIn}
 use Rattle.listing_call.proofs.Entering.{entered-more}
 
-module _ (job : Job) (j : ℕ) (p : Plate) (i : ℕ) (item : Item) (rest : Listing → Walk) (whole : Walk) {plates cuts : List ℕ} {m k : ℕ} (h : Here (λ l. andThen (pair maxPlates maxCuts job j p i item l) rest) whole plates cuts m k) where
+module _ (job : Job) (j : ℕ) (p : Plate) (i : ℕ) (item : Item) (l : Listing) {plates cuts : List ℕ} {m k : ℕ} (h : Rep l plates cuts m k) where
+  abbrev of-pair : Walk
+  of-pair = pair maxPlates maxCuts job j p i item l
+
   -- the pair is not permitted
-  pub step-none : mayCut (job .mode) item p ≡ false → Here rest whole plates cuts m k
-  step-none e = record {
-    l = h .l;
-    rep = h .rep;
-    goes-on = sym (ap (λ (w : Walk). andThen w rest) (pair-skipped maxPlates maxCuts job j p i item (h .l) e)) ∙ h .goes-on;
-  }
+  pub step-none : mayCut (job .mode) item p ≡ false → Here going of-pair plates cuts m k
+  step-none e = record { l = l; rep = h; goes-on = sym (pair-skipped maxPlates maxCuts job j p i item l e) }
 
   -- the pair is permitted, and leaves `left`
   module _ (e : mayCut (job .mode) item p ≡ true) (left : Residuals) (el : left ≡ leaves (job .mode) item p) where
     abbrev top : Entry
-    top = entered job (left .top) (h .l .plates)
+    top = entered job (left .top) (l .plates)
 
     abbrev right : Entry
     right = entered job (left .right) (top .plates)
 
     abbrev after : Listing
-    after = record { plates = right .plates; cuts = h .l .cuts ++ cutOfWords j i (top .number) (right .number) ∷ [] }
+    after = record { plates = right .plates; cuts = l .cuts ++ cutOfWords j i (top .number) (right .number) ∷ [] }
 
-    permitted : andThen (limited maxPlates maxCuts job after) rest ≡ whole
+    permitted : limited maxPlates maxCuts job after ≡ of-pair
     unfolding cutDone
     permitted =
-        ap (λ (x : Residuals). andThen (limited maxPlates maxCuts job (cutDone job j i x (h .l))) rest) el
-        ∙ sym (ap (λ (w : Walk). andThen w rest) (pair-cut maxPlates maxCuts job j p i item (h .l) e))
-        ∙ h .goes-on
+        ap (λ (x : Residuals). limited maxPlates maxCuts job (cutDone job j i x l)) el
+        ∙ sym (pair-cut maxPlates maxCuts job j p i item l e)
 
     -- one cut more
     one-more : length (after .cuts) ≡ k + 1
     one-more = rw length-append (omega arith)
 
     -- an 8,193rd cut
-    pub step-cuts-full : maxCuts ≤ k → whole ≡ stopped 7
-    step-cuts-full full = sym permitted ∙ ap (λ (w : Walk). andThen w rest) (limited-cuts maxPlates maxCuts job after (omega (arith, one-more)))
+    pub step-cuts-full : maxCuts ≤ k → of-pair ≡ stopped 7
+    step-cuts-full full = sym permitted ∙ limited-cuts maxPlates maxCuts job after (omega (arith, one-more))
 
     module _ (few : k < maxCuts) where
       -- a 2,049th plate type, at the right residual or already at the top one
-      pub step-right-full : maxPlates < length (right .plates) → whole ≡ stopped 6
-      step-right-full full =
-          sym permitted ∙ ap (λ (w : Walk). andThen w rest) (limited-plates maxPlates maxCuts job after (omega (arith, one-more)) full)
+      pub step-right-full : maxPlates < length (right .plates) → of-pair ≡ stopped 6
+      step-right-full full = sym permitted ∙ limited-plates maxPlates maxCuts job after (omega (arith, one-more)) full
 
-      pub step-top-full : maxPlates < length (top .plates) → whole ≡ stopped 6
+      pub step-top-full : maxPlates < length (top .plates) → of-pair ≡ stopped 6
       step-top-full full = step-right-full (omega (arith, entered-more job (left .right) (top .plates)))
 
       -- both residuals are entered, and the cut is written
-      pub step-next : {t m₁ r m₂ : ℕ} {plates₁ plates₂ cuts₂ : List ℕ} → EnteredIn top t m₁ plates₁ → EnteredIn right r m₂ plates₂ → Holds cuts₂ (cutWords (h .l .cuts ++ cutOfWords j i t r ∷ [])) → Here rest whole plates₂ cuts₂ m₂ (k + 1)
+      pub step-next : {t m₁ r m₂ : ℕ} {plates₁ plates₂ cuts₂ : List ℕ} → EnteredIn top t m₁ plates₁ → EnteredIn right r m₂ plates₂ → Holds cuts₂ (cutWords (l .cuts ++ cutOfWords j i t r ∷ [])) → Here going of-pair plates₂ cuts₂ m₂ (k + 1)
       step-next a b c = record {
         l = after;
         rep = record {
@@ -73,7 +70,7 @@ module _ (job : Job) (j : ℕ) (p : Plate) (i : ℕ) (item : Item) (rest : Listi
           cut-count = one-more;
           few-plates = b .few;
           few-cuts = omega arith;
-          some-plate = omega (arith, entered-more job (left .top) (h .l .plates), entered-more job (left .right) (top .plates));
+          some-plate = omega (arith, h .some-plate, entered-more job (left .top) (l .plates), entered-more job (left .right) (top .plates));
         };
-        goes-on = sym (ap (λ (w : Walk). andThen w rest) (limited-going maxPlates maxCuts job after (omega (arith, one-more)) (omega arith))) ∙ permitted;
+        goes-on = sym (limited-going maxPlates maxCuts job after (omega (arith, one-more)) (omega arith)) ∙ permitted;
       }

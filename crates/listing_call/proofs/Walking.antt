@@ -18,7 +18,11 @@ use Rattle.listing.proofs.CodeHolds.{held-plate}
 use Rattle.listing.proofs.Steps.{plates-end}
 use Rattle.listing_call.specs.declared.walk.Step.{Step}
 use Rattle.listing_call.specs.declared.walk.Step.the-variants.{Next, Stop}
-use Rattle.listing_call.specs.Steps.{andThen, Rep, Here, Stepped}
+use Rattle.listing_call.specs.Steps.{Rep, Here, Stepped}
+
+-- the walk goes on with `rest` unless it has stopped
+abbrev pub andThen : Walk → (Listing → Walk) → Walk
+andThen w rest = elim w [ stopped n ↦ stopped n | going l ↦ rest l ]
 
 -- going on with f and then with g
 then-then : (w : Walk) (f g : Listing → Walk) → andThen (andThen w f) g ≡ andThen w (λ l. andThen (f l) g)
@@ -73,13 +77,22 @@ module _ (job : Job) (j : ℕ) {whole : Walk} {plates cuts : List ℕ} {m k : �
       }
 
   module _ (q : Plate) (i : ℕ) (h : Here (restRow job j q i) whole plates cuts m k) where
-    -- item type i is next
-    pub row-next : 1 ≤ i → i ≤ length (job .items) → Here (λ l. andThen (pair maxPlates maxCuts job j q i (itemAt job i) l) (restRow job j q (i + 1))) whole plates cuts m k
-    row-next a b = record {
-      l = h .l;
-      rep = h .rep;
-      goes-on = sym (ap (λ (w : Walk). andThen w (restWalk job (j + 1))) (row-turn job j q i (h .l) a b) ∙ then-then (pair maxPlates maxCuts job j q i (itemAt job i) (h .l)) _ _) ∙ h .goes-on;
-    }
+    module _ (a : 1 ≤ i) (b : i ≤ length (job .items)) where
+      -- item type i is next, and then those after it
+      turned : andThen (pair maxPlates maxCuts job j q i (itemAt job i) (h .l)) (restRow job j q (i + 1)) ≡ whole
+      turned = sym (ap (λ (w : Walk). andThen w (restWalk job (j + 1))) (row-turn job j q i (h .l) a b) ∙ then-then (pair maxPlates maxCuts job j q i (itemAt job i) (h .l)) _ _) ∙ h .goes-on
+
+      -- its pair goes on, and so does the row
+      pub row-next : {plates′ cuts′ : List ℕ} {m′ k′ : ℕ} → Here going (pair maxPlates maxCuts job j q i (itemAt job i) (h .l)) plates′ cuts′ m′ k′ → Here (restRow job j q (i + 1)) whole plates′ cuts′ m′ k′
+      row-next p = record {
+        l = p .l;
+        rep = p .rep;
+        goes-on = ap (λ (w : Walk). andThen w (restRow job j q (i + 1))) (p .goes-on) ∙ turned;
+      }
+
+      -- its pair stops, and so does the walk
+      pub row-stop : {number : ℕ} → pair maxPlates maxCuts job j q i (itemAt job i) (h .l) ≡ stopped number → whole ≡ stopped number
+      row-stop p = sym turned ∙ ap (λ (w : Walk). andThen w (restRow job j q (i + 1))) p
 
     -- past the last item type the row is at its end
     pub row-end : length (job .items) < i → Here (restWalk job (j + 1)) whole plates cuts m k
@@ -90,9 +103,9 @@ module _ (job : Job) (j : ℕ) {whole : Walk} {plates cuts : List ℕ} {m k : �
     }
 
 -- a step's answer taken apart
-module _ {rest : Listing → Walk} {whole : Walk} {a : Step} where
-  pub as-next : {m : PlateTypes} {k : CutNumber} {plates cuts : List ℕ} → a ≡ Next m k → Stepped rest whole a plates cuts → Here rest whole plates cuts (m .0) (k .0)
-  as-next {plates = plates} {cuts = cuts} e = subst (λ (x : Step). Stepped rest whole x plates cuts) e
+module _ {w : Walk} {a : Step} where
+  pub as-next : {m : PlateTypes} {k : CutNumber} {plates cuts : List ℕ} → a ≡ Next m k → Stepped w a plates cuts → Here going w plates cuts (m .0) (k .0)
+  as-next {plates = plates} {cuts = cuts} e = subst (λ (x : Step). Stepped w x plates cuts) e
 
-pub as-stop : (rest : Listing → Walk) {whole : Walk} {a : Step} {number : ℕ} (plates cuts : List ℕ) → a ≡ Stop number → Stepped rest whole a plates cuts → (whole ≡ stopped number) × (5 < number)
-as-stop rest {whole} plates cuts e = subst (λ (x : Step). Stepped rest whole x plates cuts) e
+pub as-stop : {w : Walk} {a : Step} {number : ℕ} (plates cuts : List ℕ) → a ≡ Stop number → Stepped w a plates cuts → (w ≡ stopped number) × (5 < number)
+as-stop {w} plates cuts e = subst (λ (x : Step). Stepped w x plates cuts) e

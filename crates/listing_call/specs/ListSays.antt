@@ -14,3 +14,8 @@ saysOf (Refused number place) = refused number place
 abbrev pub SomePlate : Listed → Type 0
 SomePlate (Done types cuts) = 1 ≤ types .0
 SomePlate (Refused number place) = Unit {0}
+
+-- what is promised of a call that succeeds
+abbrev pub OnListed : Listed → Type 0 → Type 0
+OnListed (Done types cuts) promise = promise
+OnListed (Refused number place) promise = Unit {0}

@@ -14,10 +14,6 @@ use Rattle.listing_call.specs.declared.entry.Entered.the-variants.{As, F
 use Rattle.listing_call.specs.declared.walk.Step.{Step}
 use Rattle.listing_call.specs.declared.walk.Step.the-variants.{Next, Stop}
 
--- the walk goes on with `rest` unless it has stopped
-abbrev pub andThen : Walk → (Listing → Walk) → Walk
-andThen w rest = elim w [ stopped n ↦ stopped n | going l ↦ rest l ]
-
 -- room for every plate type and every cut, and the job's words
 pub record Room (ws : List ℕ) (mode : Mode) (n : ℕ) (plates cuts : List ℕ) (m k : ℕ) : Type 0 where
   pub of-job : JobWords ws mode n
@@ -58,7 +54,7 @@ abbrev pub typesAfter : Entered → ℕ
 typesAfter (As j m) = m .0
 typesAfter Full = 0
 
--- a step of the walk, as the code answers it: the walk goes on with `rest`, or it has stopped with 6 or 7
-abbrev pub Stepped : (Listing → Walk) → Walk → Step → List ℕ → List ℕ → Type 0
-Stepped rest whole (Next m k) plates cuts = Here rest whole plates cuts (m .0) (k .0)
-Stepped rest whole (Stop number) plates cuts = (whole ≡ stopped number) × (5 < number)
+-- a walk, or a step of it, as the code answers it: it goes on with a listing, which the buffers then hold, or it has stopped with 6 or 7
+abbrev pub Stepped : Walk → Step → List ℕ → List ℕ → Type 0
+Stepped w (Next m k) plates cuts = Here going w plates cuts (m .0) (k .0)
+Stepped w (Stop number) plates cuts = (w ≡ stopped number) × (5 < number)

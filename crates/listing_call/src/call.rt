@@ -9,8 +9,9 @@ ghost use Rattle.job.specs.Buffers.{answer, sized};
 ghost use Rattle.job.specs.Job.{jobOf, jobWords, admission};
 ghost use Rattle.job.specs.Row.{rowVerdict};
 ghost use Rattle.listing.specs.Listing.{listingOf, modelRow, residualTypes};
+ghost use Rattle.listing.specs.Numbering.{IsListing};
 ghost use Rattle.listing.specs.ListCall.{listVerdict, listAnswer, platesEnd, cutsEnd};
-ghost use Rattle.listing_call.specs.ListSays.{saysOf, SomePlate};
+ghost use Rattle.listing_call.specs.ListSays.{saysOf, SomePlate, OnListed};
 use crate::walk::Step;
 use crate::walk::walk;
 use job::admit::check_job;
@@ -72,9 +73,11 @@ fn list_checks(job: &[u16], plates: &[u16], cuts: &[u16]) -> Row
 
 // The listing call: the plate types and cuts of a job into lent buffers, and the numbers of plate types and cuts.
 // Refused are 1 to 4 of the job; 5 a buffer shorter than its full size, plates 1, cuts 2; 6 and 7 of the model, naming 0. After 5 both buffers are
-// unchanged, after another refusal every word of them is 0, after success the unused words are 0.
+// unchanged, after another refusal every word of them is 0, after success the unused words are 0. On success what they hold is the listing of the job, of which
+// there is exactly one.
 pub fn list(job: &[u16], plates: &mut [u16], cuts: &mut [u16]) -> Listed
     ensures { λ a. ⌜ SomePlate a ⌝ }
+    ensures { λ a. ⌜ OnListed a (IsListing (jobOf (now (job .entry))) (listingOf (jobOf (now (job .entry))))) ⌝ }
     ensures { λ a. ⌜ saysOf a ≡ listAnswer (now (job .entry)) (now (plates .entry)) (now (cuts .entry)) ⌝ }
     ensures { λ _. ⌜ now (plates .exit) ≡ platesEnd (listVerdict (now (job .entry)) (now (plates .entry)) (now (cuts .entry))) (now (job .entry)) (now (plates .entry)) ⌝ }
     ensures { λ _. ⌜ now (cuts .exit) ≡ cutsEnd (listVerdict (now (job .entry)) (now (plates .entry)) (now (cuts .entry))) (now (job .entry)) (now (cuts .entry)) ⌝ }

@@ -2,8 +2,8 @@
 ghost use Prim.Native.Nat.{_≤_};
 ghost use Rattle.job.specs.Sizes.{maxPlates, maxCuts};
 ghost use Rattle.job.specs.Job.{jobOf, itemAt};
-ghost use Rattle.listing.specs.Listing.{Listing, Walk, going, walkStart, pair, walk};
-ghost use Rattle.listing_call.specs.Steps.{andThen, Room, Rep, Here, Stepped};
+ghost use Rattle.listing.specs.Listing.{Listing, walkStart, pair, walk};
+ghost use Rattle.listing_call.specs.Steps.{Room, Rep, Stepped};
 use crate::entry::Entered;
 use crate::entry::enter;
 use job::counters::CutNumber;
@@ -25,7 +25,8 @@ pub enum Step {
     Stop(u16),
 }
 
-// The pair of plate type j, which is `plate`, and item type i: a permitted one becomes the next cut, and its residuals are entered.
+// The pair of plate type j, which is `plate`, and item type i: a permitted one becomes the next cut, and its residuals are entered. Whatever listing the
+// buffers hold, they end as `pair` makes it, or the step stops where `pair` does.
 pub fn pair_step(
     job: &[u16],
     mode: Mode,
@@ -40,7 +41,7 @@ pub fn pair_step(
 ) -> Step
     requires { ⌜ Room (now job) mode (n .0) (now plates) (now cuts) (m .0) (k .0) ⌝ }
     requires { ⌜ (1 ≤ i .0) × (i .0 ≤ n .0) ⌝ }
-    ensures { λ a. ⌜ ((rest : Listing → Walk) (whole : Walk) → Here (λ l. andThen (pair maxPlates maxCuts (jobOf (now (job .entry))) (j .0) plate (i .0) (itemAt (jobOf (now (job .entry))) (i .0)) l) rest) whole (now (plates .entry)) (now (cuts .entry)) (m .0) (k .0) → Stepped rest whole a (now (plates .exit)) (now (cuts .exit))) ⌝ }
+    ensures { λ a. ⌜ ((l : Listing) → Rep l (now (plates .entry)) (now (cuts .entry)) (m .0) (k .0) → Stepped (pair maxPlates maxCuts (jobOf (now (job .entry))) (j .0) plate (i .0) (itemAt (jobOf (now (job .entry))) (i .0)) l) a (now (plates .exit)) (now (cuts .exit))) ⌝ }
 {
     let item = item_at(job, i);
     if !may_cut(mode, item, plate) {
@@ -67,7 +68,7 @@ pub fn pair_step(
 pub fn walk(job: &[u16], mode: Mode, n: ItemType, plates: &mut [u16], cuts: &mut [u16]) -> Step
     requires { ⌜ Room (now job) mode (n .0) (now plates) (now cuts) 1 0 ⌝ }
     requires { ⌜ Rep (walkStart (jobOf (now job))) (now plates) (now cuts) 1 0 ⌝ }
-    ensures { λ a. ⌜ Stepped going (walk (jobOf (now (job .entry)))) a (now (plates .exit)) (now (cuts .exit)) ⌝ }
+    ensures { λ a. ⌜ Stepped (walk (jobOf (now (job .entry)))) a (now (plates .exit)) (now (cuts .exit)) ⌝ }
 {
     let last = n.0;
     let mut m = PlateTypes(1);

@@ -3,14 +3,18 @@ use Prim.Native.Nat.{ℕ, zero, suc, _*_, _-_, _≤_, _<_}
 use native.Mathlib.Omega.{arith}
 use mathlib.Core.Path.{_≡_, refl}
 use mathlib.Core.Logic.{_↔_}
-use mathlib.Core.Bool.{true}
-use lib.ListN.{length}
+use mathlib.Core.Bool.{true, false}
+use mathlib.Core.List.{List, [], _∷_}
+use lib.Dec.{ltb}
+use lib.ListN.{length, getD}
 use borrow.Author.Tests.{ltb-true, ltb-false, lt-ltb, le-ltb}
+use Rattle.job.specs.Sizes.{maxPrice}
 use Rattle.job.specs.Verdict.{pass}
 use Rattle.job.specs.Job.{Job}
-use Rattle.job.proofs.Decides.{passes-places}
+use Rattle.job.specs.Admitted.{Between}
+use Rattle.job.proofs.Decides.{decides-within, Passes, passes-then, passes-test, passes-places}
 use Rattle.listing.specs.Listing.{Listing, cutAt, noCut}
-use Rattle.plan.specs.Prices.{Prices, residualPrice, priceLimit, worth, overLimit, pricesRow, priceSum, fewest}
+use Rattle.plan.specs.Prices.{Prices, priceWords, residualPrice, priceLimit, worth, overLimit, pricesRow, priceSum, fewest}
 use Rattle.plan.specs.Feasible.{DualFeasible}
 
 -- the limit of a cut on type 0, and of a cut on a residual type
@@ -52,3 +56,22 @@ module _ (l : Listing) (ps : Prices) where
 pub fewest-exact : (job : Job) (ps : Prices) (n : ℕ) → (fewest job ps n ≡ true) ↔ ((n - 1) * ps .denominator < priceSum job ps)
 unfolding fewest
 fewest-exact job ps n = (ltb-true _ _, lt-ltb _ _)
+
+-- the line row of price words passes exactly where D and every price is within its limits
+pub price-words-exact :
+    (ws : List ℕ)
+    → 1 ≤ length ws
+    → (priceWords ws ≡ pass) ↔ (Between 1 maxPrice (getD ws 0 0) × ((k : ℕ) → 1 ≤ k → k < length ws → getD ws k 0 ≤ maxPrice))
+unfolding priceWords
+price-words-exact [] some = absurd (omega arith)
+price-words-exact (d ∷ prices) some = (λ h. (rows .0 h .0, to (rows .0 h .1)), λ r. rows .1 (r .0, from (r .1)))
+  where
+    rows : Passes (priceWords (d ∷ prices)) (Between 1 maxPrice d × ((i : ℕ) → i < length prices → ltb maxPrice (getD prices i 0) ≡ false))
+    rows = passes-then (passes-test 2 1 (decides-within 1 maxPrice d)) (passes-places 2 (λ _ x. ltb maxPrice x) 0 2 prices)
+
+    to : ((i : ℕ) → i < length prices → ltb maxPrice (getD prices i 0) ≡ false) → (k : ℕ) → 1 ≤ k → k < length (d ∷ prices) → getD (d ∷ prices) k 0 ≤ maxPrice
+    to f zero p q = absurd (omega arith)
+    to f (suc k) p q = ltb-false _ _ (f k (omega arith))
+
+    from : ((k : ℕ) → 1 ≤ k → k < length (d ∷ prices) → getD (d ∷ prices) k 0 ≤ maxPrice) → (i : ℕ) → i < length prices → ltb maxPrice (getD prices i 0) ≡ false
+    from f i p = le-ltb _ _ (f (suc i) (omega arith) (omega arith))

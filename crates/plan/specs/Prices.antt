@@ -1,12 +1,12 @@
 -- Document 01, "Prices": a denominator and prices, when they are refused, and the bound that they give.
 use Prim.Native.Nat.{ℕ, zero, suc, _+_, _*_, _-_}
-use mathlib.Core.Bool.{Bool, cond, not, _||_}
+use mathlib.Core.Bool.{Bool, not, _||_}
 use mathlib.Core.List.{List, [], _∷_}
 use lib.Dec.{ltb, eqb}
 use lib.ListN.{length, getD, take, drop}
 pub use Rattle.job.specs.Sizes.{maxPrice}
 use Rattle.job.specs.declared.item.Item.{Item}
-use Rattle.job.specs.Verdict.{Verdict, refuseIf, within, lowest}
+use Rattle.job.specs.Verdict.{Verdict, pass, _then_, refuseIf, within, lowest}
 use Rattle.job.specs.Job.{Job}
 use Rattle.listing.specs.Listing.{Cut, Listing, residualTypes}
 
@@ -24,13 +24,12 @@ pricesAt n ws = record { denominator = getD ws 0 0; items = take n (drop 1 ws); 
 unfoldable pub pricesOf : Job → List ℕ → Prices
 pricesOf job ws = pricesAt (length (job .items)) ws
 
--- the lowest value of word k, from 1: D is at least 1, a price at least 0
-unfoldable pub lowestPrice : ℕ → ℕ
-lowestPrice k = cond (eqb k 1) 1 0
-
--- the line row of price words: 2 "a price above 9,999, or a D outside its limits", naming the word from 1
+-- the line row of price words: 2 "a price above 9,999, or a D outside its limits", "naming the word from 1"; D is word 1, the prices come after it
 unfoldable pub priceWords : List ℕ → Verdict
-priceWords ws = lowest 2 (λ k x. not (within (lowestPrice k) maxPrice x)) 1 ws
+priceWords [] = pass
+priceWords (d ∷ prices) =
+    refuseIf (not (within 1 maxPrice d)) 2 1
+    then lowest 2 (λ _ price. ltb maxPrice price) 2 prices
 
 -- the price of item type i, from 1
 unfoldable pub itemPrice : Prices → ℕ → ℕ

@@ -1,24 +1,13 @@
 -- How a call ends whose rows come in two parts, the model and what is tested by it, on plain values: its answer, and what it leaves in plates and cuts.
-use mathlib.Core.Path.{_≡_, refl, sym, _∙_}
+use mathlib.Core.Path.{_≡_, sym, _∙_}
 use Prim.Native.Nat.{ℕ}
 use mathlib.Core.List.{List}
-use native.Mathlib.Omega.{arith}
 use lib.ListN.{length, replicate}
-use Rattle.job.specs.Verdict.{Verdict, pass, refuse, _then_}
+use Rattle.job.specs.Verdict.{Verdict, refuse, _then_}
 use Rattle.job.specs.Buffers.{given, refused, answer}
-use Rattle.job.proofs.CodeEnds.{Not5, ends-zeros}
+use Rattle.job.proofs.CodeEnds.{given-pass, refused-refuse, Not5, ends-zeros}
 use Rattle.listing.specs.ListCall.{platesEnd, cutsEnd}
 pub use Rattle.listing_call.proofs.CodeEnding.{Ended, zeros}
-
--- results are given only where the verdict passes
-pub given-pass : (v : Verdict) (bs : List ℕ) {xs : List ℕ} → given xs ≡ answer v bs → v ≡ pass
-given-pass pass bs e = refl
-given-pass (refuse number place) bs e = let z : _≡_ {A = ℕ} 0 1 = cc in absurd (omega arith)
-
--- a refusal is the verdict's
-pub refused-refuse : (v : Verdict) (bs : List ℕ) {number place : ℕ} → refused number place ≡ answer v bs → v ≡ refuse number place
-refused-refuse pass bs e = let z : _≡_ {A = ℕ} 0 1 = cc in absurd (omega arith)
-refused-refuse (refuse n p) bs e = cc
 
 -- a refusal with another number than 5, after which both buffers have been cleared
 pub cleared-end : (ws plates cuts plates′ cuts′ : List ℕ) (v : Verdict) (bs : List ℕ) {number place : ℕ} → v ≡ refuse number place → Not5 v → plates′ ≡ replicate (length plates) 0 → cuts′ ≡ replicate (length cuts) 0 → Ended v bs ws plates cuts (refused number place) plates′ cuts′

@@ -12,6 +12,7 @@ use Rattle.job.proofs.CodeItems.{items-length}
 use Rattle.job.proofs.CodeAdmission.{passed-length, passed-few}
 use Rattle.job.proofs.Verdicts.{then-both}
 use Rattle.job.proofs.Admission.{admitted-words, admitted-job, admitted-sided}
+use Rattle.job.proofs.CodeEnds.{given-pass}
 use Rattle.listing.specs.Listing.{Listing, cutAt, modelRow, listingOf, residualTypes}
 use Rattle.listing.specs.Model.{Model}
 use Rattle.listing.specs.Records.{cutWords}
@@ -22,7 +23,6 @@ use Rattle.listing.proofs.WalkModel.{row-model}
 use Rattle.listing.specs.CutRead.{cutsRead, Sound, Lent}
 use Rattle.listing.proofs.CodeCuts.{held-cuts}
 use Rattle.listing_call.proofs.CodeEnding.{listingResults}
-use Rattle.plan_test.proofs.CodeCall.{given-pass}
 
 -- the cuts of the model are in range
 model-sound : (job : Job) (l : Listing) → Model job l → Sound (length (l .plates)) (length (job .items)) (l .cuts)

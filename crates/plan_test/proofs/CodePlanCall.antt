@@ -1,20 +1,25 @@
 -- The plan test's rows in their order, on plain values: those before the model, and those from it on.
 use mathlib.Core.Path.{_≡_, sym, ap, _∙_}
+use mathlib.Core.Logic.{_↔_}
 use Prim.Native.Nat.{ℕ, _≤_}
-use mathlib.Core.List.{List}
+use mathlib.Core.List.{List, [], _∷_}
 use native.Mathlib.Omega.{arith}
 use lib.Dec.{ltb}
 use lib.ListN.{length, drop}
 use Rattle.job.specs.Sizes.{maxPieces, platesSize, cutsSize, countsSize}
 use Rattle.job.specs.Verdict.{Verdict, pass, _then_, refuseIf, lowest}
-use Rattle.job.specs.Buffers.{sized}
+use Rattle.job.specs.Buffers.{Answer, sized}
 use Rattle.job.specs.Job.{Job, jobOf, jobWords, admission}
 use Rattle.job.proofs.Verdicts.{then-assoc, then-assoc-3, then-first, then-second}
 use Rattle.job.proofs.Buffers.{sized-pass}
 use Rattle.job.proofs.CodeEnds.{Not5, not5-if, not5-then, not5-lowest}
-use Rattle.listing.specs.Listing.{Listing}
-use Rattle.plan.specs.Plan.{total, short, overdrawn, countsRow, planRow}
-use Rattle.plan.specs.PlanCall.{planVerdict}
+use Rattle.listing.specs.Listing.{Listing, listingOf}
+use Rattle.listing.specs.ListCall.{platesEnd, cutsEnd}
+use Rattle.listing_call.proofs.CodeEnding.{Ended}
+use Rattle.plan.specs.Plan.{boards, total, short, overdrawn, countsRow, planRow}
+use Rattle.plan.specs.PlanCall.{planVerdict, planAnswer}
+use Rattle.plan.specs.Exactly.{Accepts, PlanRight}
+use Rattle.plan.proofs.AcceptsExactly.{accepts-exactly, answer-accepts}
 use Rattle.plan_test.specs.PlanSays.{planTail}
 
 -- the plan row does not refuse with 5
@@ -50,3 +55,15 @@ module _ (ws counts plates cuts : List ℕ) where
       let b = then-second (jobWords ws then admission (jobOf ws)) _ e in
       let d = then-second (sized 1 platesSize plates) _ b in
       (then-first (jobWords ws then admission (jobOf ws)) _ e, (sized-pass 1 platesSize plates (then-first (sized 1 platesSize plates) _ b), (sized-pass 2 cutsSize cuts (then-first (sized 2 cutsSize cuts) _ d), sized-pass 3 countsSize counts (then-second (sized 2 cutsSize cuts) _ d))))
+
+  -- what the call ensures: its answer, both buffers, and what it accepts
+  pub with-exactly :
+      (a : Answer) {plates′ cuts′ : List ℕ}
+      → Ended (planVerdict ws counts plates cuts) (boards (listingOf (jobOf ws)) counts ∷ []) ws plates cuts a plates′ cuts′
+      → (a ≡ planAnswer ws counts plates cuts)
+      × ((plates′ ≡ platesEnd (planVerdict ws counts plates cuts) ws plates)
+      × ((cuts′ ≡ cutsEnd (planVerdict ws counts plates cuts) ws cuts)
+      × (Accepts a ↔ PlanRight ws counts plates cuts)))
+  unfolding planAnswer
+  with-exactly a h =
+      (h .0, (h .1 .0, (h .1 .1, answer-accepts (planVerdict ws counts plates cuts) _ a (h .0) (accepts-exactly .plans ws counts plates cuts))))

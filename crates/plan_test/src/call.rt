@@ -1,5 +1,6 @@
 // The plan test, as a call over lent buffers.
 ghost use mathlib.Core.Path.{_≡_};
+ghost use mathlib.Core.Logic.{_↔_};
 ghost use mathlib.Core.List.{[], _∷_};
 ghost use Prim.Native.Nat.{_≤_};
 ghost use lib.ListN.{length};
@@ -12,6 +13,7 @@ ghost use Rattle.listing.specs.Listing.{listingOf};
 ghost use Rattle.listing.specs.ListCall.{platesEnd, cutsEnd};
 ghost use Rattle.plan.specs.Plan.{boards};
 ghost use Rattle.plan.specs.PlanCall.{planVerdict, planAnswer};
+ghost use Rattle.plan.specs.Exactly.{Accepts, PlanRight};
 ghost use Rattle.plan_test.specs.PlanSays.{saysOf, planTail};
 use crate::plan_row::PlanAnswer;
 use crate::plan_row::plan_rows;
@@ -62,11 +64,13 @@ fn plan_checks(job: &[u16], counts: &[u16], plates: &[u16], cuts: &[u16]) -> Row
 // The plan test: the number of boards that a plan opens, where it is accepted.
 // Refused are 1 to 4 of the job; 5 a buffer shorter than its full size, plates 1, cuts 2, counts 3; 6 and 7 of the model, naming 0; 8 a nonzero count
 // past the last cut, naming the cut that it would be; 10 a total above 4,000, naming 0; 11 a type short; 12 a plate type overdrawn. Plates and cuts end
-// as the listing; after 5 they are unchanged, after another refusal every word of them is 0.
+// as the listing; after 5 they are unchanged, after another refusal every word of them is 0. A plan is accepted exactly when all that `PlanRight` names
+// is right.
 pub fn test_plan(job: &[u16], counts: &[u16], plates: &mut [u16], cuts: &mut [u16]) -> PlanAnswer
     ensures { λ r. ⌜ saysOf r ≡ planAnswer (now (job .entry)) (now (counts .entry)) (now (plates .entry)) (now (cuts .entry)) ⌝ }
     ensures { λ _. ⌜ now (plates .exit) ≡ platesEnd (planVerdict (now (job .entry)) (now (counts .entry)) (now (plates .entry)) (now (cuts .entry))) (now (job .entry)) (now (plates .entry)) ⌝ }
     ensures { λ _. ⌜ now (cuts .exit) ≡ cutsEnd (planVerdict (now (job .entry)) (now (counts .entry)) (now (plates .entry)) (now (cuts .entry))) (now (job .entry)) (now (cuts .entry)) ⌝ }
+    ensures { λ r. ⌜ Accepts (saysOf r) ↔ PlanRight (now (job .entry)) (now (counts .entry)) (now (plates .entry)) (now (cuts .entry)) ⌝ }
 {
     match plan_checks(job, counts, plates, cuts) {
         Row::Refuses(number, place) => {

@@ -1,24 +1,27 @@
--- The promise of demand 3 in the price test: prices that it accepts bound every set of layouts.
+-- What the price test accepts, and its promise of demand 3: prices that it accepts bound every set of layouts.
 use Prim.Native.Nat.{ℕ}
 use mathlib.Core.Path.{_≡_}
+use mathlib.Core.Logic.{_↔_}
 use mathlib.Core.List.{List, [], _∷_}
 use Rattle.job.specs.Sizes.{platesSize, cutsSize}
 use Rattle.job.specs.Verdict.{pass, _then_}
 use Rattle.job.specs.Buffers.{given, sized}
 use Rattle.job.specs.Job.{jobOf, jobWords, admission}
 use Rattle.job.proofs.Verdicts.{then-first, then-second, then-both}
+use Rattle.job.proofs.CodeEnds.{given-pass}
 use Rattle.listing.specs.Listing.{modelRow}
 use Rattle.listing.specs.ListCall.{platesEnd, cutsEnd}
 use Rattle.plan.specs.Prices.{pricesOf, priceWords, priceSum}
 use Rattle.plan.specs.PriceCall.{priceVerdict, priceAnswer}
+use Rattle.plan.specs.Exactly.{Accepts, PricesRight}
+use Rattle.plan.proofs.AcceptsExactly.{accepts-exactly, answer-accepts}
 use Rattle.layouts.specs.Demand3.{J, L, Listed, Priced}
+use Rattle.layouts.specs.Promises.{PricePromise}
 use Rattle.layouts.proofs.demand.Demand3.{demand3}
 use Rattle.price_test.specs.declared.prices.PriceAnswer.{PriceAnswer}
 use Rattle.price_test.specs.declared.prices.PriceAnswer.the-variants.{Accepted, Refused}
-use Rattle.price_test.specs.PriceSays.{saysOf, sumAndD, priceTail}
-use Rattle.price_test.specs.PriceBound.{Bounds, OnAccepted}
+use Rattle.price_test.specs.PriceSays.{saysOf, OnAccepted, sumAndD, priceTail}
 use Rattle.listing_call.proofs.CodeEnding.{Ended}
-use Rattle.plan_test.proofs.CodeCall.{given-pass}
 
 module _ (ws prices plates cuts : List ℕ) where
   -- a call that accepts has passed every row
@@ -45,11 +48,11 @@ module _ (ws prices plates cuts : List ℕ) where
     priced : Priced (J ws) (L ws) prices
     priced = then-both (priceWords prices) _ (then-first (priceWords prices) _ after-words) (then-second (modelRow (jobOf ws)) _ tail)
 
-    bounds : Bounds ws (priceSum (jobOf ws) (pricesOf (jobOf ws) prices)) (pricesOf (jobOf ws) prices .denominator)
-    bounds = demand3 ws listed .bounds prices priced
+    bounds : PricePromise ws (priceSum (jobOf ws) (pricesOf (jobOf ws) prices)) (pricesOf (jobOf ws) prices .denominator)
+    bounds = demand3 .every-listed ws listed .bounds prices priced
 
   -- what the test accepts bounds
-  promised : (r : PriceAnswer) → saysOf r ≡ priceAnswer ws prices plates cuts → OnAccepted r (Bounds ws)
+  promised : (r : PriceAnswer) → saysOf r ≡ priceAnswer ws prices plates cuts → OnAccepted r (PricePromise ws)
   unfolding priceAnswer
   promised (Refused number place) e = tt
   promised (Accepted sum d) e =
@@ -59,12 +62,15 @@ module _ (ws prices plates cuts : List ℕ) where
       let t : d ≡ pricesOf (jobOf ws) prices .denominator = cc in
       rw (s, t) (bounds p)
 
-  -- what the call ensures, with its promise
+  -- what the call ensures: its answer, both buffers, what it accepts, and its promise
   pub with-bound :
       (r : PriceAnswer) {plates′ cuts′ : List ℕ}
       → Ended (priceVerdict ws prices plates cuts) (sumAndD (jobOf ws) prices) ws plates cuts (saysOf r) plates′ cuts′
       → (saysOf r ≡ priceAnswer ws prices plates cuts)
       × ((plates′ ≡ platesEnd (priceVerdict ws prices plates cuts) ws plates)
-      × ((cuts′ ≡ cutsEnd (priceVerdict ws prices plates cuts) ws cuts) × OnAccepted r (Bounds ws)))
+      × ((cuts′ ≡ cutsEnd (priceVerdict ws prices plates cuts) ws cuts)
+      × ((Accepts (saysOf r) ↔ PricesRight ws prices plates cuts) × OnAccepted r (PricePromise ws))))
   unfolding priceAnswer
-  with-bound r h = (h .0, (h .1 .0, (h .1 .1, promised r (h .0))))
+  with-bound r h =
+      let exactly = answer-accepts (priceVerdict ws prices plates cuts) _ (saysOf r) (h .0) (accepts-exactly .prices ws prices plates cuts) in
+      (h .0, (h .1 .0, (h .1 .1, (exactly, promised r (h .0)))))

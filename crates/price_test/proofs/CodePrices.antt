@@ -1,24 +1,25 @@
 -- The price words that the code reads are the prices of the definitions; 2 and 14 as the code decides them; the sum of price times demand.
 use mathlib.Core.Path.{_≡_, refl, sym, _∙_}
 use Prim.Native.Nat.{ℕ, zero, suc, _+_, _*_, _-_, _≤_, _<_, min}
+use mathlib.Core.Logic.{_⊎_, inl, inr}
 use mathlib.Core.Bool.{Bool, true, false, not}
 use mathlib.Core.List.{List, [], _∷_}
 use native.Mathlib.Omega.{arith}
 use native.Mathlib.Nat.{mul-le-mul, pos-of-ne-zero}
-use borrow.Author.Tests.{ltb-true, ltb-false, eqb-true, not-false}
-use lib.Dec.{ltb, eqb}
+use borrow.Author.Tests.{ltb-true, ltb-false, lt-ltb, le-ltb, not-false}
+use lib.Dec.{ltb}
 use lib.ListN.{length, getD, take, drop, length-take, length-drop, List·getD-eq-default}
 use lib.Seq.{getD-take, getD-drop, drop-cons}
 use Rattle.job.specs.declared.item.Item.{Item}
 use Rattle.job.specs.Sizes.{maxPieces, maxPrice, jobSize}
-use Rattle.job.specs.Verdict.{pass, refuse, lowest, within}
+use Rattle.job.specs.Verdict.{pass, refuse, refuseIf, lowest, within}
 use Rattle.job.specs.Job.{Job, jobOf, itemAt, jobWords}
 use Rattle.job.proofs.CodeItems.{items-from, items-end}
-use Rattle.job.proofs.Tests.{within-high, within-limits, above-limits}
-use Rattle.job.proofs.Verdicts.{lowest-good}
+use Rattle.job.proofs.Tests.{within-high, within-limits, above-limits, at-most-or-above}
+use Rattle.job.proofs.Verdicts.{then-first, then-second, refuseIf-pass, lowest-good}
 use Rattle.job.proofs.Admission.{words-right}
 use Rattle.listing.specs.Listing.{Cut}
-use Rattle.plan.specs.Prices.{Prices, pricesAt, lowestPrice, priceWords, itemPrice, residualPrice, priceLimit, worth, overLimit, priced}
+use Rattle.plan.specs.Prices.{Prices, pricesAt, priceWords, itemPrice, residualPrice, priceLimit, worth, overLimit, priced}
 
 -- prices by their words
 module _ (n : ℕ) (ws : List ℕ) where
@@ -46,44 +47,40 @@ module _ (n : ℕ) (ws : List ℕ) where
 pub over-said : (ps : Prices) {b t : Bool} {x y z : Cut} → b ≡ overLimit ps x → x ≡ y → z ≡ y → b ≡ t → overLimit ps z ≡ t
 over-said ps e f g h = cc
 
--- a word above 9,999 is outside its limits
-pub word-high : (k x : ℕ) → maxPrice < x → not (within (lowestPrice k) maxPrice x) ≡ true
-word-high k x h = rw (above-limits (lowestPrice k) maxPrice x h)
-
--- one that is not, and for D is not 0, is within them
-above-lowest : (k x : ℕ) (t : Bool) → eqb k 1 ≡ t → (k ≡ 1 → 1 ≤ x) → lowestPrice k ≤ x
-unfolding lowestPrice
-above-lowest k x true e h = rw e (h (eqb-true k 1 e))
-above-lowest k x false e h = rw e (omega arith)
-
-pub word-right : (k x : ℕ) → (k ≡ 1 → 1 ≤ x) → x ≤ maxPrice → not (within (lowestPrice k) maxPrice x) ≡ false
-word-right k x d h = rw (within-limits (lowestPrice k) maxPrice x (above-lowest k x (eqb k 1) refl d) h)
-
--- word 1 is D
-pub first-word : (ws : List ℕ) (i : ℕ) → i + 1 ≡ 1 → (getD ws 0 0 ≡ 0 → ⊥) → 1 ≤ getD ws i 0
-first-word ws i e h = let z : i ≡ 0 = omega arith in rw z (pos-of-ne-zero h)
-
 -- no words at all pass
 pub no-words : (ws : List ℕ) → length ws ≡ 0 → pass ≡ priceWords ws
-unfolding priceWords lowest
+unfolding priceWords
 no-words [] h = refl
 no-words (d ∷ ws) h = absurd (omega arith)
 
 -- a D of 0 is word 1
 pub no-denominator : (ws : List ℕ) → (length ws ≡ 0 → ⊥) → getD ws 0 0 ≡ 0 → refuse 2 1 ≡ priceWords ws
-unfolding priceWords lowestPrice lowest
+unfolding priceWords
 no-denominator [] h e = absurd (h refl)
-no-denominator (d ∷ ws) h e = rw (e, lowest)
+no-denominator (d ∷ ws) h e = rw e
+
+-- where D is not 0, it has the limit of the prices
+pub words-all : (ws : List ℕ) → (getD ws 0 0 ≡ 0 → ⊥) → priceWords ws ≡ lowest 2 (λ _ x. ltb maxPrice x) 1 ws
+unfolding priceWords lowest
+words-all [] h = refl
+words-all (d ∷ ws) h = go (at-most-or-above d maxPrice)
+  where
+    go : (d ≤ maxPrice) ⊎ (maxPrice < d) → priceWords (d ∷ ws) ≡ lowest 2 (λ _ x. ltb maxPrice x) 1 (d ∷ ws)
+    go (inl l) = rw (within-limits 1 maxPrice d (pos-of-ne-zero h) l, lowest, le-ltb maxPrice d l)
+    go (inr l) = rw (above-limits 1 maxPrice d l, lowest, lt-ltb maxPrice d l)
 
 -- words that passed are at most 9,999
 pub prices-small : (ws : List ℕ) → priceWords ws ≡ pass → (i : ℕ) → getD ws i 0 ≤ maxPrice
 unfolding priceWords
-prices-small ws e i = go (ltb i (length ws)) refl
+prices-small [] e i = omega arith
+prices-small (d ∷ ws) e zero =
+    within-high 1 maxPrice d (not-false _ (refuseIf-pass (not (within 1 maxPrice d)) 2 1 (then-first (refuseIf (not (within 1 maxPrice d)) 2 1) _ e)))
+prices-small (d ∷ ws) e (suc i) = go (ltb i (length ws)) refl
   where
     go : (t : Bool) → ltb i (length ws) ≡ t → getD ws i 0 ≤ maxPrice
     go true h =
-        within-high (lowestPrice (1 + i)) maxPrice (getD ws i 0)
-        (not-false _ (lowest-good 2 (λ k x. not (within (lowestPrice k) maxPrice x)) 0 1 ws e i (ltb-true _ _ h)))
+        ltb-false maxPrice (getD ws i 0)
+        (lowest-good 2 (λ _ x. ltb maxPrice x) 0 2 ws (then-second (refuseIf (not (within 1 maxPrice d)) 2 1) _ e) i (ltb-true _ _ h))
     go false h = rw (List·getD-eq-default ws 0 {n = i} (ltb-false _ _ h)) (omega arith)
 
 -- demands of words that passed are at most 4,000

@@ -1,3 +1,2 @@
--- The definitions of this crate: what the answer of the price test says, and what it promises.
+-- The definitions of this crate: what the answer of the price test says.
 pub mod PriceSays
-pub mod PriceBound

@@ -13,6 +13,11 @@ abbrev pub saysOf : PriceAnswer → Answer
 saysOf (Accepted sum d) = given (sum ∷ d ∷ [])
 saysOf (Refused number place) = refused number place
 
+-- what is promised of prices that are accepted
+abbrev pub OnAccepted : PriceAnswer → (ℕ → ℕ → Type 0) → Type 0
+OnAccepted (Accepted sum d) promise = promise sum d
+OnAccepted (Refused number place) promise = Unit {0}
+
 -- the rows from the model on
 abbrev pub priceTail : Job → List ℕ → Verdict
 priceTail job ws = modelRow job then pricesSized job (listingOf job) ws then pricesRow (listingOf job) (pricesOf job ws)

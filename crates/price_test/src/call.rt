@@ -1,5 +1,6 @@
 // The price test, as a call over lent buffers.
 ghost use mathlib.Core.Path.{_≡_};
+ghost use mathlib.Core.Logic.{_↔_};
 ghost use Prim.Native.Nat.{_≤_};
 ghost use lib.ListN.{length};
 ghost use Rattle.job.specs.Sizes.{platesSize, cutsSize};
@@ -10,8 +11,9 @@ ghost use Rattle.job.specs.Job.{jobOf, jobWords, admission};
 ghost use Rattle.listing.specs.ListCall.{platesEnd, cutsEnd};
 ghost use Rattle.plan.specs.Prices.{priceWords};
 ghost use Rattle.plan.specs.PriceCall.{priceVerdict, priceAnswer};
-ghost use Rattle.price_test.specs.PriceSays.{saysOf, sumAndD, priceTail};
-ghost use Rattle.price_test.specs.PriceBound.{Bounds, OnAccepted};
+ghost use Rattle.plan.specs.Exactly.{Accepts, PricesRight};
+ghost use Rattle.layouts.specs.Promises.{PricePromise};
+ghost use Rattle.price_test.specs.PriceSays.{saysOf, OnAccepted, sumAndD, priceTail};
 use crate::prices::PriceAnswer;
 use crate::prices::price_rows;
 use crate::prices::price_words;
@@ -78,13 +80,14 @@ fn price_into(job: &[u16], prices: &[u16], plates: &mut [u16], cuts: &mut [u16])
 // The price test: the sum of price times demand, and D, where the prices are accepted.
 // Refused are 1 and 2 of the job's words; 2 a price word outside its limits, naming it from 1; 3 and 4 of the job; 5 a buffer shorter than its full
 // size, plates 1, cuts 2; 6 and 7 of the model, naming 0; 13 another number of words than the model's, naming 0; 14 a cut over its limit. Plates and
-// cuts end as the listing; after 5 they are unchanged, after another refusal every word of them is 0. The sum and D of
-// accepted prices bound every set of layouts, by demand 3.
+// cuts end as the listing; after 5 they are unchanged, after another refusal every word of them is 0. Prices are accepted
+// exactly when all that `PricesRight` names is right; their sum and D bound every set of layouts, by demand 3.
 pub fn test_prices(job: &[u16], prices: &[u16], plates: &mut [u16], cuts: &mut [u16]) -> PriceAnswer
     ensures { λ r. ⌜ saysOf r ≡ priceAnswer (now (job .entry)) (now (prices .entry)) (now (plates .entry)) (now (cuts .entry)) ⌝ }
     ensures { λ _. ⌜ now (plates .exit) ≡ platesEnd (priceVerdict (now (job .entry)) (now (prices .entry)) (now (plates .entry)) (now (cuts .entry))) (now (job .entry)) (now (plates .entry)) ⌝ }
     ensures { λ _. ⌜ now (cuts .exit) ≡ cutsEnd (priceVerdict (now (job .entry)) (now (prices .entry)) (now (plates .entry)) (now (cuts .entry))) (now (job .entry)) (now (cuts .entry)) ⌝ }
-    ensures { λ r. ⌜ OnAccepted r (Bounds (now (job .entry))) ⌝ }
+    ensures { λ r. ⌜ Accepts (saysOf r) ↔ PricesRight (now (job .entry)) (now (prices .entry)) (now (plates .entry)) (now (cuts .entry)) ⌝ }
+    ensures { λ r. ⌜ OnAccepted r (PricePromise (now (job .entry))) ⌝ }
 {
     match price_checks(job, prices, plates, cuts) {
         Row::Refuses(number, place) => {

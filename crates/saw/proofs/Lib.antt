@@ -1,2 +1,2 @@
--- The laws of this crate: some text has been read.
-pub mod SomeText
+-- The laws of this crate: parts that have been read.
+pub mod Reading

@@ -16,11 +16,11 @@ use Rattle.listing.specs.ListCall.{listVerdict, listAnswer, platesEnd, cutsEnd}
 use Rattle.listing.proofs.WalkModel.{row-model}
 use Rattle.job.specs.declared.counters.PlateTypes.{PlateTypes}
 use Rattle.job.specs.declared.counters.CutNumber.{CutNumber}
+use Rattle.job.proofs.CodeEnds.{given-pass}
 use Rattle.listing_call.specs.declared.call.Listed.{Listed}
 use Rattle.listing_call.specs.declared.call.Listed.the-variants.{Done}
 use Rattle.listing_call.specs.ListSays.{saysOf, SomePlate}
 use Rattle.listing_call.proofs.CodeEnding.{some-types}
-use Rattle.plan_test.proofs.CodeCall.{given-pass}
 use Rattle.plan_test.proofs.CodeListed.{Ready, ready}
 use Rattle.texts.specs.JobLines.{typesOf}
 use Rattle.listing_find.specs.Rising.{Rising}

@@ -7,13 +7,12 @@ use lib.ListN.{length, replicate}
 use Rattle.job.specs.Verdict.{Verdict, pass, refuse}
 use Rattle.job.specs.Buffers.{filled, ends}
 use Rattle.job.proofs.Buffers.{filled-none}
-use Rattle.job.proofs.CodeEnds.{Not5, ends-zeros}
+use Rattle.job.proofs.CodeEnds.{Not5, ends-zeros, given-pass, refused-refuse}
 use Rattle.listing.specs.Holds.{Holds}
 use Rattle.listing.specs.ListCall.{listVerdict, listAnswer, platesEnd, cutsEnd}
 use Rattle.listing_call.specs.declared.call.Listed.{Listed}
 use Rattle.listing_call.specs.declared.call.Listed.the-variants.{Done, Refused}
 use Rattle.listing_call.specs.ListSays.{saysOf}
-use Rattle.plan_test.proofs.CodeCall.{given-pass, refused-refuse}
 use Rattle.texts.specs.JobLines.{Place, first, types, body, itemPrices, platePrices, done}
 use Rattle.texts.specs.SawText.{PriceLines, Saw}
 use Rattle.saw_text_body.specs.declared.price_lines.PriceLines.{PriceLines as CodePrices}

@@ -4,21 +4,21 @@ use mathlib.Core.Path.{_≡_}
 use mathlib.Core.List.{List, []}
 use mathlib.Core.Option.{Option, none, some}
 use lib.ListN.{length}
-use Rattle.job.specs.Verdict.{Verdict, pass, refuse, _then_}
+use Rattle.job.specs.Verdict.{Verdict, pass, refuse}
 use Rattle.job.specs.Buffers.{filled}
 use Rattle.job.specs.Job.{jobOf}
 use Rattle.listing.specs.Listing.{listingOf}
 use Rattle.listing.specs.ListCall.{listVerdict, platesEnd, cutsEnd}
 use Rattle.columns.specs.Group.{put}
 use Rattle.texts.specs.JobLines.{Place, first, types, body, itemPrices, platePrices, done}
-use Rattle.texts.specs.Reader.{started, fed, textRow}
-use Rattle.texts.specs.SawText.{PriceLines, Saw, sawGrammar, planCounts, sawRows, sawText}
+use Rattle.texts.specs.SawText.{PriceLines, Saw, planCounts, sawText}
 use Rattle.texts.specs.Printed.{sawHolds}
+use Rattle.texts.specs.Refused.{verdictOnSaw}
 use Rattle.saw_text_body.specs.PlanRead.{risen}
 use Rattle.saw_text_lines.specs.SawKept.{Lent}
 use Rattle.saw_text_ending.specs.SawEnd.{placedEnd, RoomToEnd}
 
--- the verdict of the listing call on the job's words, 1 before the job's lines are complete
+-- what the reader has listed: nothing before the job's lines are complete, which is as if refused; from then on what the listing call says of the job's words
 abbrev pub listedBy : Place → List ℕ → Lent → Verdict
 listedBy first ws b = refuse 1 0
 listedBy (types i) ws b = refuse 1 0
@@ -45,15 +45,11 @@ pub record LentAfter (s : Saw) (b b′ : Lent) : Type 0 where
   pub counts : b′ .counts ≡ filled (length (b .counts)) (countsBy (listedBy (s .place) (s .job) b) s)
   pub prices : b′ .prices ≡ filled (length (b .prices)) (pricesBy (s .prices))
 
--- the verdict of all rows of a text
-abbrev pub sawVerdict : List ℕ → Verdict
-sawVerdict bs = textRow sawGrammar (fed sawGrammar (started sawGrammar) bs) then sawRows (sawHolds bs)
-
 -- the answer stands at the start of the output, the bytes behind it as they were; every lent word is that of the definitions
 pub record SawAnswered (bs : List ℕ) (b : Lent) (placements out : List ℕ) (n : ℕ) (b′ : Lent) (placements′ out′ : List ℕ) : Type 0 where
   pub size : n ≡ length (sawText bs)
   pub output : out′ ≡ put out 0 (sawText bs)
-  pub placed : placements′ ≡ placedEnd (sawVerdict bs) (sawHolds bs) placements
+  pub placed : placements′ ≡ placedEnd (verdictOnSaw bs) (sawHolds bs) placements
   pub lent : LentAfter (sawHolds bs) b b′
 
 -- nothing is written, and no lent word changes

@@ -9,13 +9,13 @@ use Rattle.job.specs.Buffers.{given, refused, answer, filled}
 use Rattle.job.specs.Job.{jobOf}
 use Rattle.job.proofs.Buffers.{filled-none}
 use Rattle.job.proofs.Verdicts.{then-assoc, then-both, then-passed, then-refused}
+use Rattle.job.proofs.CodeEnds.{given-pass, refused-refuse}
 use Rattle.listing.specs.Listing.{listingOf}
 use Rattle.listing.specs.Holds.{Holds}
 use Rattle.plan.specs.Plan.{boards, planRow}
 use Rattle.layouts.specs.Placement.{placementWords}
 use Rattle.layouts.specs.Unfold.{unfolded}
 use Rattle.layouts.specs.UnfoldCall.{unfoldingOf}
-use Rattle.plan_test.proofs.CodeCall.{given-pass, refused-refuse}
 use Rattle.columns.specs.Line.{lineOf}
 use Rattle.texts.specs.JobLines.{Place, bodyLine}
 use Rattle.texts.specs.SawText.{Counted, PriceLines, Saw, sawOf, cutsNamed, cutsRising, planCounts, priceLinesRow, placementLine, sawLines}

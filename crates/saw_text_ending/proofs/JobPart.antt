@@ -10,19 +10,19 @@ use Rattle.job.specs.Job.{jobOf, jobWords, admission}
 use Rattle.job.specs.declared.counters.PlateTypes.{PlateTypes}
 use Rattle.job.specs.declared.counters.CutNumber.{CutNumber}
 use Rattle.job.proofs.Verdicts.{then-assoc, then-both, then-passed, then-refused}
+use Rattle.job.proofs.CodeEnds.{given-pass, refused-refuse}
 use Rattle.listing.specs.Listing.{modelRow, listingOf}
 use Rattle.listing.specs.ListCall.{listVerdict, listAnswer, platesEnd, cutsEnd}
 use Rattle.listing_call.specs.declared.call.Listed.{Listed}
 use Rattle.listing_call.specs.declared.call.Listed.the-variants.{Done, Refused}
 use Rattle.listing_call.specs.ListSays.{saysOf}
 use Rattle.listing_call.proofs.CodeEnding.{some-types}
-use Rattle.plan_test.proofs.CodeCall.{given-pass, refused-refuse}
 use Rattle.unfold_call.proofs.CodeAccepted.{listed-lent}
 use Rattle.texts.specs.Widths.{placeLimit}
 use Rattle.texts.specs.JobLines.{Place, typesOf, bodyLine}
 use Rattle.texts.specs.SawText.{Counted, PriceLines, Saw, sawOf, sawRows}
+use Rattle.texts.proofs.Places.{near-place, near-job}
 use Rattle.texts_reading.specs.TextEnd.{jobModelRow}
-use Rattle.texts_reading.proofs.Near.{near-job}
 use Rattle.texts_reading.proofs.JobKept.{few-kept, words-kept, list-refused}
 use Rattle.saw_text_lines.specs.declared.held.SawHeld.{SawHeld}
 use Rattle.saw_text_body.specs.PlanRead.{PlanKept}
@@ -87,7 +87,7 @@ module _ (s : Saw) (h : SawHeld) (b : Lent) (room : Room b) (w : WholeKept s h b
     job-refused = saw-rows s ∙ then-refused (jobModelRow (s .job)) (listedRows s) number place row
 
     pub place-fits : place < placeLimit
-    place-fits = near-job (s .job) (w .passed) .place number place row
+    place-fits = near-place (near-job (s .job) (w .passed)) number place row
 
   -- else listed, and answered by the rows after them
   module _ {m : PlateTypes} {k : CutNumber} (e : h .model ≡ Done m k) where

@@ -4,27 +4,32 @@ use native.Mathlib.Omega.{arith}
 use mathlib.Core.Path.{_≡_, refl, ap, _∙_, subst}
 use mathlib.Core.List.{List, [], _∷_}
 use lib.ListN.{length}
-use Rattle.job.specs.Verdict.{Verdict, pass, _then_}
+use Rattle.job.specs.Verdict.{Verdict, pass, refuse, _then_}
 use Rattle.job.specs.Buffers.{answer, filled}
 use Rattle.job.specs.Job.{Job, jobOf, maxTypes}
 use Rattle.job.proofs.Verdicts.{then-first, then-second, then-passed}
+use Rattle.job.proofs.CodeEnds.{given-pass}
 use Rattle.listing.specs.Listing.{Listing, maxPlates}
 use Rattle.plan.specs.Plan.{countsRow, planRow, boards}
 use Rattle.plan_test.specs.declared.plan_row.PlanAnswer.{PlanAnswer}
 use Rattle.plan_test.specs.declared.plan_row.PlanAnswer.the-variants.{Accepted, Refused}
 use Rattle.plan_test.specs.PlanSays.{saysOf}
-use Rattle.plan_test.proofs.CodeCall.{given-pass}
 use Rattle.unfold_call.proofs.CodeEnding.{given-one}
 use Rattle.texts.specs.Widths.{placeLimit}
 use Rattle.texts.specs.SawText.{Counted, cutsNamed, cutsRising, planCounts}
+use Rattle.texts.proofs.Places.{Near, near-place, near-plan}
 use Rattle.texts.proofs.CallRows.{counts-length, plan-filled, counts-filled}
 use Rattle.saw_text_body.specs.declared.plan_lines.PlanLines.{PlanLines}
 use Rattle.saw_text_body.specs.PlanRead.{atLine, PlanKept}
 use Rattle.saw_text_body.proofs.PlanLaws.{risen-all}
 use Rattle.saw_text_body.proofs.PlanSteps.{at-refused}
 use Rattle.saw_text_rows.specs.Tail.{linesRow, PlaceFits, Tested, PlanTold}
-use Rattle.saw_text_rows.proofs.Places.{near-plan, near-answer}
 use Rattle.saw_text_rows.proofs.Filled.{boards-filled}
+
+-- an answer by a verdict whose place fits
+near-answer : (v : Verdict) (rs : List ℕ) → Near v → PlaceFits (answer v rs)
+near-answer pass rs h = tt
+near-answer (refuse n p) rs h = near-place h n p refl
 
 no-line : (number line : ℕ) → line ≡ 0 → atLine number line ≡ pass
 no-line number zero h = refl

@@ -155,7 +155,8 @@ accepted-rows s h =
     let e = then-pass (planRow (jobOf (s .job)) l (planCounts l (s .plan))) _ (d .1) in
     record { admitted = a .0; listed = b .0; named = c .0; rising = d .0; plan = e .0; prices = e .1 }
 
-filled-long : (size : ℕ) (ns : List ℕ) → size ≤ length (filled size ns)
+-- a filled buffer has its full size
+pub filled-long : (size : ℕ) (ns : List ℕ) → size ≤ length (filled size ns)
 unfolding filled
 filled-long size ns = rw (length-append, length-replicate {A = ℕ} (size - length ns) 0) (omega arith)
 

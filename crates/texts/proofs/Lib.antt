@@ -20,8 +20,16 @@ pub mod SawTexts
 pub mod Prefix
 pub mod LongTexts
 pub mod LinesIn
+pub mod Modelled
 pub mod SawDemand
 pub mod Printed
+pub mod CountedPlan
+pub mod Places
+pub mod LayoutPlaces
+pub mod Refused
+pub mod FoldDemand
+pub mod FoldThenSaw
+pub mod SawThenFold
 pub mod CallRows
 pub mod FoldRows
 pub mod TextLaws

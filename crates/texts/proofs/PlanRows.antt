@@ -5,13 +5,14 @@ use mathlib.Core.Path.{_≡_, refl, ap, _∙_}
 use mathlib.Core.Bool.{Bool, true, false, not, cond}
 use mathlib.Core.List.{List, [], _∷_, _++_}
 use mathlib.Core.Option.{Option, none, some}
-use lib.Dec.{leb, eqb}
+use lib.Dec.{leb, ltb}
 use lib.ListN.{length, getD, drop, List·getD-append}
 use lib.Seq.{drop-append-le}
-use borrow.Author.Tests.{ne-eqb}
-use Rattle.job.specs.Verdict.{pass, within}
+use borrow.Author.Tests.{le-ltb}
+use Rattle.job.specs.Verdict.{pass, refuseIf, within, lowest}
 use Rattle.job.proofs.Tests.{within-limits}
-use Rattle.plan.specs.Prices.{maxPrice, lowestPrice, priceWords}
+use Rattle.job.proofs.Verdicts.{then-first, then-second, then-both}
+use Rattle.plan.specs.Prices.{maxPrice, priceWords}
 use Rattle.texts.specs.Widths.{planLineBytes, pricesLineBytes, priceLineBytes}
 use Rattle.texts.specs.SawText.{Counted, PriceLines, withPrice}
 use Rattle.texts.specs.TextOf.{planRows, priceRowsFrom, priceRows}
@@ -96,13 +97,15 @@ priceRows-bound (some ps) =
 
 -- the denominator passes as a word
 pub denominator-passes : (x : ℕ) → 1 ≤ x → x ≤ maxPrice → priceWords (x ∷ []) ≡ pass
-unfolding priceWords lowestPrice
-denominator-passes x l h = lowest-one 2 (λ k y. not (within (cond (eqb k 1) 1 0) maxPrice y)) 1 x (rw (within-limits 1 maxPrice x l h))
+unfolding priceWords lowest
+denominator-passes x l h = rw (within-limits 1 maxPrice x l h)
 
 -- one more price passes as a word
 pub price-passes : (ws : List ℕ) (x : ℕ) → 1 ≤ length ws → x ≤ maxPrice → priceWords ws ≡ pass → priceWords (ws ++ (x ∷ [])) ≡ pass
-unfolding priceWords lowestPrice
-price-passes ws x l h p =
-    let later : eqb (1 + length ws) 1 ≡ false = ne-eqb (1 + length ws) 1 (λ q. omega arith) in
-    lowest-both 2 (λ k y. not (within (cond (eqb k 1) 1 0) maxPrice y)) 1 ws (x ∷ []) p
-    (lowest-one 2 (λ k y. not (within (cond (eqb k 1) 1 0) maxPrice y)) (1 + length ws) x (rw (later, within-limits 0 maxPrice x (omega arith) h)))
+unfolding priceWords
+price-passes [] x l h p = absurd (omega arith)
+price-passes (d ∷ ws) x l h p =
+    let out = refuseIf (not (within 1 maxPrice d)) 2 1 in
+    let high : ℕ → ℕ → Bool = λ k y. ltb maxPrice y in
+    then-both out (lowest 2 high 2 (ws ++ (x ∷ []))) (then-first out _ p)
+    (lowest-both 2 high 2 ws (x ∷ []) (then-second out _ p) (lowest-one 2 high (2 + length ws) x (le-ltb maxPrice x h)))

@@ -16,10 +16,9 @@ use Rattle.job.specs.Job.{Job, maxPieces, jobOf, jobWords, larger, demanded, ad
 use Rattle.job.proofs.Verdicts.{refuseIf-pass}
 use Rattle.job.proofs.CodeEnds.{then-pass}
 use Rattle.job.proofs.Records.{words-append}
-use Rattle.plan.specs.Prices.{maxPrice, pricesOf, lowestPrice, priceWords, priced, priceSum, fewest}
+use Rattle.plan.specs.Prices.{maxPrice, pricesOf, priceWords, priced, priceSum, fewest}
 use Rattle.layouts.specs.Placement.{Placement, placementWords}
-use Rattle.layouts.specs.Lines.{rowRight, setOf}
-use Rattle.layouts.specs.Fold.{folded}
+use Rattle.layouts.specs.Lines.{rowRight}
 use Rattle.listing.specs.Listing.{Cut, listingOf}
 use Rattle.columns.specs.Group.{limit}
 use Rattle.columns.specs.Line.{Fit, lineOf}
@@ -31,7 +30,7 @@ use Rattle.texts.specs.FoldText.{Fold, foldComplete, foldGrammar, countL
 use Rattle.texts.specs.Admitted.{Text}
 use Rattle.texts.specs.TextOf.{jobRows, planRows, placementRow}
 use Rattle.texts.specs.Held.{PricesHeld, SawWhole}
-use Rattle.texts.specs.Printed.{linesIn, AllFit, resultRow, sawHolds, sawRun, printedRows, countedOf, PrintedBack}
+use Rattle.texts.specs.Printed.{linesIn, AllFit, resultRow, sawHolds, sawRun, printedRows, countedOf, foldCounts, foldPlan, PrintedBack}
 use Rattle.texts.proofs.SawDemand.{saw-placed, saw-boards}
 use Rattle.texts.proofs.Basics.{within-parts, lowest-parts, all-parts, all-lowest}
 use Rattle.texts.proofs.Lists.{bytesOf, bytes-more}
@@ -49,7 +48,8 @@ use Rattle.texts.proofs.FoldTexts.{fold-plain, fold-opens, layouts-run}
 
 -- ---- the output is lines of numbers
 
-placement-lines : (ps : List Placement) → flatMap placementLine ps ≡ bytesOf (map placementRow ps)
+-- lines 7
+pub placement-lines : (ps : List Placement) → flatMap placementLine ps ≡ bytesOf (map placementRow ps)
 unfolding flatMap placementLine placementRow
 placement-lines [] = refl
 placement-lines (p ∷ ps) = ap (λ (l : List ℕ). placementLine p ++ l) (placement-lines ps)
@@ -87,13 +87,9 @@ count-lines (c ∷ cs) (n ∷ ns) = go (eqb n 0) (count-lines cs ns)
     go true ih = ih
     go false ih = ap (λ (l : List ℕ). lineOf (3 ∷ c .plate ∷ c .item ∷ n ∷ []) ++ l) ih
 
-fold-lines :
-    (f : Fold)
-    → foldLines f
-    ≡ bytesOf (planRows (countedOf (listingOf (jobOf (f .job)) .cuts) (folded (jobOf (f .job)) (listingOf (jobOf (f .job))) (setOf (f .layouts)))))
+fold-lines : (f : Fold) → foldLines f ≡ bytesOf (planRows (foldPlan f))
 unfolding foldLines
-fold-lines f =
-    count-lines (listingOf (jobOf (f .job)) .cuts) (folded (jobOf (f .job)) (listingOf (jobOf (f .job))) (setOf (f .layouts)))
+fold-lines f = count-lines (listingOf (jobOf (f .job)) .cuts) (foldCounts f)
 
 -- ---- the sum
 
@@ -118,11 +114,19 @@ capped-getD m (suc k) [] c = omega arith
 capped-getD m zero (x ∷ xs) c = c .0
 capped-getD m (suc k) (x ∷ xs) c = capped-getD m k xs (c .1)
 
-prices-capped : (k : ℕ) (ws : List ℕ) → lowest 2 (λ j x. not (within (lowestPrice j) maxPrice x)) k ws ≡ pass → Capped maxPrice ws
+prices-capped : (k : ℕ) (ws : List ℕ) → lowest 2 (λ _ x. ltb maxPrice x) k ws ≡ pass → Capped maxPrice ws
 prices-capped k [] h = tt
 prices-capped k (x ∷ ws) h =
-    let p = lowest-parts 2 (λ j y. not (within (lowestPrice j) maxPrice y)) k x ws h in
-    (within-parts (lowestPrice k) maxPrice x (not-false (within (lowestPrice k) maxPrice x) (p .0)) .1, prices-capped (suc k) ws (p .1))
+    let p = lowest-parts 2 (λ _ y. ltb maxPrice y) k x ws h in
+    (ltb-false maxPrice x (p .0), prices-capped (suc k) ws (p .1))
+
+words-capped : (ws : List ℕ) → priceWords ws ≡ pass → Capped maxPrice ws
+unfolding priceWords
+words-capped [] h = tt
+words-capped (d ∷ ps) h =
+    let out = not (within 1 maxPrice d) in
+    let p = then-pass (refuseIf out 2 1) (lowest 2 (λ _ x. ltb maxPrice x) 2 ps) h in
+    (within-parts 1 maxPrice d (not-false (within 1 maxPrice d) (refuseIf-pass out 2 1 (p .0))) .1, prices-capped 2 ps (p .1))
 
 -- prices of at most m come to at most m times the demands
 priced-capped : (m : ℕ) (items : List Item) (ps : List ℕ) → Capped m ps → priced items ps ≤ m * sumOf (λ it. it .demand) items
@@ -142,10 +146,10 @@ admitted-demands job h =
 -- ---- the numbers fit nine columns
 
 fit-result : (job : Job) (n : ℕ) (p : Place) (o : Option PriceLines) → admission job ≡ pass → PricesHeld p o → n ≤ maxPieces → Fit (resultRow job n o)
-unfolding Fit resultRow priceSum pricesOf priceWords demanded
+unfolding Fit resultRow priceSum pricesOf demanded
 fit-result job n p none a h l = omega arith
 fit-result job n p (some ps) a h l =
-    let c = prices-capped 1 (ps .words) (h .1 .words) in
+    let c = words-capped (ps .words) (h .1 .words) in
     let d = admitted-demands job a in
     let n′ : ℕ = length (job .items) in
     let items = capped-take maxPrice n′ (drop 1 (ps .words)) (capped-drop maxPrice 1 (ps .words) c) in

@@ -1,30 +1,37 @@
 -- Demand 3 of an accepted saw text: its plan unfolds into layouts that keep the rules, and so its lines 7 and 8 are within their limits.
-use Prim.Native.Nat.{ℕ, _≤_}
+use Prim.Native.Nat.{ℕ, _-_, _≤_}
 use native.Mathlib.Omega.{arith}
-use mathlib.Core.Path.{_≡_, ap}
+use mathlib.Core.Path.{_≡_, sym, ap, _∙_}
 use mathlib.Core.Bool.{true}
-use mathlib.Core.List.{List}
+use mathlib.Core.List.{List, append-nil}
 use lib.ListN.{length, List·getD-eq-default}
 use Rattle.job.specs.Lists.{all}
-use Rattle.job.specs.Verdict.{pass, _then_}
-use Rattle.job.specs.Job.{Job, jobOf, jobWords, admission, maxPieces}
-use Rattle.job.specs.Admitted.{Admitted}
+use Rattle.job.specs.Verdict.{pass}
+use Rattle.job.specs.Buffers.{filled}
+use Rattle.job.specs.Job.{Job, jobOf, maxPieces}
 use Rattle.job.proofs.Verdicts.{then-both}
-use Rattle.job.proofs.Admission.{admitted-words, admitted-job}
-use Rattle.listing.specs.Listing.{Listing, modelRow, listingOf}
+use Rattle.job.proofs.Sums.{tally-length}
+use Rattle.listing.specs.Listing.{Listing, listingOf}
 use Rattle.plan.specs.Plan.{onPlate, boards, total, countsRow, planRow}
 use Rattle.plan.proofs.PlanExact.{plan-exact, counts-exact, countOf-total}
-use Rattle.layouts.specs.Placement.{linesOf, itemsOfSet}
-use Rattle.layouts.specs.Lines.{rowRight}
-use Rattle.layouts.specs.Demand3.{Listed, Accepted, Unfolds}
+use Rattle.layouts.specs.Layout.{Board}
+use Rattle.layouts.specs.Placement.{placementWords, linesOf}
+use Rattle.layouts.specs.Lines.{rowRight, setOf}
+use Rattle.layouts.specs.LayoutsRow.{layoutsRow}
+use Rattle.layouts.specs.Fold.{setCuts, folded}
+use Rattle.layouts.specs.Demand3.{Accepted, Named, Unfolds, Demand3Of}
 use Rattle.layouts.proofs.lists.Every.{every-all}
-use Rattle.layouts.proofs.row.RowLines.{lines-length}
 use Rattle.layouts.proofs.row.RowWords.{RowOk, right-exact, lines-right}
-use Rattle.layouts.proofs.demand.Demand3.{demand3}
 use Rattle.texts.specs.SawText.{Saw, planCounts, sawRows}
 use Rattle.texts.specs.Held.{SawWhole}
 use Rattle.texts.specs.Printed.{sawRun}
+use Rattle.texts.proofs.Modelled.{admitted, demands}
 use Rattle.texts.proofs.CallRows.{accepted-rows, counts-length}
+
+-- a buffer that its words fill
+filled-all : (size : ℕ) (ws : List ℕ) → length ws ≡ size → filled size ws ≡ ws
+unfolding filled
+filled-all size ws e = let z : size - length ws ≡ 0 = omega arith in rw z (append-nil ws)
 
 module _ (s : Saw) (held : SawWhole s) (rows : sawRows s ≡ pass) where
   abbrev job : Job
@@ -36,12 +43,6 @@ module _ (s : Saw) (held : SawWhole s) (rows : sawRows s ≡ pass) where
   abbrev ns : List ℕ
   ns = planCounts l (s .plan)
 
-  -- its job has a listing
-  listed : Listed (s .job)
-  listed =
-      let a = accepted-rows s rows in
-      then-both (jobWords (s .job)) (admission job then modelRow job) (held .job) (then-both (admission job) (modelRow job) (a .admitted) (a .listed))
-
   -- its plan is accepted
   plan : Accepted job l ns
   plan =
@@ -52,29 +53,51 @@ module _ (s : Saw) (held : SawWhole s) (rows : sawRows s ≡ pass) where
             (accepted-rows s rows .plan);
       }
 
+  -- demand 3 of its job
+  demand : Demand3Of (s .job)
+  demand = demands (s .job) (held .job) (accepted-rows s rows .admitted) (accepted-rows s rows .listed)
+
   -- its unfolding
-  pub saw-unfolds : Unfolds job l ns (sawRun s)
-  saw-unfolds = demand3 (s .job) listed .unfolds ns plan
+  saw-unfolds : Unfolds job l ns (sawRun s)
+  saw-unfolds = demand .unfolds ns plan
 
   few : total ns ≤ maxPieces
   few = plan-exact job l ns .0 (accepted-rows s rows .plan) .few
 
-  admitted : Admitted job
-  admitted =
-      admitted-job (s .job) (admitted-words (s .job) .0 (then-both (jobWords (s .job)) (admission job) (held .job) (accepted-rows s rows .admitted)))
+  -- at most 4,000 pieces
+  pub saw-pieces : length (sawRun s .placements) ≤ maxPieces
+  saw-pieces = omega (arith, few, saw-unfolds .pieces-given, saw-unfolds .unfolds-to .all-pieces)
+
+  -- its set is one that demand 3 names
+  named : Named job l (saw-unfolds .set)
+  named = saw-unfolds .unfolds-to .named
 
   -- every number of its lines 7 is within its limits
   pub saw-placed : all (rowRight job) (sawRun s .placements) ≡ true
   saw-placed =
       let u = saw-unfolds in
-      let pieces : length (itemsOfSet (u .set)) ≤ maxPieces = omega (arith, few, lines-length job (u .set), ap length (u .lines), u .pieces-given) in
+      let a = admitted (s .job) (held .job) (accepted-rows s rows .admitted) in
       rw (u .lines)
       (every-all (rowRight job) (RowOk job) (λ r (h : RowOk job r). right-exact job r .1 h) (linesOf job (u .set))
-      (lines-right job (u .set) (admitted .width-limits .1) (admitted .height-limits .1) (u .rules) pieces))
+      (lines-right job (u .set) (a .width-limits .1) (a .height-limits .1) (named .rules) (named .pieces)))
+
+  -- its placements pass the layouts row
+  pub saw-laid : layoutsRow 1 job (sawRun s .placements) ≡ pass
+  saw-laid = rw (saw-unfolds .lines) (demand .folds (saw-unfolds .set) named .row)
+
+  -- folding them gives back its counts
+  pub saw-back : folded job l (setOf (placementWords (sawRun s .placements))) ≡ ns
+  unfolding folded
+  saw-back =
+      let set = saw-unfolds .set in
+      let n = tally-length (length (l .cuts)) 1 (setCuts job l set) in
+      ap (λ (bs : List Board). folded job l bs) (saw-unfolds .read)
+      ∙ sym (filled-all (length ns) (folded job l set) (n ∙ sym (counts-length l (s .plan))))
+      ∙ saw-unfolds .unfolds-to .back
 
   -- it opens at most 4,000 boards
   pub saw-boards : sawRun s .last .turn .board ≤ maxPieces
   unfolding boards
   saw-boards =
       let u = saw-unfolds in
-      omega (arith, few, u .boards-given, u .as-many, countOf-total (onPlate 0) (l .cuts) ns)
+      omega (arith, few, u .boards-given, u .unfolds-to .as-many, countOf-total (onPlate 0) (l .cuts) ns)

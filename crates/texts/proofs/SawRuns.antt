@@ -6,13 +6,15 @@ use mathlib.Core.Logic.{inl, inr}
 use mathlib.Core.Bool.{Bool, true, false, not, cond}
 use mathlib.Core.List.{List, [], _∷_, _++_, append-assoc, append-nil}
 use mathlib.Core.Option.{Option, none, some}
-use lib.Dec.{leb, eqb}
+use lib.Dec.{leb, ltb, eqb}
 use lib.ListN.{length, getD, drop, length-append}
-use borrow.Author.Tests.{leb-true, leb-false, le-leb, lt-leb, eqb-true, eqb-false, not-false}
+use borrow.Author.Tests.{ltb-false, leb-true, leb-false, le-leb, lt-leb, eqb-true, eqb-false, not-false}
 use Rattle.job.specs.Sizes.{maxResiduals}
-use Rattle.job.specs.Verdict.{pass, within, lowest}
+use Rattle.job.specs.Verdict.{pass, refuseIf, within, lowest}
 use Rattle.job.specs.Job.{maxTypes}
-use Rattle.plan.specs.Prices.{maxPrice, lowestPrice, priceWords}
+use Rattle.job.proofs.Verdicts.{refuseIf-pass}
+use Rattle.job.proofs.CodeEnds.{then-pass}
+use Rattle.plan.specs.Prices.{maxPrice, priceWords}
 use Rattle.columns.specs.Widths.{mostNumbers}
 use Rattle.columns.specs.Line.{Fit}
 use Rattle.texts.specs.Shape.{planLine, pricesLine}
@@ -147,7 +149,7 @@ module _ (ws : List ℕ) (rs : List Counted) (n m : ℕ) (nh : n ≤ maxTypes) (
       → 1 ≤ k
       → length us ≡ k
       → k + length xs ≡ 1 + n + m
-      → lowest 2 (λ j y. not (within (lowestPrice j) maxPrice y)) (suc k) xs ≡ pass
+      → lowest 2 (λ _ y. ltb maxPrice y) (suc k) xs ≡ pass
       → Runs sawGrammar (sawOf (placeAt n m k) ws rs (held us)) (priceRowsFrom n k xs) (sawOf done ws rs (held (us ++ xs)))
   unfolding priceRowsFrom held placeAt
   prices-run k us [] l e s h =
@@ -155,10 +157,9 @@ module _ (ws : List ℕ) (rs : List Counted) (n m : ℕ) (nh : n ≤ maxTypes) (
       let q : leb k (n + m) ≡ false = lt-leb k (n + m) (omega arith) in
       rw (p, q, append-nil us)
   prices-run k us (x ∷ xs) l e s h =
-      let p = lowest-parts 2 (λ j y. not (within (lowestPrice j) maxPrice y)) (suc k) x xs h in
-      let b = within-parts (lowestPrice (suc k)) maxPrice x (not-false (within (lowestPrice (suc k)) maxPrice x) (p .0)) in
+      let p = lowest-parts 2 (λ _ y. ltb maxPrice y) (suc k) x xs h in
       let z : length (us ++ (x ∷ [])) ≡ suc k = length-append us (x ∷ []) ∙ omega arith in
-      price-runs k us x (priceRowsFrom n (suc k) xs) (sawOf done ws rs (held (us ++ (x ∷ xs)))) l (omega arith) (b .1)
+      price-runs k us x (priceRowsFrom n (suc k) xs) (sawOf done ws rs (held (us ++ (x ∷ xs)))) l (omega arith) (ltb-false maxPrice x (p .0))
       (rw append-assoc at (prices-run (suc k) (us ++ (x ∷ [])) xs (omega arith) z (omega arith) (p .1)))
 
 -- lines 4, 5 and 6
@@ -168,11 +169,12 @@ line-4-runs :
     → Runs sawGrammar (sawOf body ws rs none)
     ((4 ∷ getD us 0 0 ∷ n ∷ m ∷ []) ∷ priceRowsFrom n 1 (drop 1 us))
     (sawOf done ws rs (some (record { types = n; residuals = m; words = us })))
-unfolding sawAdmits sawAfter bodyRead priceWords lowestPrice held placeAt
+unfolding sawAdmits sawAfter bodyRead priceWords held placeAt
 line-4-runs ws rs n m [] w = let e = w .size in absurd (omega arith)
 line-4-runs ws rs n m (d ∷ xs) w =
-    let p = lowest-parts 2 (λ j y. not (within (lowestPrice j) maxPrice y)) 1 d xs (w .words) in
-    let b = within-parts 1 maxPrice d (not-false (within 1 maxPrice d) (p .0)) in
+    let out = not (within 1 maxPrice d) in
+    let p = then-pass (refuseIf out 2 1) (lowest 2 (λ _ y. ltb maxPrice y) 2 xs) (w .words) in
+    let b = within-parts 1 maxPrice d (not-false (within 1 maxPrice d) (refuseIf-pass out 2 1 (p .0))) in
     let shape : OfShape pricesLine (4 ∷ d ∷ n ∷ m ∷ []) = record { others = d ∷ n ∷ m ∷ []; numbers = refl; limits = omega arith } in
     let e = w .size in
     let first : leb 1 n ≡ true = le-leb 1 n (w .low) in

@@ -1,24 +1,40 @@
 -- The laws of texts, gathered.
 use Prim.Native.Nat.{ℕ, _≤_}
 use native.Mathlib.Omega.{arith}
+use mathlib.Core.Path.{ap}
 use mathlib.Core.List.{List, _∷_}
 use lib.ListN.{length}
 use Rattle.job.specs.Buffers.{platesSize, cutsSize}
 use Rattle.columns.proofs.ReadLaws.{read-written, written-read}
-use Rattle.texts.specs.Reader.{Grammar}
-use Rattle.texts.specs.TextLaws.{InParts, AsCalls, TextLaws}
+use Rattle.texts.specs.Reader.{Grammar, Reader}
+use Rattle.texts.specs.SawText.{sawGrammar}
+use Rattle.texts.specs.FoldText.{foldGrammar}
+use Rattle.texts.specs.TextLaws.{LineRow, InParts, AsCalls, TextLaws}
 use Rattle.texts.proofs.ShapeLaws.{line-admitted, shape-read-back}
 use Rattle.texts.proofs.ReaderLaws.{fed-append, fed-refused, fed-written}
 use Rattle.texts.proofs.ReadSoFar.{sound}
-use Rattle.texts.proofs.WholeTexts.{row-begun, row-missing}
+use Rattle.texts.proofs.Running.{Plain}
+use Rattle.texts.proofs.WholeTexts.{row-begun, row-missing, row-text, text-read, text-row}
 use Rattle.texts.proofs.Prefix.{lines-prefix}
 use Rattle.texts.proofs.LinesIn.{lines-both-ways}
+use Rattle.texts.proofs.SawRuns.{saw-plain}
 use Rattle.texts.proofs.SawTexts.{saw-both-ways}
-use Rattle.texts.proofs.FoldTexts.{fold-both-ways}
+use Rattle.texts.proofs.FoldTexts.{fold-plain, fold-both-ways}
 use Rattle.texts.proofs.LongTexts.{saw-bytes, fold-bytes, saw-prefix, fold-prefix}
 use Rattle.texts.proofs.Printed.{printed}
+use Rattle.texts.proofs.Refused.{refused-back}
+use Rattle.texts.proofs.FoldThenSaw.{fold-saw}
+use Rattle.texts.proofs.SawThenFold.{saw-fold}
 use Rattle.texts.proofs.CallRows.{accepted-rows, accepted-plan, accepted-prices}
 use Rattle.texts.proofs.FoldRows.{text-accepted, call-accepted}
+
+-- the line row of whole texts, of a grammar in which each kind stands once among the lines admitted
+line-row : {S : Type 0} (g : Grammar S) → Plain g → LineRow g
+line-row {S} g p =
+    record {
+      passed = row-text g;
+      passes = λ bs s t. (text-row g p bs s t, ap (λ (r : Reader S). r .state) (text-read g p bs s t));
+    }
 
 -- texts in parts
 pub in-parts : {S : Type 0} (g : Grammar S) → InParts g
@@ -48,10 +64,14 @@ textLaws =
     record {
       one-line = record { read = read-written; written = written-read; admitted = line-admitted; passes = shape-read-back };
       lines = lines-both-ways;
+      saw-row = line-row sawGrammar saw-plain;
+      fold-row = line-row foldGrammar fold-plain;
       saw = saw-both-ways;
       fold = fold-both-ways;
       in-parts = in-parts;
       printed = printed;
+      refused = refused-back;
+      rounds = record { fold-saw = fold-saw; saw-fold = saw-fold };
       decided = record { saw-bytes = saw-bytes; fold-bytes = fold-bytes; saw = saw-prefix; fold = fold-prefix };
       as-calls = as-calls;
     }

@@ -83,6 +83,13 @@ countedOf (c ∷ cs) (n ∷ ns) =
       | false ↦ record { plate = c .plate; item = c .item; count = n } ∷ countedOf cs ns
     ]
 
+-- the counts that a fold text folds to, and the lines 3 of the cuts counted
+abbrev pub foldCounts : Fold → List ℕ
+foldCounts f = let job = jobOf (f .job) in folded job (listingOf job) (setOf (f .layouts))
+
+abbrev pub foldPlan : Fold → List Counted
+foldPlan f = countedOf (listingOf (jobOf (f .job)) .cuts) (foldCounts f)
+
 -- the output of the programs read back
 pub record PrintedBack : Type 0 where
   -- what is written of an accepted plan is lines of these numbers
@@ -94,10 +101,7 @@ pub record PrintedBack : Type 0 where
       → sawRows (sawHolds bs) ≡ pass
       → linesIn (sawText bs) ≡ some (printedRows (sawHolds bs))
   -- what the fold program writes is the lines 3 of the cuts counted
-  pub counts :
-      (f : Fold)
-      → foldLines f
-      ≡ flatMap lineOf (planRows (countedOf (listingOf (jobOf (f .job)) .cuts) (folded (jobOf (f .job)) (listingOf (jobOf (f .job))) (setOf (f .layouts)))))
+  pub counts : (f : Fold) → foldLines f ≡ flatMap lineOf (planRows (foldPlan f))
   -- after the job's lines the lines 7 are a fold text, which holds the job's words and the placements
   pub folds :
       (ws : List ℕ) (ps : List Placement)

@@ -1,4 +1,4 @@
--- What holds of texts, as statements: lines and texts both ways, texts in parts, how much of a text decides, and texts as calls.
+-- What holds of texts, as statements: lines and texts both ways, texts in parts, what the programs write, how much of a text decides, and texts as calls.
 use Prim.Native.Nat.{ℕ, suc, _+_, _-_, _*_, _≤_, _<_}
 use mathlib.Core.Path.{_≡_}
 use mathlib.Core.Logic.{_↔_}
@@ -21,9 +21,11 @@ use Rattle.texts.specs.Shape.{Shape, lineRow}
 use Rattle.texts.specs.Reader.{Grammar, Reader, started, lineRead, fed, textRow, maxLines}
 use Rattle.texts.specs.SawText.{PriceLines, Saw, sawGrammar, planCounts, sawRows, sawText}
 use Rattle.texts.specs.FoldText.{Fold, foldGrammar, foldRows, foldText}
-use Rattle.texts.specs.Admitted.{OfShape, Admitted}
+use Rattle.texts.specs.Admitted.{OfShape, Admitted, Text}
 use Rattle.texts.specs.Held.{SawWhole, FoldWhole, SawBothWays, FoldBothWays}
 use Rattle.texts.specs.Printed.{LinesBothWays, PrintedBack}
+use Rattle.texts.specs.Refused.{RefusedBack}
+use Rattle.texts.specs.Rounds.{Rounds}
 
 -- a line, both ways
 pub record OneLine : Type 0 where
@@ -42,6 +44,13 @@ pub record OneLine : Type 0 where
       → OfShape s ns
       → Fit ns
       → lineRow line (s ∷ ss) (readLine (lineOf ns)) ≡ pass
+
+-- the line row of a whole text, in plain numbers
+pub record LineRow {S : Type 0} (g : Grammar S) : Type 0 where
+  -- a text that passes is lines of its grammar, which bring it to where the reader stands
+  pub passed : (bs : List ℕ) → textRow g (fed g (started g) bs) ≡ pass → Text g bs (fed g (started g) bs .state)
+  -- and lines of the grammar pass, and the reader stands where they bring it
+  pub passes : (bs : List ℕ) (s : S) → Text g bs s → (textRow g (fed g (started g) bs) ≡ pass) × (fed g (started g) bs .state ≡ s)
 
 -- a text in parts, of any grammar
 pub record InParts {S : Type 0} (g : Grammar S) : Type 0 where
@@ -116,9 +125,13 @@ pub record AsCalls (plates cuts : List ℕ) : Type 0 where
 pub record TextLaws : Type 1 where
   pub one-line : OneLine
   pub lines : LinesBothWays
+  pub saw-row : LineRow sawGrammar
+  pub fold-row : LineRow foldGrammar
   pub saw : SawBothWays
   pub fold : FoldBothWays
   pub in-parts : {S : Type 0} (g : Grammar S) → InParts g
   pub printed : PrintedBack
+  pub refused : RefusedBack
+  pub rounds : Rounds
   pub decided : Decided
   pub as-calls : (plates cuts : List ℕ) → platesSize ≤ length plates → cutsSize ≤ length cuts → AsCalls plates cuts

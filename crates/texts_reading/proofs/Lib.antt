@@ -8,4 +8,3 @@ pub mod LineWithin
 pub mod CodeSplits
 pub mod CodeEnd
 pub mod JobKept
-pub mod Near

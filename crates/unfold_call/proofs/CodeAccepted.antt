@@ -15,6 +15,7 @@ use Rattle.job.proofs.Verdicts.{then-first, then-second}
 use Rattle.job.proofs.Admission.{admitted-words, admitted-job, admitted-sided}
 use Rattle.job.proofs.CodeItems.{items-length}
 use Rattle.job.proofs.CodeAdmission.{passed-length}
+use Rattle.job.proofs.CodeEnds.{given-pass}
 use Rattle.listing.specs.Listing.{Listing, modelRow, listingOf}
 use Rattle.listing.specs.Model.{Model}
 use Rattle.listing.specs.Holds.{Holds}
@@ -24,7 +25,6 @@ use Rattle.listing_call.proofs.CodeEnding.{listingResults}
 use Rattle.plan.specs.Plan.{countsRow, planRow, boards, total}
 use Rattle.plan.specs.Feasible.{Feasible, NonePast}
 use Rattle.plan.proofs.PlanExact.{plan-exact, counts-exact}
-use Rattle.plan_test.proofs.CodeCall.{given-pass}
 use Rattle.layouts.specs.Placement.{placementWords}
 use Rattle.layouts.specs.Unfold.{Run, run, unfolded}
 use Rattle.layouts.specs.UnfoldCall.{unfoldingOf}

@@ -6,11 +6,11 @@ use mathlib.Core.List.{List, [], _∷_}
 use lib.ListN.{length, replicate}
 use Rattle.job.specs.Sizes.{platesSize, cutsSize, countsSize, placementsSize}
 use Rattle.job.specs.Verdict.{Verdict, pass, refuse, _then_}
-use Rattle.job.specs.Buffers.{Answer, given, refused, answer, sized}
+use Rattle.job.specs.Buffers.{Answer, given, refused, answer, filled, sized}
 use Rattle.job.specs.Job.{jobOf, jobWords, admission}
 use Rattle.job.proofs.Verdicts.{then-assoc, then-first, then-second, then-both, then-passed, then-refused}
-use Rattle.job.proofs.Buffers.{sized-pass}
-use Rattle.job.proofs.CodeEnds.{Not5, ends-zeros}
+use Rattle.job.proofs.Buffers.{filled-length, sized-pass}
+use Rattle.job.proofs.CodeEnds.{Not5, ends-zeros, given-pass, refused-refuse}
 use Rattle.listing.specs.Listing.{modelRow}
 use Rattle.listing.specs.Holds.{Holds}
 use Rattle.listing.specs.ListCall.{platesEnd, cutsEnd}
@@ -18,11 +18,11 @@ use Rattle.listing.proofs.Limits.{model-not5}
 use Rattle.listing_call.proofs.CodeEnding.{Left}
 use Rattle.plan.specs.Plan.{countsRow, planRow}
 use Rattle.plan_test.specs.PlanSays.{planTail}
-use Rattle.plan_test.proofs.CodeCall.{given-pass, refused-refuse}
 use Rattle.plan_test.proofs.CodePlanCall.{plan-not5}
 use Rattle.layouts.specs.Placement.{placementWords}
 use Rattle.layouts.specs.UnfoldCall.{unfoldVerdict, unfoldingOf, unfoldAnswer, placementsEnd}
 use Rattle.layouts.specs.Demand3.{J, L, Listed, Unfolds}
+use Rattle.layouts.specs.Promises.{UnfoldPromise}
 use Rattle.layouts.proofs.demand.Demand3.{demand3}
 use Rattle.unfold_call.specs.declared.call.Unfolded.{Unfolded}
 use Rattle.unfold_call.specs.declared.call.Unfolded.the-variants.{Done, Refused}
@@ -94,7 +94,7 @@ module _ (ws counts plates cuts placements : List ℕ) where
       × ((plates′ ≡ platesEnd verdict ws plates)
       × ((cuts′ ≡ cutsEnd verdict ws cuts)
       × ((placements′ ≡ placementsEnd verdict ws counts placements)
-      × OnSuccess r (Unfolds (J ws) (L ws) counts (unfoldingOf ws counts)))))
+      × OnSuccess r (UnfoldPromise ws counts placements′))))
 
   -- where the rows before the model refuse, the call does, and the three buffers end as after that refusal
   pub before-refuses :
@@ -129,14 +129,37 @@ module _ (ws counts plates cuts placements : List ℕ) where
         let b = before-passed in
         let row = then-first (modelRow (jobOf ws)) _ tail in
         let listed : Listed ws = then-both (jobWords ws) _ (then-first (jobWords ws) (admission (jobOf ws)) (b .0)) (then-both (admission (jobOf ws)) (modelRow (jobOf ws)) (then-second (jobWords ws) (admission (jobOf ws)) (b .0)) row) in
-        demand3 ws listed .unfolds counts (record { counted = omega (arith, listed-model ws (b .0) row .few-cuts, b .1 .1 .1 .0); passed = then-second (modelRow (jobOf ws)) _ tail })
+        demand3 .every-listed ws listed .unfolds counts (record { counted = omega (arith, listed-model ws (b .0) row .few-cuts, b .1 .1 .1 .0); passed = then-second (modelRow (jobOf ws)) _ tail })
+
+    -- and so are the words that are lent and the values that are answered
+    promise-kept :
+        {placements′ : List ℕ} {boards pieces : ℕ}
+        → planTail (jobOf ws) counts ≡ pass
+        → placements′ ≡ filled (length placements) (placementWords (unfoldingOf ws counts .placements))
+        → boards ≡ unfoldingOf ws counts .last .turn .board
+        → pieces ≡ length (unfoldingOf ws counts .placements)
+        → UnfoldPromise ws counts placements′ boards pieces
+    promise-kept tail p b n =
+        let u = unfolds-so tail in
+        let words : List ℕ = placementWords (unfoldingOf ws counts .placements) in
+        let size : length (filled (length placements) words) ≡ length placements = filled-length (length placements) words (omega (arith, u .room, before-passed .1 .1 .1 .1)) in
+        record {
+          set = u .set;
+          lines = rw (p, size, u .lines);
+          boards-given = b ∙ u .boards-given;
+          pieces-given = n ∙ u .pieces-given;
+          unfolds-to = u .unfolds-to;
+        }
 
     -- and these rows decide
     pub before-pass : (r : Unfolded) (plates′ cuts′ placements′ : List ℕ) → Ended (planTail (jobOf ws) counts) ws counts plates cuts placements (saysOf r) plates′ cuts′ placements′ → Called r plates′ cuts′ placements′
-    unfolding unfoldAnswer
+    unfolding unfoldAnswer placementsEnd
     before-pass r plates′ cuts′ placements′ h =
-        rw (unfold-rows ∙ then-passed rowsBefore (planTail (jobOf ws) counts) e) (h .answered, (h .plates-end, (h .cuts-end, (h .placements-end, promised r (h .answered)))))
+        rw (unfold-rows ∙ then-passed rowsBefore (planTail (jobOf ws) counts) e) (h .answered, (h .plates-end, (h .cuts-end, (h .placements-end, promised r (h .answered) (h .placements-end)))))
       where
-        promised : (r : Unfolded) → saysOf r ≡ answer (planTail (jobOf ws) counts) (results ws counts) → OnSuccess r (Unfolds (J ws) (L ws) counts (unfoldingOf ws counts))
-        promised (Refused number place) q = tt
-        promised (Done boards pieces) q = unfolds-so (given-pass (planTail (jobOf ws) counts) (results ws counts) q)
+        promised : (r : Unfolded) → saysOf r ≡ answer (planTail (jobOf ws) counts) (results ws counts) → placements′ ≡ placementsEnd (planTail (jobOf ws) counts) ws counts placements → OnSuccess r (UnfoldPromise ws counts placements′)
+        promised (Refused number place) q p = tt
+        promised (Done boards pieces) q p =
+            let v : planTail (jobOf ws) counts ≡ pass = given-pass (planTail (jobOf ws) counts) (results ws counts) q in
+            let a : given (boards ∷ pieces ∷ []) ≡ given (results ws counts) = rw v at q in
+            promise-kept v (rw v at p) (cc) (cc)

@@ -16,8 +16,8 @@ saysOf (Done boards pieces) = given (boards ∷ pieces ∷ [])
 saysOf (Refused number place) = refused number place
 
 -- what is promised of a call that succeeds
-abbrev pub OnSuccess : Unfolded → Type 0 → Type 0
-OnSuccess (Done boards pieces) promise = promise
+abbrev pub OnSuccess : Unfolded → (ℕ → ℕ → Type 0) → Type 0
+OnSuccess (Done boards pieces) promise = promise boards pieces
 OnSuccess (Refused number place) promise = Unit {0}
 
 -- "unfolding, boards and pieces"

@@ -15,7 +15,8 @@ ghost use Rattle.plan.specs.Plan.{boards as boardsOf};
 ghost use Rattle.plan_test.specs.PlanSays.{planTail};
 ghost use Rattle.layouts.specs.Placement.{placementWords};
 ghost use Rattle.layouts.specs.UnfoldCall.{unfoldVerdict, unfoldingOf, unfoldAnswer, placementsEnd};
-ghost use Rattle.layouts.specs.Demand3.{J, L, Unfolds};
+ghost use Rattle.layouts.specs.Demand3.{J, L};
+ghost use Rattle.layouts.specs.Promises.{UnfoldPromise};
 ghost use Rattle.unfold_step.specs.Ready.{ModelLent};
 ghost use Rattle.unfold_call.specs.UnfoldSays.{saysOf, results, OnSuccess, Ended};
 use job::admit::check_job;
@@ -114,7 +115,8 @@ fn unfold_checks(
 // Refused are 1 to 4 of the job; 5 a buffer shorter than its full size, plates 1, cuts 2, counts 3, placements 4; 6 and 7 of the model, naming 0; 8 a
 // nonzero count past the last cut, naming the cut that it would be; 10 a total above 4,000, naming 0; 11 a type short; 12 a plate type overdrawn. Plates
 // and cuts end as the listing, placements as the seven words of each piece; after 5 all three are unchanged, after another refusal every word of them
-// is 0, after success the unused words are 0. On success the placements are what demand 3 says of an accepted plan.
+// is 0, after success the unused words are 0. On success the placements are the lines of a set of layouts, and this set is what demand
+// 3 says of an accepted plan.
 pub fn unfold(
     job: &[u16],
     counts: &[u16],
@@ -126,7 +128,7 @@ pub fn unfold(
     ensures { λ _. ⌜ now (plates .exit) ≡ platesEnd (unfoldVerdict (now (job .entry)) (now (counts .entry)) (now (plates .entry)) (now (cuts .entry)) (now (placements .entry))) (now (job .entry)) (now (plates .entry)) ⌝ }
     ensures { λ _. ⌜ now (cuts .exit) ≡ cutsEnd (unfoldVerdict (now (job .entry)) (now (counts .entry)) (now (plates .entry)) (now (cuts .entry)) (now (placements .entry))) (now (job .entry)) (now (cuts .entry)) ⌝ }
     ensures { λ _. ⌜ now (placements .exit) ≡ placementsEnd (unfoldVerdict (now (job .entry)) (now (counts .entry)) (now (plates .entry)) (now (cuts .entry)) (now (placements .entry))) (now (job .entry)) (now (counts .entry)) (now (placements .entry)) ⌝ }
-    ensures { λ r. ⌜ OnSuccess r (Unfolds (J (now (job .entry))) (L (now (job .entry))) (now (counts .entry)) (unfoldingOf (now (job .entry)) (now (counts .entry)))) ⌝ }
+    ensures { λ r. ⌜ OnSuccess r (UnfoldPromise (now (job .entry)) (now (counts .entry)) (now (placements .exit))) ⌝ }
 {
     match unfold_checks(job, counts, plates, cuts, placements) {
         Row::Refuses(number, place) => {

@@ -1,26 +1,36 @@
 -- `answer` reads some text and ends it.
-use denote.Ref.{now}
+use native.Mathlib.Omega.{arith}
+use mathlib.Core.Path.{refl}
 use borrow.Author.Needs.{needs}
-use Rattle.fold.proofs.Outputs.{some-answer, answer-fits}
+use Rattle.texts.specs.Reader.{started, fed}
+use Rattle.texts.specs.FoldText.{foldGrammar, foldText}
+use Rattle.fold_text_reader.proofs.CodeRows.{size-is}
+use Rattle.fold_text_ending.proofs.Room.{room-sizes}
 use Rattle.fold.proofs.answer.Statement.{statement}
 use Rattle.fold.proofs.answer.Tie as tie
 
+read-requires : tie.Need-read-requires
+read-requires c κs =
+    let s = c .before .before .before .before .before .before .before .before .before .before in
+    let z = room-sizes _ _ _ _ _ _ (s .pre .1) in
+    (s .pre .0, (z .for-job, omega (arith, size-is, z .for-layouts)))
+
 returns : tie.Need-returns
+unfolding foldText
 returns c =
-    let e = c .before .before .before .before .before .before .before .before in
-    let d = e .before .before .before .before .before .before .before .before .before .before .before .before .before in
-    let a = d .before .before .before .before .before .before .before .before .before .before .before .args in
-    let j = d .read .kept .1 .0 in
-    let l = d .read .kept .1 .1 .0 in (
-      answer-fits (d .read .result) (now (a .job)) (now (a .layouts)) (now (a .plates)) (now (a .cuts)) (now (a .counts)) (now (a .out)) _ _ _ _ _ _ _ j l (d .read .ensures) (e .finish .ensures .1) (e .finish .ensures .0) (e .finish .kept .1 .1 .1 .1 .1 .1 .0),
-      some-answer (d .read .result) (now (a .job)) (now (a .layouts)) (now (a .plates)) (now (a .cuts)) (now (a .counts)) (now (a .out)) _ _ _ _ _ _ _ j l (d .read .ensures) (e .finish .ensures .1),
-    )
+    let f = c .before .before .before .before .before .before .before .before in
+    let r = f .before .before .before .before .before .before .before .before .before .before .before .before .before .before in
+    let t = r .read .ensures in
+    let j = r .read .kept .1 .0 in
+    let l = r .read .kept .1 .1 .0 in
+    let e = f .finish .ensures .1 (rw (j, l) (r .before .before .before .before .before .before .before .before .before .before .before .pre .1)) (fed foldGrammar (started foldGrammar) (t .text)) (t .text) refl (t .after) in
+    record { text = t .text; size = e .size; output = e .output }
 
 pub answer-spec : {M : Type 1} → statement M
 answer-spec =
     tie.close
     (tie.spec
-    (λ c κs. search needs)
+    read-requires
     (λ c κs. search needs)
     (λ c. search needs)
     (λ c. search needs)

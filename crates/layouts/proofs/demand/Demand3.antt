@@ -16,17 +16,20 @@ use Rattle.job.proofs.Admission.{admitted-words, admitted-job, admitted-sided}
 use Rattle.listing.specs.Listing.{modelRow}
 use Rattle.listing.specs.Model.{Model}
 use Rattle.listing.proofs.WalkModel.{row-model}
-use Rattle.layouts.specs.Layout.{Board}
+use Rattle.plan.specs.Prices.{pricesOf, priceSum}
+use Rattle.plan.proofs.PriceExact.{fewest-exact}
+use Rattle.layouts.specs.Layout.{Board, widthOf, stackHeight}
 use Rattle.layouts.specs.Placement.{placementWords, linesOf, itemsOfSet}
 use Rattle.layouts.specs.Lines.{rowsOf, layoutWords, setOf}
 use Rattle.layouts.specs.LayoutsRow.{layoutsRow}
 use Rattle.layouts.specs.UnfoldCall.{unfoldVerdict}
 use Rattle.layouts.specs.FoldCall.{foldVerdict}
-use Rattle.layouts.specs.Demand3.{Listed, OnlyFive, Accepted, Named, Folds, Demand3, J, L}
+use Rattle.layouts.specs.Demand3.{Listed, OnlyFive, Accepted, Named, Priced, Folds, Bounds, Demand3Of, Demand3, J, L}
 use Rattle.layouts.proofs.row.RowLines.{words-rows, rows-words, lines-length}
 use Rattle.layouts.proofs.row.RowWords.{words-exact, words-set}
 use Rattle.layouts.proofs.demand.DemandUnfold.{unfolds-so}
 use Rattle.layouts.proofs.demand.DemandFold.{bounded, none-fewer, folds-so}
+use Rattle.layouts.proofs.demand.Exact.{tests-exact, in-order}
 
 -- a check that passes leaves the refusals of those after it
 five-after : (u v : Verdict) → u ≡ pass → OnlyFive v → OnlyFive (u then v)
@@ -106,15 +109,32 @@ module _ (ws : List ℕ) (listed : Listed ws) where
         sym (rows-words layouts (words-exact (J ws) layouts .0 lines .0)) ∙ ap placementWords (s .lines),
       )
 
-  -- demand 3
-  pub demand3 : Demand3 ws
-  demand3 =
+  bounds : (prices : List ℕ) → Priced (J ws) (L ws) prices → Bounds (J ws) (L ws) (priceSum (J ws) (pricesOf (J ws) prices)) (pricesOf (J ws) prices .denominator)
+  bounds prices priced =
+      record {
+        at-least = λ set rules demands. bounded (J ws) (L ws) model sided set rules demands prices priced;
+        none-fewer = λ n few set rules demands.
+            none-fewer (J ws) (L ws) model sided set rules demands prices priced n (fewest-exact (J ws) (pricesOf (J ws) prices) n .1 few);
+      }
+
+  demand3-of : Demand3Of ws
+  demand3-of =
       record {
         unfolds = λ counts plan. unfolds-so (J ws) (L ws) model sided counts plan;
         unfolds-but-for-five = unfolds-but-for-five;
         folds = folds;
         folds-but-for-five = folds-but-for-five;
         folds-only = folds-only;
-        bounds = λ prices priced set rules demands. bounded (J ws) (L ws) model sided set rules demands prices priced;
-        none-fewer = λ prices priced n few set rules demands. none-fewer (J ws) (L ws) model sided set rules demands prices priced n few;
+        bounds = bounds;
+        fewest-boards = λ prices priced n few set rules demands. none-fewer (J ws) (L ws) model sided set rules demands prices priced n few;
       }
+
+-- demand 3
+pub demand3 : Demand3
+demand3 =
+    record {
+      every-listed = demand3-of;
+      tests = tests-exact;
+      strip-order = λ job strip. in-order (stackHeight job) strip;
+      stack-order = λ job stack. in-order (widthOf job) stack;
+    }

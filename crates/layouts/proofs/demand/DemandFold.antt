@@ -97,15 +97,18 @@ module _ (job : Job) (l : Listing) (m : Model job l) (sided : Sided job) where
           words = lines-words job set wide high (named .rules) (named .pieces);
           row = set-row job 1 set (named .rules) (named .demands) (named .pieces);
           read = rw (words-rows (linesOf job set)) (lines-grouped job set (ok-full job set ok));
-          accepted =
+          folds-to =
               record {
-                counted = omega (arith, folded-length job l m sided set ts);
-                passed =
-                    then-both (countsRow l (folded job l set)) (planRow job l (folded job l set))
-                    (counts-exact l (folded job l set) .1 (folded-past job l m sided set ts))
-                    (plan-exact job l (folded job l set) .1
-                    (folded-accepted job l m sided set ts kept (demands-exact job set .0 (named .demands)) (named .pieces)));
+                accepted =
+                    record {
+                      counted = omega (arith, folded-length job l m sided set ts);
+                      passed =
+                          then-both (countsRow l (folded job l set)) (planRow job l (folded job l set))
+                          (counts-exact l (folded job l set) .1 (folded-past job l m sided set ts))
+                          (plan-exact job l (folded job l set) .1
+                          (folded-accepted job l m sided set ts kept (demands-exact job set .0 (named .demands)) (named .pieces)));
+                    };
+                as-many = folded-boards job l m sided set ts;
+                as-often = folded-types job l m sided set ts kept;
               };
-          as-many = folded-boards job l m sided set ts;
-          as-often = folded-types job l m sided set ts kept;
         }

@@ -29,7 +29,7 @@ use Rattle.layouts.specs.Unfold.{Run, unfolded}
 use Rattle.layouts.specs.Lines.{setOf}
 use Rattle.layouts.specs.Fold.{folded}
 use Rattle.layouts.specs.Rules.{SetOk, BoardOk}
-use Rattle.layouts.specs.Demand3.{Accepted, Unfolds}
+use Rattle.layouts.specs.Demand3.{Accepted, UnfoldsTo, Unfolds}
 use Rattle.layouts.proofs.lists.Every.{every-map, decides-all, decides-filled}
 use Rattle.layouts.proofs.trees.Tree.{Tree, node}
 use Rattle.layouts.proofs.trees.Pattern.{Pattern}
@@ -41,7 +41,7 @@ use Rattle.layouts.proofs.rules.RulesWords.{demands-exact}
 use Rattle.layouts.proofs.rules.Geometry.{rules-inside, rules-no-overlap}
 use Rattle.layouts.proofs.row.Grouping.{ok-full, lines-grouped}
 use Rattle.layouts.proofs.row.RowTurns.{lines-turns}
-use Rattle.layouts.proofs.row.RowLines.{words-rows, words-length}
+use Rattle.layouts.proofs.row.RowLines.{words-rows, words-length, lines-length}
 use Rattle.layouts.proofs.trees.WeightedSums.{weight, countOf-wsum}
 use Rattle.layouts.proofs.trees.Balance.{Roots}
 use Rattle.layouts.proofs.trees.CutTree.{itemTree, root-pattern}
@@ -137,12 +137,34 @@ module _ (job : Job) (l : Listing) (m : Model job l) (sided : Sided job) where
             let few : length (take (length (l .cuts)) ns) ≤ c = omega (arith, length-take (length (l .cuts)) ns) in
             List·getD-eq-default (take (length (l .cuts)) ns) 0 few ∙ sym (past c h)
 
-    back : filled (length ns) (folded job l (setOf (placementWords (r .placements)))) ≡ ns
+    back : filled (length ns) (folded job l set) ≡ ns
     back =
-        rw read
-        (ap (filled (length ns))
+        ap (filled (length ns))
         (fold-back job l m sided (ordered-pattern job (sided-wide job sided) (job .width) (job .height)) ns r u (plan .counted))
-        ∙ whole)
+        ∙ whole
+
+    -- as many pieces as lines
+    pieces : length (r .placements) ≡ length (itemsOfSet set)
+    pieces = ap length lines ∙ lines-length job set
+
+    unfolds-to : UnfoldsTo job l ns set
+    unfolds-to =
+        record {
+          named =
+              record {
+                rules = rules;
+                demands = demands-exact job set .1 (λ i p q. omega (arith, balanced .met i p q, as-often i));
+                pieces = omega (arith, pieces, u .pieces, balanced .few);
+              };
+          inside-boards = rules-inside job set rules;
+          no-overlap = rules-no-overlap job set rules;
+          as-many = number ∙ u .opens;
+          none-empty = decides-all decides-filled set .1 (every-map (λ b (h : BoardOk job b). h .filled) set ok);
+          all-pieces = sym pieces ∙ u .pieces;
+          as-often = as-often;
+          in-turn = lines-turns job 1 set (ok-full job set ok);
+          back = back;
+        }
 
     pub unfolds-so : Unfolds job l ns r
     unfolds-so =
@@ -150,16 +172,9 @@ module _ (job : Job) (l : Listing) (m : Model job l) (sided : Sided job) where
           spent = spent;
           set = set;
           lines = lines;
-          rules = rules;
-          inside-boards = rw lines (rules-inside job set rules);
-          no-overlap = rw lines (rules-no-overlap job set rules);
-          as-often = as-often;
-          demands = demands-exact job set .1 (λ i p q. omega (arith, balanced .met i p q, as-often i));
-          as-many = number ∙ u .opens;
-          none-empty = decides-all decides-filled set .1 (every-map (λ b (h : BoardOk job b). h .filled) set ok);
+          read = read;
+          unfolds-to = unfolds-to;
           boards-given = u .last-board ∙ sym number;
-          pieces-given = u .pieces;
+          pieces-given = pieces;
           room = omega (arith, words-length (r .placements), u .pieces, balanced .few);
-          in-turn = rw lines (lines-turns job 1 set (ok-full job set ok));
-          back = back;
         }

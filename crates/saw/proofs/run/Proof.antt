@@ -1,57 +1,44 @@
--- `run` reads some text and writes its answer.
+-- `run` hands the answer to the write, whole.
+use native.Mathlib.Omega.{arith}
 use mathlib.Core.Path.{sym}
 use lib.Seq.{length-take-le}
 use Rattle.texts.specs.SawText.{sawText}
-use Rattle.saw_text_call.proofs.TextParts.{room-kept}
-use borrow.Author.Needs.{needs}
+use Rattle.programs.proofs.Answered.{answer-within, answer-first, answer-handed}
 use Rattle.saw.proofs.run.Statement.{statement}
 use Rattle.saw.proofs.run.Tie as tie
 
-read-requires : tie.Need-read-requires
-read-requires c κs = c .before .before .before .before .before .before .before .before .before .before .before .before .before .before .pre .lent
+slice-reshare-prefix-write-answer : tie.Need-slice-reshare-prefix-write-answer
+slice-reshare-prefix-write-answer c =
+    let a = c .before .before .before .before .before .before .before .before .before .before .before .before .before .before .before .before .answer in
+    omega (arith, answer-within sawText (a .ensures) (a .kept .1 .1 .1 .1 .1 .1 .1 .0))
 
-finish-listed-requires : tie.Need-finish-listed-requires
-finish-listed-requires c κs room = c .before .before .before .before .before .before .before .before .before .before .before .before .before .before .before .before .before .before .before .read .ensures
+slice-aggregate-write-answer : tie.Need-slice-aggregate-write-answer
+slice-aggregate-write-answer c =
+    let a = c .before .before .before .before .before .before .before .before .before .before .before .before .before .before .before .before .before .answer in
+    sym (length-take-le _ _ (omega (arith, answer-within sawText (a .ensures) (a .kept .1 .1 .1 .1 .1 .1 .1 .0))))
 
-slice-aggregate-write-all : tie.Need-slice-aggregate-write-all
-slice-aggregate-write-all c = sym (length-take-le (c .before .before .before .before .before .before .finish-listed .result) _ (c .before .if1 .taken))
+write-answer-requires : tie.Need-write-answer-requires
+write-answer-requires c κs = answer-first sawText (c .before .before .before .before .before .before .before .before .before .before .before .before .before .before .before .before .before .answer .ensures)
 
 returns : tie.Need-returns
-unfolding sawText
 returns c =
-    let r = c .before .before .before .before .before .before .before .before .before .before .before .before .before .before .before .before .before .before .before .before .before .before .before .before .before .before .before .read .ensures in
-    (r .0, c .before .before .before .before .before .before .before .finish-listed .ensures .1 (room-kept (c .before .before .before .before .before .before .before .before .before .before .before .before .before .before .before .before .before .before .before .before .before .before .before .before .before .before .before .before .before .before .before .before .before .before .before .before .before .before .before .before .before .before .pre) (r .1 .ready .room)) (r .0) (r .1) .output)
-
-returns-2 : tie.Need-returns-2
-unfolding sawText
-returns-2 c =
-    let r = c .before .before .before .before .before .before .before .before .before .before .before .before .before .before .before .before .before .before .before .before .before .before .before .before .before .read .ensures in
-    (r .0, c .before .before .before .before .before .finish-listed .ensures .1 (room-kept (c .before .before .before .before .before .before .before .before .before .before .before .before .before .before .before .before .before .before .before .before .before .before .before .before .before .before .before .before .before .before .before .before .before .before .before .before .before .before .before .before .pre) (r .1 .ready .room)) (r .0) (r .1) .output)
+    let a = c .before .before .before .before .before .before .before .before .before .before .before .before .before .before .before .before .before .before .answer in
+    answer-handed sawText (a .ensures) (a .kept .1 .1 .1 .1 .1 .1 .1 .0) (c .write-answer .ensures)
 
 pub run-spec : {M : Type 1} → statement M
 run-spec =
     tie.close
     (tie.spec
-    read-requires
-    finish-listed-requires
-    (λ c. search needs)
-    slice-aggregate-write-all
-    (λ c κs. search needs)
-    (λ c. c .before .before .before .before .before .before .before .before .before .before .before .before .before .before .before .before .before .before .before .before .before .before .before .before .before .before .before .read .kept .0)
-    (λ c. c .before .before .before .before .before .before .before .before .before .before .before .before .before .before .before .before .before .before .before .before .before .before .before .before .before .before .before .read .kept .1 .0)
-    (λ c. c .before .before .before .before .before .before .before .before .before .before .before .before .before .before .before .before .before .before .before .before .before .before .before .before .before .before .before .read .kept .1 .1 .0)
-    (λ c. c .before .before .before .before .before .before .before .before .before .before .before .before .before .before .before .before .before .before .before .before .before .before .before .before .before .before .before .read .kept .1 .1 .1 .0)
-    (λ c. c .before .before .before .before .before .before .before .before .before .before .before .before .before .before .before .before .before .before .before .before .before .before .before .before .before .before .before .read .kept .1 .1 .1 .1 .0)
-    (λ c. c .before .before .before .before .before .before .before .before .before .before .before .before .before .before .before .before .before .before .before .before .before .before .before .before .before .before .before .read .kept .1 .1 .1 .1 .1 .0)
-    (λ c. c .before .before .before .before .before .before .before .finish-listed .kept .1 .1 .1 .1 .1 .1 .0)
-    (λ c. c .before .before .before .before .before .before .before .finish-listed .kept .1 .1 .1 .1 .1 .1 .1 .0)
-    returns
-    (λ c. c .before .before .before .before .before .before .before .before .before .before .before .before .before .before .before .before .before .before .before .before .before .before .before .before .before .read .kept .0)
-    (λ c. c .before .before .before .before .before .before .before .before .before .before .before .before .before .before .before .before .before .before .before .before .before .before .before .before .before .read .kept .1 .0)
-    (λ c. c .before .before .before .before .before .before .before .before .before .before .before .before .before .before .before .before .before .before .before .before .before .before .before .before .before .read .kept .1 .1 .0)
-    (λ c. c .before .before .before .before .before .before .before .before .before .before .before .before .before .before .before .before .before .before .before .before .before .before .before .before .before .read .kept .1 .1 .1 .0)
-    (λ c. c .before .before .before .before .before .before .before .before .before .before .before .before .before .before .before .before .before .before .before .before .before .before .before .before .before .read .kept .1 .1 .1 .1 .0)
-    (λ c. c .before .before .before .before .before .before .before .before .before .before .before .before .before .before .before .before .before .before .before .before .before .before .before .before .before .read .kept .1 .1 .1 .1 .1 .0)
-    (λ c. c .before .before .before .before .before .finish-listed .kept .1 .1 .1 .1 .1 .1 .0)
-    (λ c. c .before .before .before .before .before .finish-listed .kept .1 .1 .1 .1 .1 .1 .1 .0)
-    returns-2)
+    (λ c κs. c .before .before .before .before .before .before .before .before .before .before .before .before .before .before .before .before .pre)
+    slice-reshare-prefix-write-answer
+    slice-aggregate-write-answer
+    write-answer-requires
+    (λ c. c .before .before .before .before .before .before .before .before .before .before .before .before .before .before .before .before .before .before .answer .kept .0)
+    (λ c. c .before .before .before .before .before .before .before .before .before .before .before .before .before .before .before .before .before .before .answer .kept .1 .0)
+    (λ c. c .before .before .before .before .before .before .before .before .before .before .before .before .before .before .before .before .before .before .answer .kept .1 .1 .0)
+    (λ c. c .before .before .before .before .before .before .before .before .before .before .before .before .before .before .before .before .before .before .answer .kept .1 .1 .1 .0)
+    (λ c. c .before .before .before .before .before .before .before .before .before .before .before .before .before .before .before .before .before .before .answer .kept .1 .1 .1 .1 .0)
+    (λ c. c .before .before .before .before .before .before .before .before .before .before .before .before .before .before .before .before .before .before .answer .kept .1 .1 .1 .1 .1 .0)
+    (λ c. c .before .before .before .before .before .before .before .before .before .before .before .before .before .before .before .before .before .before .answer .kept .1 .1 .1 .1 .1 .1 .0)
+    (λ c. c .before .before .before .before .before .before .before .before .before .before .before .before .before .before .before .before .before .before .answer .kept .1 .1 .1 .1 .1 .1 .1 .0)
+    returns)

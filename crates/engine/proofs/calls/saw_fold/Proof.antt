@@ -14,7 +14,7 @@ returns c =
     let call = at .before .before .before .before .before .before .before .before .fold in
     let says = sym (ap saysOf (at .boards .given .1)) ∙ call .ensures .0 in
     let words = c .accept .ensures in
-    (words ∙ ap answerWords says, (call .ensures .1 .0, (call .ensures .1 .1 .0, (call .ensures .1 .1 .1 .0, λ zero. fold-accepted _ (at .boards .given .1) (call .ensures .1 .1 .1 .1)))))
+    (words ∙ ap answerWords says, (call .ensures .1 .0, (call .ensures .1 .1 .0, (call .ensures .1 .1 .1 .0, fold-accepted _ _ _ (at .boards .given .1) (call .ensures .1 .1 .1 .1) words))))
 
 returns-2 : tie.Need-returns-2
 returns-2 c =
@@ -23,7 +23,7 @@ returns-2 c =
     let says = sym (ap saysOf (at .number .given .1)) ∙ call .ensures .0 in
     let args = c .before .before .before .before .before .before .before .before .before .before .before .before .before .before .before .before .before .before .before .before .args in
     let words = c .refuse .ensures in
-    (words ∙ ap answerWords says, (call .ensures .1 .0, (call .ensures .1 .1 .0, (call .ensures .1 .1 .1 .0, fold-refused (now (args .job)) (now (args .layouts)) (now (args .plates)) (now (args .cuts)) (now (args .counts)) _ says words _))))
+    (words ∙ ap answerWords says, (call .ensures .1 .0, (call .ensures .1 .1 .0, (call .ensures .1 .1 .1 .0, λ zero. absurd (fold-refused (now (args .job)) (now (args .layouts)) (now (args .plates)) (now (args .cuts)) (now (args .counts)) _ says words zero)))))
 
 pub saw-fold-spec : {M : Type 1} → statement M
 saw-fold-spec =

@@ -9,8 +9,8 @@ use Rattle.job.specs.Job.{jobOf}
 use Rattle.listing.specs.Listing.{modelRow}
 use Rattle.listing_call.specs.ListSays.{saysOf as listingSays}
 use Rattle.job.specs.Row.{rowVerdict}
+use Rattle.job.proofs.CodeEnds.{given-pass}
 use Rattle.listing_call.proofs.CodeEnding.{zeros, some-types}
-use Rattle.plan_test.proofs.CodeCall.{given-pass}
 use Rattle.plan_test.proofs.CodeListed.{Ready, ready}
 use Rattle.fold_call.proofs.Passed.{words-passed, lines-passed, job-passed, listed-cuts}
 use Rattle.fold_call.proofs.CodeEnding.{list-refused, row-refused, row-passed}

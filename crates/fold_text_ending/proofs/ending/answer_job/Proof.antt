@@ -8,7 +8,7 @@ use Rattle.job.specs.Job.{jobOf, admission}
 use Rattle.job.proofs.Verdicts.{then-both}
 use Rattle.listing.specs.Listing.{modelRow}
 use Rattle.texts_reading.proofs.JobKept.{few-kept}
-use Rattle.texts_reading.proofs.Near.{near-job}
+use Rattle.texts.proofs.Places.{near-place, near-job}
 use Rattle.fold_text_ending.specs.FoldEnd.{lastRows}
 use Rattle.fold_text_ending.proofs.Answers.{answered-again}
 use Rattle.fold_text_ending.proofs.JobPart.{listed-so, rows-refused, words-are, words-there, words-pass, job-refused, job-passed}
@@ -27,7 +27,7 @@ answer-listed-requires c κs =
     let a = s .args in
     let x = c .before .before .before .before .before .before .before .before .before .before .before .before .list in
     let us = take (jobSize (c .before .before .before .before .before .before .before .before .before .before .before .before .before .before .before .before .before .before .before .before .head-of .result .types .0)) (now (a .job)) in
-    (listed-so us (now (a .plates)) (now (a .cuts)) _ _ (x .kept .1 .0) (x .kept .1 .1 .0) (s .pre .1 .0 .0) (s .pre .1 .0 .1) (x .result) (x .ensures .0) (x .ensures .1 .0) (x .ensures .1 .1 .0) (x .ensures .1 .1 .1) _ _ (c .before .before .before .before .before .before .k .given .1), (s .pre .0 .1, s .pre .1 .1))
+    (listed-so us (now (a .plates)) (now (a .cuts)) _ _ (x .kept .1 .0) (x .kept .1 .1 .0) (s .pre .1 .0 .0) (s .pre .1 .0 .1) (x .result) (x .ensures .0) (x .ensures .1 .1 .0) (x .ensures .1 .1 .1 .0) (x .ensures .1 .1 .1 .1) _ _ (c .before .before .before .before .before .before .k .given .1), (s .pre .0 .1, s .pre .1 .1))
 
 returns-2 : tie.Need-returns-2
 returns-2 c ws ls w =
@@ -38,11 +38,11 @@ returns-2 c ws ls w =
     let us = take (jobSize (head .result .types .0)) (now (a .job)) in
     let is = words-are (now (a .job)) _ ws (head .ensures .of-types) (w .words) (w .passed) in
     let pass = words-pass ws ls (a .rows) (now (a .job)) (now (a .layouts)) w us is in
-    let row = rows-refused us (now (a .plates)) (now (a .cuts)) _ _ (x .kept .1 .0) (x .kept .1 .1 .0) (s .pre .1 .0 .0) (s .pre .1 .0 .1) (x .result) (x .ensures .0) (x .ensures .1 .0) (x .ensures .1 .1 .0) (x .ensures .1 .1 .1) _ _ (c .before .before .before .before .before .before .before .before .before .before .before .before .before .before .number .given .1) pass in
+    let row = rows-refused us (now (a .plates)) (now (a .cuts)) _ _ (x .kept .1 .0) (x .kept .1 .1 .0) (s .pre .1 .0 .0) (s .pre .1 .0 .1) (x .result) (x .ensures .0) (x .ensures .1 .1 .0) (x .ensures .1 .1 .1 .0) (x .ensures .1 .1 .1 .1) _ _ (c .before .before .before .before .before .before .before .before .before .before .before .before .before .before .number .given .1) pass in
     answered-again (x .kept .1 .0) (x .kept .1 .1 .0) refl
     (c .before .before .before .before .before .before .before .before .refuse .ensures (lastRows ws ls) ws ls
     (job-refused ws ls (a .rows) (now (a .job)) (now (a .layouts)) w us is row)
-    (near-job us pass .place _ _ row))
+    (near-place (near-job us pass) _ _ row))
 
 returns-3 : tie.Need-returns-3
 returns-3 c ws ls w =
@@ -52,7 +52,7 @@ returns-3 c ws ls w =
     let head = c .before .before .before .before .before .before .before .before .before .before .before .before .before .before .before .before .before .before .before .before .before .before .before .before .before .before .before .before .before .head-of in
     let us = take (jobSize (head .result .types .0)) (now (a .job)) in
     let is = words-are (now (a .job)) _ ws (head .ensures .of-types) (w .words) (w .passed) in
-    let l = listed-so us (now (a .plates)) (now (a .cuts)) _ _ (x .kept .1 .0) (x .kept .1 .1 .0) (s .pre .1 .0 .0) (s .pre .1 .0 .1) (x .result) (x .ensures .0) (x .ensures .1 .0) (x .ensures .1 .1 .0) (x .ensures .1 .1 .1) _ _ (c .before .before .before .before .before .before .before .before .before .before .before .before .before .before .before .k .given .1) in
+    let l = listed-so us (now (a .plates)) (now (a .cuts)) _ _ (x .kept .1 .0) (x .kept .1 .1 .0) (s .pre .1 .0 .0) (s .pre .1 .0 .1) (x .result) (x .ensures .0) (x .ensures .1 .1 .0) (x .ensures .1 .1 .1 .0) (x .ensures .1 .1 .1 .1) _ _ (c .before .before .before .before .before .before .before .before .before .before .before .before .before .before .before .k .given .1) in
     answered-again (x .kept .1 .0) (x .kept .1 .1 .0) refl
     (job-passed ws ls (a .rows) (now (a .job)) (now (a .layouts)) w us is _ _ _ _ _ _ _ _ _
     (then-both (admission (jobOf us)) (modelRow (jobOf us)) (l .admitted) (l .modelled))

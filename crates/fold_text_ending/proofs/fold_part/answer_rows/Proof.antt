@@ -6,14 +6,14 @@ use Rattle.job.specs.Verdict.{_then_}
 use Rattle.job.specs.Job.{jobOf, jobWords, admission}
 use Rattle.job.specs.Row.{rowVerdict}
 use Rattle.job.proofs.CodeAdmission.{passed-length, passed-few}
-use Rattle.job.proofs.CodeItems.{items-length}
 use Rattle.job.proofs.Verdicts.{pass-not-refuse, then-both}
 use Rattle.layouts.specs.Lines.{rowsOf, layoutWords}
 use Rattle.layouts.specs.LayoutsRow.{layoutsRow}
 use Rattle.fold_call.proofs.Passed.{lines-passed}
-use Rattle.texts.specs.JobLines.{typesOf, bodyLine}
+use Rattle.texts.specs.JobLines.{bodyLine}
+use Rattle.texts.proofs.Places.{few-types, near-place}
+use Rattle.texts.proofs.LayoutPlaces.{near-row}
 use Rattle.texts.proofs.FoldRows.{layouts-any}
-use Rattle.fold_text_ending.proofs.Places.{near-row}
 use Rattle.fold_text_ending.proofs.Answers.{accepted-answer}
 use Rattle.fold_text_ending.proofs.JobPart.{first-line}
 use borrow.Author.Needs.{needs}
@@ -57,7 +57,7 @@ returns-2 c h =
     let few = passed-few ws (s .pre .0 .words) in
     let e = sym (first-line ws ls (c .before .before .before .before .before .before .before .before .before .before .before .before .before .before .before .before .before .before .before .before .before .head-of .ensures .of-types)) ∙ sym (c .before .before .before .before .before .before .before .before .before .before .before .before .before .before .before .before .layouts-row .ensures) ∙ ap rowVerdict (c .before .before .before .before .before .before .before .before .before .before .before .before .before .before .number2 .given .1) in
     c .before .before .before .before .before .before .before .before .refuse2 .ensures (layoutsRow (bodyLine ws) (jobOf ws) (rowsOf ls)) ws ls e
-    (near-row (bodyLine ws) (jobOf ws) (rowsOf ls) (omega (arith, few)) (omega (arith, few, items-length ws (typesOf ws) (passed-length ws (s .pre .0 .words)))) .place _ _ e)
+    (near-place (near-row (bodyLine ws) (jobOf ws) (rowsOf ls) (omega arith) (omega (arith, few)) (few-types ws (s .pre .0 .words) .0)) _ _ e)
 
 returns-3 : tie.Need-returns-3
 returns-3 c h =

@@ -4,7 +4,7 @@ use borrow.Author.Needs.{needs}
 use denote.Ref.{now}
 use Rattle.job.specs.Row.{rowVerdict}
 use Rattle.listing.specs.ListCall.{listAnswer}
-use Rattle.listing_call.proofs.CodeEnding.{before-refuses, before-pass, list-rows, before-passed}
+use Rattle.listing_call.proofs.CodeEnding.{before-refuses, before-pass, list-rows, before-admitted, before-passed, listed-is}
 use Rattle.listing_call.proofs.call.list.Statement.{statement}
 use Rattle.listing_call.proofs.call.list.Tie as tie
 
@@ -17,14 +17,15 @@ returns : tie.Need-returns
 unfolding listAnswer
 returns c =
     let a = c .before .before .before .before .before .before .before .before .before .before .before .before .before .before .before .before .before .args in
-    (tt, rw (list-rows (now (a .job)) (now (a .plates)) (now (a .cuts))) (before-refuses (now (a .job)) (now (a .plates)) (now (a .cuts)) _ _ _ _ _ (sym (c .before .before .before .before .before .before .before .before .before .before .before .list-checks .ensures) ∙ ap rowVerdict (c .before .before .before .before .before .before .before .before .before .number .given .1)) (c .before .before .before .before .before .before .end-refused .ensures) (c .before .before .end-refused2 .ensures)))
+    (tt, (tt, rw (list-rows (now (a .job)) (now (a .plates)) (now (a .cuts))) (before-refuses (now (a .job)) (now (a .plates)) (now (a .cuts)) _ _ _ _ _ (sym (c .before .before .before .before .before .before .before .before .before .before .before .list-checks .ensures) ∙ ap rowVerdict (c .before .before .before .before .before .before .before .before .before .number .given .1)) (c .before .before .before .before .before .before .end-refused .ensures) (c .before .before .end-refused2 .ensures))))
 
 returns-2 : tie.Need-returns-2
 unfolding listAnswer
 returns-2 c =
     let a = c .before .before .before .before .before .before .before .before .before .before .before .before .before .before .before .args in
     let r = c .before .before .before .before .list-into .ensures in
-    (r .0, rw (list-rows (now (a .job)) (now (a .plates)) (now (a .cuts))) (before-pass (now (a .job)) (now (a .plates)) (now (a .cuts)) _ _ _ (sym (c .before .before .before .before .before .before .before .before .before .list-checks .ensures) ∙ ap rowVerdict (c .before .before .before .before .before .before .before .enum-told .given .1)) (r .1)))
+    let passed = sym (c .before .before .before .before .before .before .before .before .before .list-checks .ensures) ∙ ap rowVerdict (c .before .before .before .before .before .before .before .enum-told .given .1) in
+    (r .0, (listed-is (now (a .job)) (c .before .before .before .before .list-into .result) (before-admitted (now (a .job)) (now (a .plates)) (now (a .cuts)) passed) (r .1 .0), rw (list-rows (now (a .job)) (now (a .plates)) (now (a .cuts))) (before-pass (now (a .job)) (now (a .plates)) (now (a .cuts)) _ _ _ passed (r .1))))
 
 pub list-spec : {M : Type 1} → statement M
 list-spec =

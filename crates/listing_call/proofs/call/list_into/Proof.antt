@@ -42,7 +42,7 @@ returns-2 : tie.Need-returns-2
 returns-2 c =
     let a = c .before .before .before .before .before .before .before .before .before .before .before .before .before .before .before .before .before .before .before .before .before .before .before .before .before .before .before .before .before .before .before .before .before .before .args in
     let x = c .before .before .before .before .before .before .before .before .before .before .before .before .before .before .before .walk in
-    let e = as-stop _ _ _ (c .before .before .before .before .before .before .before .before .before .number .given .1) (x .ensures) in (
+    let e = as-stop _ _ (c .before .before .before .before .before .before .before .before .before .number .given .1) (x .ensures) in (
       tt,
       walk-stopped (now (a .job)) (now (a .plates)) (now (a .cuts)) _ _ _ (e .0) (e .1)
           (c .before .before .before .before .before .before .clear3 .ensures ∙ ap zeros (x .kept .1 .1 .1 .0 ∙ c .before .before .before .before .before .before .before .before .before .before .before .before .before .before .before .before .before .before .before .before .put-plate .kept .0 ∙ c .before .before .before .before .before .before .before .before .before .before .before .before .before .before .before .before .before .before .before .before .before .before .before .before .before .before .before .before .before .clear .kept .0))

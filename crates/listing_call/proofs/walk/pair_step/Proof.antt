@@ -34,15 +34,15 @@ left-is c =
     leaves-of (s .args .plate) (c .cut-leaves .ensures) (s .pre .0 .of-job .of-mode) (c .before .before .before .before .item-at .ensures)
 
 returns : tie.Need-returns
-returns c rest whole h =
+returns c l h =
     let s = c .before .before .before .before .before .before in
-    step-none (jobOf (words s)) (s .args .j .0) (s .args .plate) (s .args .i .0) _ rest whole h
+    step-none (jobOf (words s)) (s .args .j .0) (s .args .plate) (s .args .i .0) _ l h
     (mayCut-of (s .args .plate) (c .before .may-cut .ensures) (s .pre .0 .of-job .of-mode) (c .before .before .item-at .ensures) (not-true _ (c .if1 .taken)))
 
 returns-2 : tie.Need-returns-2
-returns-2 c rest whole h =
+returns-2 c l h =
     let s = c .before .before .before .before .before .before .before in
-    (step-cuts-full (jobOf (words s)) (s .args .j .0) (s .args .plate) (s .args .i .0) _ rest whole h (permitted (c .before)) _ refl (c .if2 .taken), omega arith)
+    (step-cuts-full (jobOf (words s)) (s .args .j .0) (s .args .plate) (s .args .i .0) _ l h (permitted (c .before)) _ refl (c .if2 .taken), omega arith)
 
 cut-leaves-requires : tie.Need-cut-leaves-requires
 cut-leaves-requires c κs =
@@ -50,11 +50,11 @@ cut-leaves-requires c κs =
     mayCut-fits (s .args .mode) _ (s .args .plate) (c .before .before .may-cut .ensures) (not-false _ (c .before .if1 .left))
 
 returns-3 : tie.Need-returns-3
-returns-3 c rest whole h =
+returns-3 c l h =
     let d = c .before .before .before .before .before .before .before .before in
     let s = d .before .before .before .before .before .before .before .before in
-    let a = c .before .before .before .before .enter .ensures .0 (h .l .plates) (h .rep .plate-count) (h .rep .of-plates) in
-    (step-top-full (jobOf (words s)) (s .args .j .0) (s .args .plate) (s .args .i .0) _ rest whole h (permitted (d .before .before)) _ (left-is d) (d .before .if2 .left) (as-full (entered (jobOf (words s)) (d .cut-leaves .result .top) (h .l .plates)) _ (c .enum-told .given .1) a), omega arith)
+    let a = c .before .before .before .before .enter .ensures .0 (l .plates) (h .plate-count) (h .of-plates) in
+    (step-top-full (jobOf (words s)) (s .args .j .0) (s .args .plate) (s .args .i .0) _ l h (permitted (d .before .before)) _ (left-is d) (d .before .if2 .left) (as-full (entered (jobOf (words s)) (d .cut-leaves .result .top) (l .plates)) _ (c .enum-told .given .1) a), omega arith)
 
 enter-requires-2 : tie.Need-enter-requires-2
 enter-requires-2 c κs =
@@ -64,24 +64,24 @@ enter-requires-2 c κs =
     (s .pre .0 .of-job, (subst (λ (n : ℕ). platesSize ≤ n) (sym (x .kept .1 .1 .1 .0)) r, as-few (c .before .before .t .given .1) (x .ensures .1)))
 
 returns-4 : tie.Need-returns-4
-returns-4 c rest whole h =
+returns-4 c l h =
     let d = c .before .before .before .before .before .before .before .before .before .before .before .before .before .before .before in
     let s = d .before .before .before .before .before .before .before .before in
-    let top = entered (jobOf (words s)) (d .cut-leaves .result .top) (h .l .plates) in
-    let a = as-numbered {e = top} (c .before .before .before .before .before .before .before .t .given .1) (c .before .before .before .before .before .before .before .before .before .before .before .enter .ensures .0 (h .l .plates) (h .rep .plate-count) (h .rep .of-plates)) in
-    (step-right-full (jobOf (words s)) (s .args .j .0) (s .args .plate) (s .args .i .0) _ rest whole h (permitted (d .before .before)) _ (left-is d) (d .before .if2 .left) (as-full (entered (jobOf (words s)) (d .cut-leaves .result .right) (top .plates)) _ (c .enum-told2 .given .1) (c .before .before .before .before .enter2 .ensures .0 (top .plates) (a .types) (a .held))), omega arith)
+    let top = entered (jobOf (words s)) (d .cut-leaves .result .top) (l .plates) in
+    let a = as-numbered {e = top} (c .before .before .before .before .before .before .before .t .given .1) (c .before .before .before .before .before .before .before .before .before .before .before .enter .ensures .0 (l .plates) (h .plate-count) (h .of-plates)) in
+    (step-right-full (jobOf (words s)) (s .args .j .0) (s .args .plate) (s .args .i .0) _ l h (permitted (d .before .before)) _ (left-is d) (d .before .if2 .left) (as-full (entered (jobOf (words s)) (d .cut-leaves .result .right) (top .plates)) _ (c .enum-told2 .given .1) (c .before .before .before .before .enter2 .ensures .0 (top .plates) (a .types) (a .held))), omega arith)
 
 put-cut-requires : tie.Need-put-cut-requires
 put-cut-requires c κs = omega (arith, c .before .before .before .before .before .before .before .before .before .before .before .before .before .before .before .before .before .before .if2 .left, c .before .before .before .before .before .before .before .before .before .before .before .before .before .before .before .before .before .before .before .before .before .before .before .before .before .pre .0 .cut-room)
 
 returns-5 : tie.Need-returns-5
-returns-5 c rest whole h =
+returns-5 c l h =
     let d = c .before .before .before .before .before .before .before .before .before .before .before .before .before .before .before .before .before .before .before .before in
     let s = d .before .before .before .before .before .before .before .before in
-    let top = entered (jobOf (words s)) (d .cut-leaves .result .top) (h .l .plates) in
-    let a = as-numbered {e = top} (c .before .before .before .before .before .before .before .before .before .before .before .before .t .given .1) (c .before .before .before .before .before .before .before .before .before .before .before .before .before .before .before .before .enter .ensures .0 (h .l .plates) (h .rep .plate-count) (h .rep .of-plates)) in
+    let top = entered (jobOf (words s)) (d .cut-leaves .result .top) (l .plates) in
+    let a = as-numbered {e = top} (c .before .before .before .before .before .before .before .before .before .before .before .before .t .given .1) (c .before .before .before .before .before .before .before .before .before .before .before .before .before .before .before .before .enter .ensures .0 (l .plates) (h .plate-count) (h .of-plates)) in
     let b = as-numbered {e = entered (jobOf (words s)) (d .cut-leaves .result .right) (top .plates)} (c .before .before .before .before .before .r .given .1) (c .before .before .before .before .before .before .before .before .before .enter2 .ensures .0 (top .plates) (a .types) (a .held)) in
-    step-next (jobOf (words s)) (s .args .j .0) (s .args .plate) (s .args .i .0) _ rest whole h (permitted (d .before .before)) _ (left-is d) (d .before .if2 .left) a b (c .before .before .put-cut .ensures (h .l .cuts) (h .rep .cut-count) (h .rep .of-cuts))
+    step-next (jobOf (words s)) (s .args .j .0) (s .args .plate) (s .args .i .0) _ l h (permitted (d .before .before)) _ (left-is d) (d .before .if2 .left) a b (c .before .before .put-cut .ensures (l .cuts) (h .cut-count) (h .of-cuts))
 
 pub pair-step-spec : {M : Type 1} → statement M
 pair-step-spec =

@@ -12,7 +12,7 @@ use Rattle.job.specs.Job.{jobOf}
 use Rattle.job.proofs.CodeItems.{items-length}
 use Rattle.listing.specs.Listing.{Listing, Walk, walk, maxPlates}
 use Rattle.listing_call.specs.Steps.{Here}
-use Rattle.listing_call.proofs.Walking.{restWalk, restRow, walk-start, walk-end, row-start, row-next, row-end, as-next, as-stop}
+use Rattle.listing_call.proofs.Walking.{restWalk, restRow, walk-start, walk-end, row-start, row-next, row-stop, row-end, as-next, as-stop}
 use Rattle.listing_call.proofs.walk.walk.Statement.{statement}
 use Rattle.listing_call.proofs.walk.walk.Tie as tie
 
@@ -75,7 +75,8 @@ loop-again c =
     let l = c .before .before .before .before .before .before .before .before .before .before .before .loop in
     let x = c .before .before .before .before .before .before .before .pair-step in
     let t = c .before .before .before .before .before .before .before .before .before .before .loop-test .taken in
-    ((as-next (c .before .m1 .given .1) (x .ensures _ _ (row-next (jobOf (now (s .args .job))) (c .before .before .before .before .before .before .before .before .before .before .before .before .before .before .before .before .walk .j) (c .before .before .before .before .before .before .before .before .before .before .before .before .plate-at .result) (l .i) (l .inv .0 .0) (l .inv .1 .0) (rw (items-length _ _ (s .pre .0 .of-job .words)) t))), (x .kept .1 .1 .1 .0 ∙ l .inv .0 .1 .0, x .kept .1 .1 .1 .1 .0 ∙ l .inv .0 .1 .1)), (omega arith, omega (arith, t)))
+    let on = row-next (jobOf (now (s .args .job))) (c .before .before .before .before .before .before .before .before .before .before .before .before .before .before .before .before .walk .j) (c .before .before .before .before .before .before .before .before .before .before .before .before .plate-at .result) (l .i) (l .inv .0 .0) (l .inv .1 .0) (rw (items-length _ _ (s .pre .0 .of-job .words)) t) (as-next (c .before .m1 .given .1) (x .ensures (l .inv .0 .0 .l) (l .inv .0 .0 .rep))) in
+    ((on, (x .kept .1 .1 .1 .0 ∙ l .inv .0 .1 .0, x .kept .1 .1 .1 .1 .0 ∙ l .inv .0 .1 .1)), (omega arith, omega (arith, t)))
 
 add-j : tie.Need-add-j Inv-loop μ-loop Inv-walk μ-walk
 add-j c = omega (arith, c .before .before .before .before .if1 .left, c .before .before .before .before .before .before .walk .inv .0 .rep .few-plates)
@@ -107,7 +108,8 @@ returns-2 : tie.Need-returns-2 Inv-loop μ-loop Inv-walk μ-walk
 returns-2 c =
     let s = c .before .before .before .before .before .before .before .before .before .before .before .before .before .before .before .before .before .before .before .before in
     let l = c .before .before .before .before .before .before .before .before .before .before .before .loop in
-    as-stop _ _ _ (c .before .number .given .1) (c .before .before .before .before .before .before .before .pair-step .ensures _ _ (row-next (jobOf (now (s .args .job))) (c .before .before .before .before .before .before .before .before .before .before .before .before .before .before .before .before .walk .j) (c .before .before .before .before .before .before .before .before .before .before .before .before .plate-at .result) (l .i) (l .inv .0 .0) (l .inv .1 .0) (rw (items-length _ _ (s .pre .0 .of-job .words)) (c .before .before .before .before .before .before .before .before .before .before .loop-test .taken))))
+    let p = as-stop _ _ (c .before .number .given .1) (c .before .before .before .before .before .before .before .pair-step .ensures (l .inv .0 .0 .l) (l .inv .0 .0 .rep)) in
+    (row-stop (jobOf (now (s .args .job))) (c .before .before .before .before .before .before .before .before .before .before .before .before .before .before .before .before .walk .j) (c .before .before .before .before .before .before .before .before .before .before .before .before .plate-at .result) (l .i) (l .inv .0 .0) (l .inv .1 .0) (rw (items-length _ _ (s .pre .0 .of-job .words)) (c .before .before .before .before .before .before .before .before .before .before .loop-test .taken)) (p .0), p .1)
 
 pub walk-spec : {M : Type 1} → statement M
 walk-spec =

@@ -4,8 +4,9 @@ use borrow.Author.Needs.{needs}
 use denote.Ref.{now}
 use Rattle.job.specs.Row.{rowVerdict}
 use Rattle.listing_call.proofs.CodeEnding.{before-refuses, before-pass}
-use Rattle.plan.specs.PlanCall.{planAnswer}
-use Rattle.plan_test.proofs.CodePlanCall.{plan-rows, before-passed}
+use Rattle.plan_test.specs.PlanSays.{saysOf}
+use Rattle.plan_test.specs.declared.plan_row.PlanAnswer.the-variants.{Refused}
+use Rattle.plan_test.proofs.CodePlanCall.{plan-rows, before-passed, with-exactly}
 use Rattle.plan_test.proofs.call.test_plan.Statement.{statement}
 use Rattle.plan_test.proofs.call.test_plan.Tie as tie
 
@@ -15,16 +16,16 @@ plan-into-requires c κs =
     before-passed (now (a .job)) (now (a .counts)) (now (a .plates)) (now (a .cuts)) (sym (c .before .before .before .before .plan-checks .ensures) ∙ ap rowVerdict (c .before .before .enum-told .given .1))
 
 returns : tie.Need-returns
-unfolding planAnswer
 returns c =
     let a = c .before .before .before .before .before .before .before .before .before .before .before .before .before .before .before .before .before .before .args in
-    rw (plan-rows (now (a .job)) (now (a .counts)) (now (a .plates)) (now (a .cuts))) (before-refuses (now (a .job)) (now (a .plates)) (now (a .cuts)) _ _ _ _ _ (sym (c .before .before .before .before .before .before .before .before .before .before .before .plan-checks .ensures) ∙ ap rowVerdict (c .before .before .before .before .before .before .before .before .before .number .given .1)) (c .before .before .before .before .before .before .end-refused .ensures) (c .before .before .end-refused2 .ensures))
+    with-exactly (now (a .job)) (now (a .counts)) (now (a .plates)) (now (a .cuts)) (saysOf (Refused _ _))
+    (rw (plan-rows (now (a .job)) (now (a .counts)) (now (a .plates)) (now (a .cuts))) (before-refuses (now (a .job)) (now (a .plates)) (now (a .cuts)) _ _ _ _ _ (sym (c .before .before .before .before .before .before .before .before .before .before .before .plan-checks .ensures) ∙ ap rowVerdict (c .before .before .before .before .before .before .before .before .before .number .given .1)) (c .before .before .before .before .before .before .end-refused .ensures) (c .before .before .end-refused2 .ensures)))
 
 returns-2 : tie.Need-returns-2
-unfolding planAnswer
 returns-2 c =
     let a = c .before .before .before .before .before .before .before .before .before .before .before .before .before .before .before .before .args in
-    rw (plan-rows (now (a .job)) (now (a .counts)) (now (a .plates)) (now (a .cuts))) (before-pass (now (a .job)) (now (a .plates)) (now (a .cuts)) _ _ _ (sym (c .before .before .before .before .before .before .before .before .before .plan-checks .ensures) ∙ ap rowVerdict (c .before .before .before .before .before .before .before .enum-told .given .1)) (c .before .before .before .before .plan-into .ensures))
+    with-exactly (now (a .job)) (now (a .counts)) (now (a .plates)) (now (a .cuts)) (saysOf (c .before .before .before .before .plan-into .result))
+    (rw (plan-rows (now (a .job)) (now (a .counts)) (now (a .plates)) (now (a .cuts))) (before-pass (now (a .job)) (now (a .plates)) (now (a .cuts)) _ _ _ (sym (c .before .before .before .before .before .before .before .before .before .plan-checks .ensures) ∙ ap rowVerdict (c .before .before .before .before .before .before .before .enum-told .given .1)) (c .before .before .before .before .plan-into .ensures)))
 
 pub test-plan-spec : {M : Type 1} → statement M
 test-plan-spec =

@@ -19,9 +19,9 @@ returns c ws size held =
     let a = c .before .before .before .before .before .before .before .before .before .before .before .before .args in
     let listed = c .before .before .before .before .list in
     model-kept ws _ (now (a .plates)) (now (a .cuts)) _ _ (listed .kept .1 .0) (listed .kept .1 .1 .0) (listed .ensures .0)
-    (rw (held-take (jobSize (a .n .0)) size held) at (listed .ensures .1 .0))
     (rw (held-take (jobSize (a .n .0)) size held) at (listed .ensures .1 .1 .0))
-    (rw (held-take (jobSize (a .n .0)) size held) at (listed .ensures .1 .1 .1))
+    (rw (held-take (jobSize (a .n .0)) size held) at (listed .ensures .1 .1 .1 .0))
+    (rw (held-take (jobSize (a .n .0)) size held) at (listed .ensures .1 .1 .1 .1))
 
 pub list-job-spec : {M : Type 1} → statement M
 list-job-spec =

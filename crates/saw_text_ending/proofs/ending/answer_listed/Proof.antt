@@ -1,15 +1,15 @@
 -- `answer_listed` answers by the plan row, the prices row and the unfolding.
 use native.Mathlib.Omega.{arith}
+use Rattle.job.proofs.CodeEnds.{given-pass, refused-refuse}
 use mathlib.Core.Path.{refl, sym, ap, _∙_}
 use denote.Ref.{now}
 use Rattle.layouts.specs.Demand3.{J, L}
 use Rattle.plan_test.specs.PlanSays.{saysOf as planSays}
 use Rattle.price_test.specs.PriceSays.{saysOf as priceSays}
-use Rattle.plan_test.proofs.CodeCall.{given-pass, refused-refuse}
 use Rattle.texts.specs.JobLines.{bodyLine}
 use Rattle.texts.specs.SawText.{sawOf, priceLinesRow}
 use Rattle.saw_text_rows.specs.Tail.{linesRow}
-use Rattle.saw_text_rows.proofs.Places.{near-prices}
+use Rattle.texts.proofs.Places.{near-place, near-prices}
 use Rattle.saw_text_rows.proofs.PlanPart.{counts-whole, tested-accepted, fits-refused}
 use Rattle.saw_text_ending.proofs.Answers.{refused-answer, accepted-answer, plan-refused, prices-refused, rows-pass, placements-are, bytes-are}
 use borrow.Author.Needs.{needs}
@@ -62,7 +62,7 @@ returns-2 c place rs o pk pe =
     let e = sym (ap priceSays (c .before .before .before .before .before .number2 .given .1)) ∙ c .before .before .before .before .before .before .before .prices-of-text .ensures (L ws) o (s .pre .0 .types) (s .pre .0 .listed) pe in
     refused-answer (sawOf place ws rs o)
     (prices-refused place ws rs o plan e)
-    (c .before .before .refuse2 .ensures (near-prices (J ws) (L ws) o (s .pre .0 .model .model .few-cuts) .place _ _ (refused-refuse (priceLinesRow (J ws) (L ws) o) _ e)))
+    (c .before .before .refuse2 .ensures (near-place (near-prices (J ws) (L ws) o (s .pre .0 .model .model .few-cuts)) _ _ (refused-refuse (priceLinesRow (J ws) (L ws) o) _ e)))
     (s .pre .1 .cleared)
     refl
 

@@ -11,13 +11,13 @@ use Rattle.job.specs.Buffers.{given, answer}
 use Rattle.job.specs.Job.{jobWords, admission}
 use Rattle.job.proofs.Verdicts.{then-second}
 use Rattle.job.proofs.CodeAdmission.{passed-length}
+use Rattle.job.proofs.CodeEnds.{given-pass}
 use Rattle.listing.specs.Listing.{modelRow}
 use Rattle.listing.proofs.CodeHolds.{cleared}
 use Rattle.listing_call.specs.ListSays.{saysOf as listingSays}
 use Rattle.listing_call.proofs.CodeEnding.{zeros, listingResults, some-types}
 use Rattle.plan.specs.Plan.{boards}
 use Rattle.plan_test.specs.PlanSays.{saysOf as planSays}
-use Rattle.plan_test.proofs.CodeCall.{given-pass}
 use Rattle.plan_test.proofs.CodeListed.{Ready, ready}
 use Rattle.layouts.specs.Demand3.{J, L}
 use Rattle.unfold_call.proofs.CodeAccepted.{job-words, listed-lent}

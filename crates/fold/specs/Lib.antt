@@ -1,2 +1,0 @@
--- The definitions of this crate: what the fold program writes.
-pub mod Output

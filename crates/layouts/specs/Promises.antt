@@ -1,0 +1,37 @@
+-- What a call promises by demand 3 where it succeeds: of the words that it is passed and lent, and of the values that it answers.
+use Prim.Native.Nat.{ℕ}
+use mathlib.Core.Path.{_≡_}
+use mathlib.Core.List.{List}
+use lib.ListN.{length}
+use Rattle.job.specs.Buffers.{filled}
+use Rattle.layouts.specs.Layout.{Board}
+use Rattle.layouts.specs.Placement.{placementWords, linesOf, itemsOfSet}
+use Rattle.layouts.specs.Lines.{setOf}
+use Rattle.layouts.specs.Demand3.{J, L, Named, UnfoldsTo, FoldsTo, Bounds}
+
+-- `ws` are the job's words
+module _ (ws : List ℕ) where
+  -- unfolding: of the counts passed in, the placements as they end, and "boards and pieces"
+  pub record UnfoldPromise (counts placements : List ℕ) (boards pieces : ℕ) : Type 0 where
+    -- there is a set of layouts; the placements end as its lines, and past them as zeros
+    pub set : List Board
+    pub lines : placements ≡ filled (length placements) (placementWords (linesOf (J ws) set))
+    -- "the result's boards and pieces are the set's"
+    pub boards-given : boards ≡ length set
+    pub pieces-given : pieces ≡ length (itemsOfSet set)
+    -- it is the set that an accepted plan unfolds into: inside its boards, with no overlap, as many boards and as often each type as the plan has
+    pub unfolds-to : UnfoldsTo (J ws) (L ws) counts set
+
+  -- folding: of the layouts passed in, the counts as they end, and "boards"
+  pub record FoldPromise (layouts counts : List ℕ) (boards : ℕ) : Type 0 where
+    -- the layouts are the lines of a set that demand 3 names: it keeps the rules, meets the demands and has at most 4,000 pieces
+    pub named : Named (J ws) (L ws) (setOf layouts)
+    pub lines : layouts ≡ placementWords (linesOf (J ws) (setOf layouts))
+    -- the result's boards are the set's
+    pub boards-given : boards ≡ length (setOf layouts)
+    -- the counts are an accepted plan, which opens as many boards as the set has and cuts each type as often as it lies there
+    pub folds-to : FoldsTo (J ws) (L ws) (setOf layouts) counts
+
+  -- the price test: "sum and D" bound every set of layouts that keeps the rules and meets the demands, whoever made it
+  abbrev pub PricePromise : ℕ → ℕ → Type 0
+  PricePromise sum d = Bounds (J ws) (L ws) sum d

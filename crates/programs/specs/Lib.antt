@@ -1,0 +1,2 @@
+-- The definitions of this crate: what a program reads and writes.
+pub mod Program

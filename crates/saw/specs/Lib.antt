@@ -1,2 +1,0 @@
--- The definitions of this crate: how much of standard input is read.
-pub mod Sizes

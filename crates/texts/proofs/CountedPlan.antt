@@ -1,0 +1,311 @@
+-- The lines 3 of counted cuts, both ways: they name their cuts, rise, and count what was counted; and lines 3 that rise are those of their counts.
+use Prim.Native.Nat.{ℕ, zero, suc, _+_, _≤_, _<_}
+use native.Mathlib.Decide.{ℕ-discrete}
+use native.Mathlib.Omega.{arith}
+use mathlib.Core.Path.{_≡_, refl, sym, ap, ap₂, _∙_, subst}
+use mathlib.Core.Logic.{_⊎_, inl, inr}
+use mathlib.Core.Bool.{Bool, true, false, _&&_}
+use mathlib.Core.List.{List, [], _∷_}
+use lib.Dec.{leb, eqb}
+use lib.ListN.{length, getD, drop, length-drop}
+use lib.Seq.{drop-cons}
+use borrow.Author.Tests.{eqb-true, eqb-false, eq-eqb, ne-eqb, leb-false, lt-leb}
+use Rattle.job.specs.Sizes.{maxPieces, maxResiduals}
+use Rattle.job.specs.Lists.{sumOf}
+use Rattle.job.specs.Verdict.{pass, refuse, lowest}
+use Rattle.job.proofs.Verdicts.{pass-not-refuse}
+use Rattle.listing.specs.Listing.{Cut, Listing, noCut, cutAt}
+use Rattle.plan.specs.Plan.{onPlate, ofItem, total}
+use Rattle.layouts.specs.Fold.{cutFrom, cutOf}
+use Rattle.texts.specs.SawText.{Counted, namedCut, cutsNamed, cutsRising, countFor, countsFrom, planCounts}
+use Rattle.texts.specs.Held.{PlanLimits}
+use Rattle.texts.specs.Printed.{countedOf}
+use Rattle.texts.proofs.Basics.{and-parts}
+
+-- what holds of each of some cuts with its number, numbered from k
+abbrev pub Each : (ℕ → Cut → Type 0) → ℕ → List Cut → Type 0
+Each P k [] = Unit {0}
+Each P k (c ∷ cs) = P k c × Each P (suc k) cs
+
+-- of all cuts of a listing
+pub each-cut : (P : ℕ → Cut → Type 0) (l : Listing) → ((d : ℕ) → d < length (l .cuts) → P (suc d) (cutAt l (suc d))) → Each P 1 (l .cuts)
+unfolding cutAt
+each-cut P l f = from 0 (l .cuts) refl
+  where
+    from : (d : ℕ) (cs : List Cut) → drop d (l .cuts) ≡ cs → Each P (suc d) cs
+    from d [] e = tt
+    from d (c ∷ cs) e =
+        let n = ap length e in
+        let inside : d < length (l .cuts) = omega (arith, length-drop d (l .cuts)) in
+        let q = sym (drop-cons (l .cuts) d noCut inside) ∙ e in
+        let here : getD (l .cuts) d noCut ≡ c = cc in
+        let rest : drop (suc d) (l .cuts) ≡ cs = cc in
+        (subst (P (suc d)) here (f d inside), from (suc d) cs rest)
+
+-- line 3 of a cut
+abbrev counted : Cut → ℕ → Counted
+counted c n = record { plate = c .plate; item = c .item; count = n }
+
+-- a cut that is counted has a line, one that is not has none
+counted-by :
+    (P : List Counted → Type 0) (c : Cut) (cs : List Cut) (n : ℕ) (ns : List ℕ)
+    → (n ≡ 0 → P (countedOf cs ns))
+    → ((n ≡ 0 → ⊥) → P (counted c n ∷ countedOf cs ns))
+    → P (countedOf (c ∷ cs) (n ∷ ns))
+unfolding countedOf
+counted-by P c cs n ns f g = go (eqb n 0) refl
+  where
+    go : (t : Bool) → eqb n 0 ≡ t → P (elim t [ true ↦ countedOf cs ns | false ↦ counted c n ∷ countedOf cs ns ])
+    go true e = f (eqb-true n 0 e)
+    go false e = g (eqb-false n 0 e)
+
+-- at most a line for each cut
+pub counted-length : (cs : List Cut) (ns : List ℕ) → length (countedOf cs ns) ≤ length cs
+unfolding countedOf
+counted-length [] ns = omega arith
+counted-length (c ∷ cs) [] = omega arith
+counted-length (c ∷ cs) (n ∷ ns) =
+    let h = counted-length cs ns in
+    counted-by (λ rs. length rs ≤ suc (length cs)) c cs n ns (λ e. omega arith) (λ e. omega arith)
+
+-- a cut within the limits of lines 3, of n item types
+pub record CutLimits (n : ℕ) (c : Cut) : Type 0 where
+  pub plate : c .plate ≤ maxResiduals
+  pub low : 1 ≤ c .item
+  pub high : c .item ≤ n
+
+-- lines 3 of such cuts, with at most 4,000 pieces, are within their limits
+pub counted-limits :
+    (n k : ℕ) (cs : List Cut) (ns : List ℕ)
+    → Each (λ _ c. CutLimits n c) k cs
+    → total ns ≤ maxPieces
+    → PlanLimits n (countedOf cs ns)
+unfolding countedOf total sumOf
+counted-limits n k [] ns h t = tt
+counted-limits n k (c ∷ cs) [] h t = tt
+counted-limits n k (c ∷ cs) (m ∷ ns) h t =
+    let rest = counted-limits n (suc k) cs ns (h .1) (omega arith) in
+    counted-by (PlanLimits n) c cs m ns (λ e. rest) (λ e. (omega arith, rest))
+
+module _ (l : Listing) where
+  -- ---- what a line gives to a cut
+
+  count-own : (k : ℕ) (r : Counted) (rs : List Counted) → namedCut l r ≡ k → countFor l (r ∷ rs) k ≡ r .count + countFor l rs k
+  unfolding countFor sumOf
+  count-own k r rs e = rw (eq-eqb (namedCut l r) k e)
+
+  count-other : (k : ℕ) (r : Counted) (rs : List Counted) → (namedCut l r ≡ k → ⊥) → countFor l (r ∷ rs) k ≡ countFor l rs k
+  unfolding countFor sumOf
+  count-other k r rs e = rw (ne-eqb (namedCut l r) k e) (omega arith)
+
+  -- a line of a lower cut gives nothing to those from k on
+  from-other : (r : Counted) (rs : List Counted) (k n : ℕ) → namedCut l r < k → countsFrom l (r ∷ rs) k n ≡ countsFrom l rs k n
+  unfolding countsFrom
+  from-other r rs k zero h = refl
+  from-other r rs k (suc n) h = rw (count-other k r rs (λ e. omega arith), from-other r rs (suc k) n (omega arith))
+
+  -- ---- lines 3 that rise
+
+  -- the cuts that lines name rise, from cut k on
+  abbrev Rises : ℕ → List Counted → Type 0
+  Rises k [] = Unit {0}
+  Rises k (r ∷ rs) = (k ≤ namedCut l r) × Rises (suc (namedCut l r)) rs
+
+  rises-lower : (j k : ℕ) (rs : List Counted) → j ≤ k → Rises k rs → Rises j rs
+  rises-lower j k [] p h = tt
+  rises-lower j k (r ∷ rs) p h = (omega arith, h .1)
+
+  -- they give nothing to a lower cut
+  rises-none : (i k : ℕ) (rs : List Counted) → i < k → Rises k rs → countFor l rs i ≡ 0
+  unfolding countFor sumOf
+  rises-none i k [] p h = refl
+  rises-none i k (r ∷ rs) p h =
+      count-other i r rs (λ e. omega arith) ∙ rises-none i (suc (namedCut l r)) rs (omega arith) (h .1)
+
+  -- 8: each names a cut
+  rises-named : (k line : ℕ) (rs : List Counted) → Rises (suc k) rs → cutsNamed l line rs ≡ pass
+  unfolding cutsNamed lowest
+  rises-named k line [] h = refl
+  rises-named k line (r ∷ rs) h =
+      rw (ne-eqb (namedCut l r) 0 (λ z. omega arith), lowest) (rises-named (namedCut l r) (suc line) rs (h .1))
+
+  -- 9: they rise just where the check for those that do not passes
+  rises-rising : (last line : ℕ) (rs : List Counted) → Rises (suc last) rs → cutsRising l last line rs ≡ pass
+  unfolding cutsRising
+  rises-rising last line [] h = refl
+  rises-rising last line (r ∷ rs) h =
+      rw (lt-leb (namedCut l r) last (omega arith), cutsRising) (rises-rising (namedCut l r) (suc line) rs (h .1))
+
+  rising-rises : (last line : ℕ) (rs : List Counted) → cutsRising l last line rs ≡ pass → Rises (suc last) rs
+  unfolding cutsRising
+  rising-rises last line [] h = tt
+  rising-rises last line (r ∷ rs) h = go (leb (namedCut l r) last) refl h (rising-rises (namedCut l r) (suc line) rs)
+    where
+      go :
+          (t : Bool)
+          → leb (namedCut l r) last ≡ t
+          → elim t [ true ↦ refuse 9 line | false ↦ cutsRising l (namedCut l r) (suc line) rs ] ≡ pass
+          → (cutsRising l (namedCut l r) (suc line) rs ≡ pass → Rises (suc (namedCut l r)) rs)
+          → Rises (suc last) (r ∷ rs)
+      go true e p ih = absurd (pass-not-refuse p refl)
+      go false e p ih = (leb-false (namedCut l r) last e, ih p)
+
+  -- ---- from counts to lines 3
+
+  -- each of these cuts is the one of its pair; they are numbered from k
+  abbrev pub InRow : ℕ → List Cut → Type 0
+  InRow k cs = Each (λ i c. cutOf l (c .plate) (c .item) ≡ i) k cs
+
+  -- their lines rise
+  counted-rises : (k : ℕ) (cs : List Cut) (ns : List ℕ) → InRow k cs → Rises k (countedOf cs ns)
+  unfolding countedOf namedCut
+  counted-rises k [] ns h = tt
+  counted-rises k (c ∷ cs) [] h = tt
+  counted-rises k (c ∷ cs) (n ∷ ns) h =
+      let rest = counted-rises (suc k) cs ns (h .1) in
+      counted-by (Rises k) c cs n ns
+      (λ e. rises-lower k (suc k) (countedOf cs ns) (omega arith) rest)
+      (λ e. (omega arith, rises-lower (suc (namedCut l (counted c n))) (suc k) (countedOf cs ns) (omega arith) rest))
+
+  -- so they pass 8 and 9
+  pub counted-named : (line : ℕ) (cs : List Cut) (ns : List ℕ) → InRow 1 cs → cutsNamed l line (countedOf cs ns) ≡ pass
+  counted-named line cs ns h = rises-named 0 line (countedOf cs ns) (counted-rises 1 cs ns h)
+
+  pub counted-rising : (line : ℕ) (cs : List Cut) (ns : List ℕ) → InRow 1 cs → cutsRising l 0 line (countedOf cs ns) ≡ pass
+  counted-rising line cs ns h = rises-rising 0 line (countedOf cs ns) (counted-rises 1 cs ns h)
+
+  -- and count what was counted
+  from-counted : (k : ℕ) (cs : List Cut) (ns : List ℕ) → InRow k cs → length ns ≡ length cs → countsFrom l (countedOf cs ns) k (length cs) ≡ ns
+  unfolding countedOf countsFrom namedCut
+  from-counted k [] [] h e = refl
+  from-counted k [] (n ∷ ns) h e = absurd (omega arith)
+  from-counted k (c ∷ cs) [] h e = absurd (omega arith)
+  from-counted k (c ∷ cs) (n ∷ ns) h e =
+      let rest = from-counted (suc k) cs ns (h .1) (omega arith) in
+      let none = rises-none k (suc k) (countedOf cs ns) (omega arith) (counted-rises (suc k) cs ns (h .1)) in
+      counted-by (λ rs. countFor l rs k ∷ countsFrom l rs (suc k) (length cs) ≡ n ∷ ns) c cs n ns
+      (λ z. ap₂ (λ (m : ℕ) (ms : List ℕ). m ∷ ms) (none ∙ sym z) rest)
+      (λ z.
+      let own : countFor l (counted c n ∷ countedOf cs ns) k ≡ n = count-own k (counted c n) (countedOf cs ns) (h .0) ∙ omega arith in
+      ap₂ (λ (m : ℕ) (ms : List ℕ). m ∷ ms) own (from-other (counted c n) (countedOf cs ns) (suc k) (length cs) (omega arith) ∙ rest))
+
+  pub counted-counts : (ns : List ℕ) → InRow 1 (l .cuts) → length ns ≡ length (l .cuts) → planCounts l (countedOf (l .cuts) ns) ≡ ns
+  unfolding planCounts
+  counted-counts ns h e = from-counted 1 (l .cuts) ns h e
+
+  -- ---- from lines 3 to counts and back
+
+  -- the cut that each line names is found among these cuts, which are numbered from k
+  abbrev Found : ℕ → List Cut → List Counted → Type 0
+  Found k cs [] = Unit {0}
+  Found k cs (r ∷ rs) = (cutFrom (r .plate) (r .item) k cs ≡ namedCut l r) × Found k cs rs
+
+  -- a cut that is found has one of their numbers
+  found-from : (j i k : ℕ) (cs : List Cut) → (cutFrom j i k cs ≡ 0) ⊎ (k ≤ cutFrom j i k cs)
+  unfolding cutFrom
+  found-from j i k [] = inl refl
+  found-from j i k (c ∷ cs) = go (onPlate j c && ofItem i c) (found-from j i (suc k) cs)
+    where
+      from : Bool → ℕ
+      from t = elim t [ true ↦ k | false ↦ cutFrom j i (suc k) cs ]
+
+      go : (t : Bool) → (cutFrom j i (suc k) cs ≡ 0) ⊎ (suc k ≤ cutFrom j i (suc k) cs) → (from t ≡ 0) ⊎ (k ≤ from t)
+      go true h = inr (omega arith)
+      go false (inl e) = inl e
+      go false (inr e) = inr (omega arith)
+
+  -- where it is the first of them, that cut is of the line's pair; else it is found among the others
+  found-here : (j i k : ℕ) (c : Cut) (cs : List Cut) → 1 ≤ k → cutFrom j i k (c ∷ cs) ≡ k → (c .plate ≡ j) × (c .item ≡ i)
+  unfolding cutFrom onPlate ofItem
+  found-here j i k c cs low h = go (eqb (c .plate) j && eqb (c .item) i) refl h (found-from j i (suc k) cs)
+    where
+      go :
+          (t : Bool)
+          → (eqb (c .plate) j && eqb (c .item) i) ≡ t
+          → elim t [ true ↦ k | false ↦ cutFrom j i (suc k) cs ] ≡ k
+          → (cutFrom j i (suc k) cs ≡ 0) ⊎ (suc k ≤ cutFrom j i (suc k) cs)
+          → (c .plate ≡ j) × (c .item ≡ i)
+      go true e p q = let w = and-parts (eqb (c .plate) j) (eqb (c .item) i) e in (eqb-true (c .plate) j (w .0), eqb-true (c .item) i (w .1))
+      go false e p (inl q) = absurd (omega arith)
+      go false e p (inr q) = absurd (omega arith)
+
+  found-later : (j i k m : ℕ) (c : Cut) (cs : List Cut) → k < m → cutFrom j i k (c ∷ cs) ≡ m → cutFrom j i (suc k) cs ≡ m
+  unfolding cutFrom
+  found-later j i k m c cs p h = go (onPlate j c && ofItem i c) h
+    where
+      go : (t : Bool) → elim t [ true ↦ k | false ↦ cutFrom j i (suc k) cs ] ≡ m → cutFrom j i (suc k) cs ≡ m
+      go true h = absurd (omega arith)
+      go false h = h
+
+  found-rest : (k : ℕ) (c : Cut) (cs : List Cut) (rs : List Counted) → Rises (suc k) rs → Found k (c ∷ cs) rs → Found (suc k) cs rs
+  found-rest k c cs [] h f = tt
+  found-rest k c cs (r ∷ rs) h f = (
+    found-later (r .plate) (r .item) k (namedCut l r) c cs (omega arith) (f .0),
+    found-rest k c cs rs (rises-lower (suc k) (suc (namedCut l r)) rs (omega arith) (h .1)) (f .1),
+  )
+
+  -- where a line names the first of these cuts, that cut's line is this one; `rest` are the lines of the others
+  line-own :
+      (k n : ℕ) (c : Cut) (cs : List Cut) (r : Counted) (rs rest : List Counted)
+      → 1 ≤ k
+      → namedCut l r ≡ k
+      → Rises k (r ∷ rs)
+      → Found k (c ∷ cs) (r ∷ rs)
+      → 1 ≤ r .count
+      → rest ≡ rs
+      → counted c (countFor l (r ∷ rs) k) ∷ rest ≡ r ∷ rs
+  line-own k n c cs r rs rest low e h f some q =
+      let none = rises-none k (suc (namedCut l r)) rs (omega arith) (h .1) in
+      let m : countFor l (r ∷ rs) k ≡ r .count = count-own k r rs e ∙ omega arith in
+      let pair = found-here (r .plate) (r .item) k c cs low (f .0 ∙ e) in
+      ap₂ (λ (a : Counted) (as′ : List Counted). a ∷ as′) (λ i. record { plate = pair .0 i; item = pair .1 i; count = m i }) q
+
+  -- a line for each cut that lines count is the lines themselves
+  counts-counted :
+      (k n : ℕ) (cs : List Cut) (rs : List Counted)
+      → 1 ≤ k
+      → Rises k rs
+      → Found k cs rs
+      → PlanLimits n rs
+      → countedOf cs (countsFrom l rs k (length cs)) ≡ rs
+  unfolding countedOf countsFrom cutFrom
+  counts-counted k n [] [] low h f p = refl
+  counts-counted k n [] (r ∷ rs) low h f p = absurd (omega arith)
+  counts-counted k n (c ∷ cs) [] low h f p =
+      counted-by (λ qs. qs ≡ []) c cs (countFor l [] k) (countsFrom l [] (suc k) (length cs))
+      (λ z. counts-counted (suc k) n cs [] (omega arith) tt tt tt)
+      (λ z. absurd (z (rises-none k (suc k) [] (omega arith) tt)))
+  counts-counted k n (c ∷ cs) (r ∷ rs) low h f p = go (ℕ-discrete (namedCut l r) k) (λ qs. counts-counted (suc k) n cs qs (omega arith))
+    where
+      m : ℕ
+      m = countFor l (r ∷ rs) k
+
+      ms : List ℕ
+      ms = countsFrom l (r ∷ rs) (suc k) (length cs)
+
+      go :
+          Dec (namedCut l r ≡ k)
+          → ((qs : List Counted) → Rises (suc k) qs → Found (suc k) cs qs → PlanLimits n qs → countedOf cs (countsFrom l qs (suc k) (length cs)) ≡ qs)
+          → countedOf (c ∷ cs) (m ∷ ms) ≡ r ∷ rs
+      go (yes e) ih =
+          let up = rises-lower (suc k) (suc (namedCut l r)) rs (omega arith) (h .1) in
+          let none = rises-none k (suc k) rs (omega arith) up in
+          let rest = ap (countedOf cs) (from-other r rs (suc k) (length cs) (omega arith)) ∙ ih rs up (found-rest k c cs rs up (f .1)) (p .1) in
+          counted-by (λ qs. qs ≡ r ∷ rs) c cs m ms
+          (λ z. absurd (omega (arith, count-own k r rs e)))
+          (λ z. line-own k n c cs r rs (countedOf cs ms) low e h f (p .0 .counted) rest)
+      go (no e) ih =
+          let up : Rises (suc k) (r ∷ rs) = (omega arith, h .1) in
+          counted-by (λ qs. qs ≡ r ∷ rs) c cs m ms
+          (λ z. ih (r ∷ rs) up (found-rest k c cs (r ∷ rs) up f) p)
+          (λ z. absurd (z (rises-none k (suc k) (r ∷ rs) (omega arith) up)))
+
+  found-all : (rs : List Counted) → Found 1 (l .cuts) rs
+  unfolding namedCut cutOf
+  found-all [] = tt
+  found-all (r ∷ rs) = (refl, found-all rs)
+
+  -- lines 3 that pass 9 are the lines of the cuts that they count
+  pub plan-counted : (line n : ℕ) (rs : List Counted) → cutsRising l 0 line rs ≡ pass → PlanLimits n rs → countedOf (l .cuts) (planCounts l rs) ≡ rs
+  unfolding planCounts
+  plan-counted line n rs h p = counts-counted 1 n (l .cuts) rs (omega arith) (rising-rises 0 line rs h) (found-all rs) p
