@@ -6,15 +6,15 @@
 
 #include "saw_engine.h"
 
-/* The lent buffers, at their full sizes, and the counts passed in; room for the answer to a text. They are static: together they are 450 KB. */
+/* The lent buffers, at their full sizes, and the counts passed in; room for the answer to a text. They are static: together they are 490 KB. */
 static uint16_t plates[SAW_PLATES];
 static uint16_t cuts[SAW_CUTS];
 static uint16_t counts[SAW_COUNTS];
 static uint16_t placements[SAW_PLACEMENTS];
 static uint8_t out[SAW_TEXT_OUT];
 
-/* Mode 2N, board 9 by 7, item 1 of 5 by 4 (demand 2), item 2 of 3 by 3 (demand 3). */
-static const uint16_t job_a[] = {2, 0, 9, 7, 2, 5, 4, 2, 3, 3, 3};
+/* Mode 2N, board 9 by 7, item 1 of 5 by 4 (demand 2), item 2 of 3 by 3 (demand 3); no item may be turned. */
+static const uint16_t job_a[] = {2, 0, 9, 7, 2, 5, 4, 2, 0, 3, 3, 3, 0};
 /* The counts of cuts 1 to 8. */
 static const uint16_t plan_a[] = {2, 0, 1, 1, 0, 0, 1, 0};
 /* D 1; item types 1 and 2; residual types 1 to 5. */
@@ -23,20 +23,20 @@ static const uint16_t prices_a[] = {1, 1, 0, 0, 0, 1, 0, 0};
 /* The same as a saw text, of lines 1, 2 and 3, and its two boards as a fold text, of lines 1, 2 and 7. */
 static const char job_text[] =
     "        1        2        0        9        7        2\n"
-    "        2        1        5        4        2\n"
-    "        2        2        3        3        3\n";
+    "        2        1        5        4        2        0\n"
+    "        2        2        3        3        3        0\n";
 static const char plan_text[] =
-    "        3        0        1        2\n"
-    "        3        1        2        1\n"
-    "        3        2        2        1\n"
-    "        3        4        2        1\n";
+    "        3        0        1        2        0\n"
+    "        3        1        2        1        0\n"
+    "        3        2        2        1        0\n"
+    "        3        4        2        1        0\n";
 static const char layout_text[] =
-    "        7        1        1        1        1        1        0        0\n"
-    "        7        1        1        2        1        2        5        0\n"
-    "        7        1        2        1        1        2        0        4\n"
-    "        7        1        2        2        1        2        3        4\n";
+    "        7        1        1        1        1        1        0        0        0\n"
+    "        7        1        1        2        1        2        5        0        0\n"
+    "        7        1        2        1        1        2        0        4        0\n"
+    "        7        1        2        2        1        2        3        4        0\n";
 static const char second_board[] =
-    "        7        2        1        1        1        1        0        0\n";
+    "        7        2        1        1        1        1        0        0        0\n";
 
 #define LENGTH(array) (sizeof(array) / sizeof((array)[0]))
 
@@ -106,10 +106,10 @@ int main(void)
     saw_unfold(job_a, LENGTH(job_a), counts, LENGTH(counts), plates, LENGTH(plates), cuts, LENGTH(cuts),
                placements, LENGTH(placements), answer);
     print_answer("unfolding, boards and pieces", answer);
-    print_records(placements, answer[2], 7);
+    print_records(placements, answer[2], 8);
 
     memset(counts, 0xff, sizeof counts);
-    saw_fold(job_a, LENGTH(job_a), placements, 7 * (size_t)answer[2], plates, LENGTH(plates), cuts, LENGTH(cuts), counts, LENGTH(counts), answer);
+    saw_fold(job_a, LENGTH(job_a), placements, 8 * (size_t)answer[2], plates, LENGTH(plates), cuts, LENGTH(cuts), counts, LENGTH(counts), answer);
     print_answer("folding, boards", answer);
     print_records(counts, 1, LENGTH(plan_a));
 

@@ -1,4 +1,4 @@
-/* The beam saw plan engine as a static library: the calls of document 01, for a host in C.
+/* The beam saw plan engine as a static library: the calls of document 01 with request One of document 02, for a host in C.
  *
  * Link target/staticlib/libengine.a, which `rt staticlib engine` writes for x86-64 Linux. Each function is proved to meet its contract in
  * crates/engine/src/calls.rt or, of the two texts, text_calls.rt. It allocates nothing, keeps no state between calls and always returns; of the C library it uses memcpy and memset alone.
@@ -13,7 +13,7 @@
  * Nothing else is asked: the words may be any, and the lengths too. Old contents of a lent buffer have no influence.
  *
  * What a call leaves:
- *   answer[0]   the refusal number, 1 to 18; 0 where the call is accepted
+ *   answer[0]   the refusal number, 1 to 19; 0 where the call is accepted
  *   answer[1]   the first value; of a refusal the place that it names, or 4294967295 where that is above it
  *   answer[2]   the second value; 0 where there is none
  * After 5 the lent buffers are as they were; after any other refusal every word of them is 0; after success they hold their records from the first word
@@ -28,23 +28,24 @@
 extern "C" {
 #endif
 
-/* Full sizes, in words of 16 bits: 2,048 plate types of 3 words, 8,192 cuts of 4 words, their counts, 4,000 placements of 7 words. */
+/* Full sizes, in words of 16 bits: 2,048 plate types of 3 words, 8,192 cuts of 4 words, their counts, 4,000 placements of 8 words. */
 #define SAW_PLATES 6144
 #define SAW_CUTS 32768
 #define SAW_COUNTS 8192
-#define SAW_PLACEMENTS 28000
+#define SAW_PLACEMENTS 32000
 
 /* Stack that a call may use, in bytes, and that a text may use. */
 #define SAW_STACK 65536
 #define SAW_TEXT_STACK 262144
 
 /* The longest answer to a text, in bytes: to a saw text and to a fold text. */
-#define SAW_TEXT_OUT 292046
-#define SAW_FOLD_TEXT_OUT 148000
+#define SAW_TEXT_OUT 328046
+#define SAW_FOLD_TEXT_OUT 184000
 
-/* Words. A job: stages, exact, W, H, n, then width, height, demand of each item type. A plate: width, height, stage. A cut: plate, item, top, right, where
- * 0 is a residual that is not kept. Counts: one for each cut, from cut 1. Prices: D, one for each item type, one for each residual type. A placement: board,
- * strip, stack, place, type, x, y. */
+/* Words. A job: stages, exact, W, H, n, then width, height, demand, leave of each item type; leave is 1 if the type may be turned by 90 degrees, else 0. A
+ * plate: width, height, stage. A cut: plate, item, top, right, where item is twice the type plus the turn (1 if turned, else 0), and 0 as top or right is a
+ * residual that is not kept. Counts: one for each cut, from cut 1. Prices: D, one for each item type, one for each residual type. A placement: board, strip,
+ * stack, place, type, x, y, turn. */
 
 /* Listing. Values: the numbers of residual types and of cuts. Plates and cuts end as the listing.
  * Refusals: 1, 2, 3, 4 of the job; 5; 6, 7 of the model. */
@@ -80,8 +81,8 @@ void saw_unfold(const uint16_t *job, size_t job_len,
                 uint32_t answer[3]);
 
 /* Folding. Value: the number of boards of the layouts. Plates and cuts end as the listing, counts as an accepted plan, one word for each cut. Layouts are
- * placements, seven words for each.
- * Refusals: those of the listing, 1 and 2 also of a line of the layouts, which they name from 1; 10, 15, 16, 17, 18, 11 of the layouts. */
+ * placements, eight words for each.
+ * Refusals: those of the listing, 1, 2 and then 19 also of a line of the layouts, which they name from 1; 10, 15, 16, 17, 18, 11 of the layouts. */
 void saw_fold(const uint16_t *job, size_t job_len,
               const uint16_t *layouts, size_t layouts_len,
               uint16_t *plates, size_t plates_len,

@@ -5,19 +5,19 @@
 pub const PATTERNS: [&str; 17] = [
     ".len() < N",
     "job[N]",
-    "5 + 3 *",
-    "7 *",
+    "5 + 4 *",
+    "8 *",
     "3 *",
     "4 *",
     "6144",
     "32768",
     "8192",
-    "28000",
+    "32000",
     "2048",
     "4000",
     "10000",
     "9999",
-    "125",
+    "165",
     "2088",
     "16000",
 ];
@@ -130,35 +130,35 @@ mod tests {
             [".len() < N", "6144"]
         );
         assert_eq!(
-            found("let n = 5 + 3 * (job[4] as usize) + 3 * k;", "//"),
-            ["5 + 3 *", "job[N]", "3 *"]
+            found("let n = 5 + 4 * (job[4] as usize) + 3 * k;", "//"),
+            ["5 + 4 *", "job[N]", "3 *"]
         );
         assert_eq!(
-            found("[0u16; 125], 0..125, 4000u32", "//"),
-            ["125", "125", "4000"]
+            found("[0u16; 165], 0..165, 4000u32", "//"),
+            ["165", "165", "4000"]
         );
     }
 
     #[test]
     fn parts_of_names_and_numbers_are_no_sites() {
         assert!(found(
-            "x = 17 * n + a125 + below-125 + 1250 + 10000000 + 125-th",
+            "x = 18 * n + a165 + below-165 + 1650 + 10000000 + 165-th",
             "--"
         )
         .is_empty());
-        assert!(found("jobs[k] job[k] subjob[4] 7 + n", "//").is_empty());
+        assert!(found("jobs[k] job[k] subjob[4] 8 + n", "//").is_empty());
     }
 
     #[test]
     fn comments_are_left_out() {
-        assert_eq!(found("x = 7 * n -- 4 * m", "--"), ["7 *"]);
-        assert!(found("// 7 * n", "//").is_empty());
+        assert_eq!(found("x = 8 * n -- 4 * m", "--"), ["8 *"]);
+        assert!(found("// 8 * n", "//").is_empty());
     }
 
     #[test]
     fn lines_are_counted_from_one() {
         assert_eq!(
-            sites("\nx = 125\n", "--"),
+            sites("\nx = 165\n", "--"),
             [Site {
                 pattern: 14,
                 line: 2

@@ -1,6 +1,7 @@
 //! What is measured: a call on an input, by the engine and by the reference.
 
 use differential::{engine, text_engine};
+use inputs::Text;
 use reference::buffers::{COUNTS, CUTS, PLACEMENTS, PLATES};
 use reference::calls;
 use std::hint::black_box;
@@ -81,7 +82,7 @@ impl Lent {
             cuts,
             counts,
             placements,
-            out: vec![0; 292_046],
+            out: vec![0; Text::Saw.longest()],
         }
     }
 }

@@ -4,6 +4,7 @@ use inputs::damage::{damage_order, damage_words, Words};
 use inputs::subjects::Subject;
 use inputs::Random;
 use reference::buffers::COUNTS;
+use reference::layout::PLACEMENT_NUMBERS;
 
 #[derive(Clone, Copy)]
 pub enum Own {
@@ -87,11 +88,14 @@ fn layout_words(random: &mut Random, subject: &Subject) -> Vec<u16> {
     let mut layouts = subject.layouts(random, how < 6);
     match how {
         6 | 7 => {
-            let mut lines: Vec<_> = layouts.chunks(7).map(<[u16]>::to_vec).collect();
+            let mut lines: Vec<_> = layouts
+                .chunks(PLACEMENT_NUMBERS)
+                .map(<[u16]>::to_vec)
+                .collect();
             damage_order(random, &mut lines);
             layouts = lines.concat();
         }
-        8 => layouts = vec![1; 7 * random.pick(&[0, 4_000, 4_001])],
+        8 => layouts = [1, 1, 1, 1, 1, 0, 0, 0].repeat(random.pick(&[0, 4_000, 4_001])),
         9..=15 => damage_words(random, &mut layouts, Words::Layouts),
         _ => {}
     }

@@ -93,7 +93,7 @@ pub const CALLS: [Call; 5] = [
         name: "saw_fold",
         own: Own::Layouts,
         lent: &[PLATES, CUTS, COUNTS],
-        refusals: &[1, 2, 3, 4, 5, 6, 7, 10, 11, 15, 16, 17, 18],
+        refusals: &[1, 2, 3, 4, 5, 6, 7, 10, 11, 15, 16, 17, 18, 19],
         largest: [4_000, 0],
         engine: |job, layouts, lent| {
             let [plates, cuts, counts] = lent_to(lent);

@@ -1,6 +1,8 @@
 //! Damage to words, to lines of numbers, and to the bytes of a text.
 
 use crate::random::Random;
+use reference::job::ITEM_NUMBERS;
+use reference::layout::PLACEMENT_NUMBERS;
 
 /// The greatest number of nine columns.
 const GREATEST: u32 = 999_999_999;
@@ -10,8 +12,8 @@ const GREATEST: u32 = 999_999_999;
 const LIMITS: [&[(u32, u32)]; 8] = [
     &[],
     &[(2, 3), (0, 1), (1, 10_000), (1, 10_000), (1, 40)],
-    &[(1, 4), (1, 10_000), (1, 10_000), (1, 4_000)],
-    &[(0, 2_047), (1, 4), (1, 4_000)],
+    &[(1, 4), (1, 10_000), (1, 10_000), (1, 4_000), (0, 1)],
+    &[(0, 2_047), (1, 4), (1, 4_000), (0, 1)],
     &[(1, 9_999), (1, 40), (0, 2_047)],
     &[(1, 4), (0, 9_999)],
     &[(1, 2_047), (0, 9_999)],
@@ -23,6 +25,7 @@ const LIMITS: [&[(u32, u32)]; 8] = [
         (1, 4),
         (0, 10_000),
         (0, 10_000),
+        (0, 1),
     ],
 ];
 
@@ -40,10 +43,10 @@ impl Words {
     fn limits(self, at: usize) -> (u32, u32) {
         match self {
             Words::Job if at < 5 => LIMITS[1][at],
-            Words::Job => LIMITS[2][1 + (at - 5) % 3],
+            Words::Job => LIMITS[2][1 + (at - 5) % ITEM_NUMBERS],
             Words::Counts => (0, 4_000),
             Words::Prices => (u32::from(at == 0), 9_999),
-            Words::Layouts => LIMITS[7][at % 7],
+            Words::Layouts => LIMITS[7][at % PLACEMENT_NUMBERS],
         }
     }
 }
@@ -75,16 +78,19 @@ pub fn damage_words(random: &mut Random, words: &mut Vec<u16>, purpose: Words) {
 }
 
 /// Changes a job's words: a demand so that all of them come to about 4,000, a side so that the
-/// board is too small, n with as many types as it asks for, or any word.
+/// board is too small for the item as it stands, or however it lies, a leave, n with as many types
+/// as it asks for, or any word.
 pub fn damage_job(random: &mut Random, words: &mut Vec<u16>) {
-    let first = 5 + 3 * random.below(usize::from(words[4]));
-    match random.below(10) {
+    let first = 5 + ITEM_NUMBERS * random.below(usize::from(words[4]));
+    match random.below(13) {
         0..=2 => words[first + 2] = random.pick(&[3_999, 4_000, 4_000, 4_001]),
         3 => words[first] = words[2] + 1,
         4 => words[first + 1] = words[3] + 1,
-        5 => {
+        5 => words[first + random.below(2)] = words[2].max(words[3]) + 1,
+        6 | 7 => words[first + 3] ^= 1,
+        8 => {
             words[4] = random.pick(&[0, 40, 41]);
-            words.resize(5 + 3 * usize::from(words[4]), 1);
+            words.resize(5 + ITEM_NUMBERS * usize::from(words[4]), 1);
         }
         _ => damage_words(random, words, Words::Job),
     }

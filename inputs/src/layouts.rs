@@ -3,7 +3,7 @@
 use crate::missing::Missing;
 use crate::random::Random;
 use reference::layout::{keeps_rules, placements};
-use reference::{Board, Job, Placement};
+use reference::{Board, Job, Placement, Position};
 
 /// A set of layouts that keeps the rules and meets the demands.
 pub fn random_set(random: &mut Random, job: &Job) -> Vec<Board> {
@@ -11,15 +11,17 @@ pub fn random_set(random: &mut Random, job: &Job) -> Vec<Board> {
     let mut set = Vec::new();
     while !missing.is_none() || random.once_in(6) {
         let item = missing.pick(random);
-        missing.take(item);
+        let item = random_position(random, job, item);
+        missing.take(item.item);
         let mut board = vec![vec![vec![item]]];
         for _ in 0..random.below(24) {
             let item = missing.pick(random);
+            let item = random_position(random, job, item);
             let mut grown = board.clone();
             grow(random, &mut grown, item);
             if keeps_rules(job, &grown) {
                 board = grown;
-                missing.take(item);
+                missing.take(item.item);
             }
         }
         set.push(board);
@@ -27,8 +29,15 @@ pub fn random_set(random: &mut Random, job: &Job) -> Vec<Board> {
     set
 }
 
+/// An item type in some position that is permitted and fits the board.
+fn random_position(random: &mut Random, job: &Job, item: u16) -> Position {
+    let fits = |position: &Position| job.fits(*position);
+    let fitting: Vec<Position> = job.positions_of(item).filter(fits).collect();
+    random.pick(&fitting)
+}
+
 /// Puts an item into a stack, or as a stack into a strip, or as a strip on the board.
-fn grow(random: &mut Random, board: &mut Board, item: u16) {
+fn grow(random: &mut Random, board: &mut Board, item: Position) {
     let which = random.below(board.len());
     let strip = &mut board[which];
     match random.below(4) {
@@ -51,11 +60,17 @@ pub fn random_layouts(random: &mut Random, job: &Job, broken: bool) -> Vec<u16> 
     words_of_lines(&placements(job, &set))
 }
 
-/// Puts an item of any type into any board of a set, whatever the rules are.
+/// Puts an item of any type into any board of a set, whatever the rules are; now and then it is
+/// turned, whether or not it may be.
 pub fn grow_anywhere(random: &mut Random, job: &Job, set: &mut [Board]) {
     let board = random.below(set.len());
     let item = random.between(1, job.items.len() as u16);
-    grow(random, &mut set[board], item);
+    let positions: Vec<Position> = job.positions_of(item).collect();
+    let position = match random.once_in(6) {
+        true => Position::turned(item),
+        false => random.pick(&positions),
+    };
+    grow(random, &mut set[board], position);
 }
 
 /// Layout words of lines.

@@ -7,6 +7,8 @@ use crate::plans::random_plan;
 use crate::prices::random_prices;
 use crate::random::Random;
 use reference::columns::write_line;
+use reference::job::ITEM_NUMBERS;
+use reference::layout::PLACEMENT_NUMBERS;
 
 /// The numbers of a line, its kind first.
 pub type Line = Vec<u32>;
@@ -45,7 +47,7 @@ pub fn job_lines(words: &[u16]) -> Vec<Line> {
         head.iter().copied().chain(numbers).collect()
     };
     let mut lines = vec![line(&[1], &words[..5])];
-    for (number, item) in (1..).zip(words[5..].chunks(3)) {
+    for (number, item) in (1..).zip(words[5..].chunks(ITEM_NUMBERS)) {
         lines.push(line(&[2, number], item));
     }
     lines
@@ -58,7 +60,9 @@ pub fn saw_lines(random: &mut Random, model: &Model) -> Vec<Line> {
     let plan = random_plan(random, model);
     for (cut, &count) in model.listing.cuts.iter().zip(&plan) {
         if count > 0 {
-            lines.push([3, cut.plate, cut.item, count].map(u32::from).to_vec());
+            let item = cut.position;
+            let numbers = [3, cut.plate, item.item, count, item.turn()];
+            lines.push(numbers.map(u32::from).to_vec());
         }
     }
     if random.once_in(2) {
@@ -87,7 +91,7 @@ pub fn saw_lines(random: &mut Random, model: &Model) -> Vec<Line> {
 pub fn fold_lines(random: &mut Random, model: &Model) -> Vec<Line> {
     let mut lines = job_lines(&model.words);
     let broken = random.once_in(8);
-    for words in random_layouts(random, &model.job, broken).chunks(7) {
+    for words in random_layouts(random, &model.job, broken).chunks(PLACEMENT_NUMBERS) {
         let numbers = words.iter().map(|&word| u32::from(word));
         lines.push(std::iter::once(7).chain(numbers).collect());
     }

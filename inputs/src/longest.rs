@@ -14,11 +14,11 @@ pub struct Long {
 }
 
 /// One board of 4,000 pieces: 50 strips of 80.
-const ONE_BOARD: [u16; 8] = [2, 0, 80, 50, 1, 1, 1, 4_000];
+const ONE_BOARD: [u16; 9] = [2, 0, 80, 50, 1, 1, 1, 4_000, 0];
 /// 4,000 boards of one piece.
-const BOARDS: [u16; 8] = [3, 0, 10_000, 10_000, 1, 10_000, 10_000, 4_000];
+const BOARDS: [u16; 9] = [3, 0, 10_000, 10_000, 1, 10_000, 10_000, 4_000, 0];
 /// Two equal types: a board of 2,000 of each, and so 4,000 cuts that are counted once.
-const CUTS: [u16; 11] = [2, 0, 10_000, 9, 2, 5, 9, 2_000, 5, 9, 2_000];
+const CUTS: [u16; 13] = [2, 0, 10_000, 9, 2, 5, 9, 2_000, 0, 5, 9, 2_000, 0];
 
 /// The long texts of a kind.
 pub fn long_texts(kind: Text) -> Vec<Long> {
@@ -50,8 +50,8 @@ pub fn of_job(kind: Text, name: &str, words: &[u16]) -> Long {
     }
 }
 
-/// Texts of 99,999 lines, of a line more, of a byte more, and two whose line 99,999 is not the last of
-/// its kind.
+/// Texts of 99,999 lines, of a line more, of a byte more, and three whose line 99,999 is past a limit,
+/// turned without leave, or of another kind.
 fn of_most_lines(kind: Text) -> Vec<Long> {
     let full = longest(kind);
     let with = |name: &str, more: &[u8]| Long {
@@ -65,8 +65,12 @@ fn of_most_lines(kind: Text) -> Vec<Long> {
         text: [&full[..cut_short], last].concat(),
     };
     let past_limit = match kind {
-        Text::Saw => line(&[3, 0, 1, 4_001]),
-        Text::Fold => line(&[7, 1, 1, 1, 1, 1, 0, 10_001]),
+        Text::Saw => line(&[3, 0, 1, 4_001, 0]),
+        Text::Fold => line(&[7, 1, 1, 1, 1, 1, 0, 10_001, 0]),
+    };
+    let turned = match kind {
+        Text::Saw => line(&[3, 0, 1, 1, 1]),
+        Text::Fold => line(&[7, 1, 1, 1, 1, 1, 0, 0, 1]),
     };
     vec![
         with("99,999 lines", b""),
@@ -74,11 +78,12 @@ fn of_most_lines(kind: Text) -> Vec<Long> {
         with("99,999 lines and a byte", b"\n"),
         with("110,000 lines", &body.repeat(10_001)),
         instead("line 99,999 past a limit", &past_limit),
+        instead("line 99,999 turned without leave", &turned),
         instead("line 99,999 of kind 4", &line(&[4, 1, 40, 0])),
     ]
 }
 
-/// The longest text that no line refuses: 3,700,341 bytes of a saw text, 7,299,882 of a fold text.
+/// The longest text that no line refuses: 4,600,323 bytes of a saw text, 8,199,864 of a fold text.
 pub fn longest(kind: Text) -> Vec<u8> {
     let types = match kind {
         Text::Saw => 40,
@@ -86,7 +91,7 @@ pub fn longest(kind: Text) -> Vec<u8> {
     };
     let mut text = line(&[1, 2, 0, 2, 1, types]);
     for number in 1..=types {
-        text.extend(line(&[2, number, 1, 1, 1]));
+        text.extend(line(&[2, number, 1, 1, 1, 0]));
     }
     text.extend(line_of(kind).repeat(99_998 - types as usize));
     text
@@ -95,8 +100,8 @@ pub fn longest(kind: Text) -> Vec<u8> {
 /// A line of kind 3 or of kind 7.
 pub fn line_of(kind: Text) -> Vec<u8> {
     match kind {
-        Text::Saw => line(&[3, 0, 1, 1]),
-        Text::Fold => line(&[7, 1, 1, 1, 1, 1, 0, 0]),
+        Text::Saw => line(&[3, 0, 1, 1, 0]),
+        Text::Fold => line(&[7, 1, 1, 1, 1, 1, 0, 0, 0]),
     }
 }
 

@@ -40,7 +40,8 @@ impl Model {
 }
 
 /// A job whose sides are drawn from few values, so that equal widths and heights, and equal
-/// types, occur.
+/// types, occur. In two of three jobs some types have leave to be turned, and some of these fit the
+/// board only turned.
 fn random_job(random: &mut Random, mode: Mode) -> Job {
     let longest = random.pick(&[4, 9, 16, 30]);
     let [width, height] = [0; 2].map(|_| random.between(longest / 2, longest));
@@ -50,10 +51,18 @@ fn random_job(random: &mut Random, mode: Mode) -> Job {
         true => [tall, tall / 2, tall / 3].map(|side| side.max(1)),
         false => [0; 3].map(|_| random_side(random, height)),
     };
-    let items = (0..random.between(1, 4)).map(|_| Item {
-        width: random.pick(&widths),
-        height: random.pick(&heights),
-        demand: random.between(1, 3),
+    let turning = !random.once_in(3);
+    let items = (0..random.between(1, 4)).map(|_| {
+        let item = Item {
+            width: random.pick(&widths),
+            height: random.pick(&heights),
+            demand: random.between(1, 3),
+            leave: turning && random.once_in(2),
+        };
+        match item.leave && random.once_in(2) {
+            true => turned(item),
+            false => item,
+        }
     });
     Job {
         mode,
@@ -63,20 +72,29 @@ fn random_job(random: &mut Random, mode: Mode) -> Job {
     }
 }
 
+/// The item with its sides changed.
+fn turned(item: Item) -> Item {
+    Item {
+        width: item.height,
+        height: item.width,
+        ..item
+    }
+}
+
 /// An item's side, of which one, some or many go along the board's.
 fn random_side(random: &mut Random, board: u16) -> u16 {
     let some = random.pick(&[1, 2, 3, 3, 5]);
     random.between(board.div_ceil(some + 2), board.div_ceil(some))
 }
 
-/// Stages, exact, W, H, n, then width, height, demand of each type.
+/// Stages, exact, W, H, n, then width, height, demand, leave of each type.
 fn words_of(job: &Job) -> Vec<u16> {
     let stages = if job.mode.is_two_stage() { 2 } else { 3 };
     let exact = u16::from(job.mode.is_exact());
     let types = job.items.len() as u16;
     let mut words = vec![stages, exact, job.width, job.height, types];
     for item in &job.items {
-        words.extend([item.width, item.height, item.demand]);
+        words.extend([item.width, item.height, item.demand, u16::from(item.leave)]);
     }
     words
 }

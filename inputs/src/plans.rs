@@ -15,7 +15,7 @@ pub fn random_plan(random: &mut Random, model: &Model) -> Vec<u16> {
     while !missing.is_none() || random.once_in(4) {
         let plate = random_plate(random, listing, &mut waiting);
         let on: Vec<usize> = listing.cuts_on(plate).collect();
-        let lacked = |index: &usize| missing.lacks(listing.cuts[*index].item);
+        let lacked = |index: &usize| missing.lacks(listing.cuts[*index].position.item);
         let wanted: Vec<usize> = on.iter().copied().filter(lacked).collect();
         let index = match wanted.is_empty() || random.once_in(4) {
             true => random.pick(&on),
@@ -24,7 +24,7 @@ pub fn random_plan(random: &mut Random, model: &Model) -> Vec<u16> {
         counts[index] += 1;
         let cut = listing.cuts[index];
         waiting.extend(cut.top.iter().chain(&cut.right));
-        missing.take(cut.item);
+        missing.take(cut.position.item);
     }
     counts
 }

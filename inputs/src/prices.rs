@@ -16,7 +16,7 @@ pub fn random_prices(random: &mut Random, model: &Model) -> Vec<u16> {
         for cut in &model.listing.cuts {
             let kept = cut.top.iter().chain(&cut.right);
             let residuals: u16 = kept.map(|&plate| least[usize::from(plate)]).sum();
-            let cost = residuals + items[usize::from(cut.item) - 1];
+            let cost = residuals + items[usize::from(cut.position.item) - 1];
             let plate = &mut least[usize::from(cut.plate)];
             settled &= cost <= *plate;
             *plate = cost.max(*plate);

@@ -60,17 +60,21 @@ impl Subject {
         match self {
             Subject::Small(model) => random_layouts(random, &model.job, broken),
             Subject::Known(_, Some(inputs)) => inputs.layouts.clone(),
-            Subject::Known(_, None) => vec![1; 7 * random.below(3)],
+            Subject::Known(_, None) => [1, 1, 1, 1, 1, 0, 0, 0].repeat(random.below(3)),
         }
     }
 }
 
-/// The counts that cut each item from a board of its own.
+/// The counts that cut each item from a board of its own, in the first of its positions that fit.
 fn single_items(model: &Model) -> Vec<u16> {
     let mut counts = vec![0; model.listing.cuts.len()];
+    let mut last = 0;
     for index in model.listing.cuts_on(0) {
-        let item = model.listing.cuts[index].item;
-        counts[index] = model.job.item(item).demand;
+        let item = model.listing.cuts[index].position.item;
+        if item != last {
+            counts[index] = model.job.item(item).demand;
+        }
+        last = item;
     }
     counts
 }

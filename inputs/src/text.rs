@@ -27,17 +27,17 @@ impl Text {
     /// The bytes of the longest answer: 4,000 lines of kind 7 and one of kind 8, or 4,000 lines of kind 3.
     pub fn longest(self) -> usize {
         match self {
-            Text::Saw => 4_000 * 73 + 46,
-            Text::Fold => 4_000 * 37,
+            Text::Saw => 4_000 * 82 + 46,
+            Text::Fold => 4_000 * 46,
         }
     }
 
     /// The refusal numbers that a text of this kind can be given (document 01, "Where each number is
-    /// given"). 5 is none of them: a text is lent nothing.
+    /// given"; document 02, One). 5 is none of them: a text is lent nothing.
     pub fn refusals(self) -> &'static [u32] {
         match self {
-            Text::Saw => &[1, 2, 3, 4, 6, 7, 8, 9, 10, 11, 12, 13, 14],
-            Text::Fold => &[1, 2, 3, 4, 6, 7, 10, 11, 15, 16, 17, 18],
+            Text::Saw => &[1, 2, 3, 4, 6, 7, 8, 9, 10, 11, 12, 13, 14, 19],
+            Text::Fold => &[1, 2, 3, 4, 6, 7, 10, 11, 15, 16, 17, 18, 19],
         }
     }
 }

@@ -67,8 +67,8 @@ impl Text {
     fn refused_lines(self, random: &mut Random, words: &[u16]) -> Vec<Line> {
         let mut lines = job_lines(words);
         let line: &[u32] = match self {
-            Text::Saw => &[3, 0, 1, 1],
-            Text::Fold => &[7, 1, 1, 1, 1, 1, 0, 0],
+            Text::Saw => &[3, 0, 1, 1, 0],
+            Text::Fold => &[7, 1, 1, 1, 1, 1, 0, 0, 0],
         };
         lines.resize(lines.len() + random.below(3), line.to_vec());
         lines

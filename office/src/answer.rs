@@ -9,6 +9,7 @@ pub struct Placement {
     pub strip: usize,
     pub stack: usize,
     pub item: usize,
+    pub turned: bool,
     pub x: usize,
     pub y: usize,
 }
@@ -55,11 +56,12 @@ impl Answer {
     /// Takes in a line of kind 7 or 8.
     fn take(&mut self, job: &Job, numbers: &[usize]) -> Result<(), String> {
         match *numbers {
-            [7, board, strip, stack, _, item, x, y] => {
+            [7, board, strip, stack, _, item, x, y, turn @ (0 | 1)] => {
                 let at = Placement {
                     strip,
                     stack,
                     item,
+                    turned: turn == 1,
                     x,
                     y,
                 };
@@ -86,7 +88,9 @@ impl Answer {
         let known = (1..=job.items.len()).contains(&placement.item);
         let fits = known && {
             let item = job.item(placement.item);
-            placement.x + item.width <= job.width && placement.y + item.height <= job.height
+            let [width, height] = item.sides(placement.turned);
+            let may_lie = !placement.turned || item.turns();
+            may_lie && placement.x + width <= job.width && placement.y + height <= job.height
         };
         match fits {
             true => self.boards[board - 1].push(placement),
@@ -103,6 +107,12 @@ impl Answer {
     /// The number of items placed.
     pub fn pieces(&self) -> usize {
         self.boards.iter().map(Vec::len).sum()
+    }
+
+    /// How often an item type lies turned on the boards.
+    pub fn turned_of(&self, item_type: usize) -> usize {
+        let turned = |placement: &&Placement| placement.item == item_type && placement.turned;
+        self.boards.iter().flatten().filter(turned).count()
     }
 
     /// How often an item type lies on the boards.
@@ -136,7 +146,7 @@ mod tests {
     use super::*;
     use crate::job::tests::job_a;
 
-    const OUTPUT: &str = "7 1 1 1 1 1 0 0\n7 1 1 2 1 2 5 0\n7 2 1 1 1 1 0 0\n8 2 2 1 1\n";
+    const OUTPUT: &str = "7 1 1 1 1 1 0 0 0\n7 1 1 2 1 2 5 0 0\n7 2 1 1 1 1 0 0 0\n8 2 2 1 1\n";
 
     #[test]
     fn an_answer_is_read() {
@@ -155,12 +165,14 @@ mod tests {
     fn every_fault_is_told() {
         for (text, told) in [
             ("", "not whole"),
-            ("7 1 1 1 1 1 0 0\n", "not whole"),
+            ("7 1 1 1 1 1 0 0 0\n", "not whole"),
             ("9 12 2\n", "refused the text with 12, place 2"),
-            ("7 2 1 1 1 1 0 0\n", "neither the last one nor the next"),
-            ("7 0 1 1 1 1 0 0\n", "neither the last one nor the next"),
-            ("7 1 1 1 1 1 5 0\n", "another job"),
-            ("7 1 1 1 1 3 0 0\n", "another job"),
+            ("7 2 1 1 1 1 0 0 0\n", "neither the last one nor the next"),
+            ("7 0 1 1 1 1 0 0 0\n", "neither the last one nor the next"),
+            ("7 1 1 1 1 1 5 0 0\n", "another job"),
+            ("7 1 1 1 1 3 0 0 0\n", "another job"),
+            ("7 1 1 1 1 1 0 0 1\n", "another job"),
+            ("7 1 1 1 1 1 0 0\n", "of no kind"),
             ("3 1 1\n", "of no kind"),
             ("hello\n", "not a line of numbers"),
             ("8 1 0 1 0\n8 1 0 1 0\n", "follows"),

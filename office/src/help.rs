@@ -33,7 +33,8 @@ const MODEL: &str = "\
 office model JOB
 
 Writes the one-cut model of a job in CPLEX LP format, which GLPK, CBC, HiGHS, SCIP, Gurobi and CPLEX
-read. Column x_P_I counts the cut of item type I from plate type P; rows are item_I, plate_P, pieces.
+read. Column x_P_I_T counts the cut of item type I from plate type P, turned if T is 1; rows are item_I,
+plate_P, pieces.
 
   office model job.txt > job.lp
   glpsol --lp job.lp -o job.sol          or: cbc job.lp solve solution job.sol

@@ -9,12 +9,28 @@ pub const MOST_TYPES: usize = 40;
 /// The most pieces of a job, a plan or a set of layouts.
 pub const MOST_PIECES: usize = 4_000;
 
-/// An item type.
+/// An item type; with leave it may be turned by 90 degrees.
 #[derive(Debug, Clone, Copy, PartialEq, Eq)]
 pub struct Item {
     pub width: usize,
     pub height: usize,
     pub demand: usize,
+    pub leave: bool,
+}
+
+impl Item {
+    /// Width and height as the item lies.
+    pub fn sides(&self, turned: bool) -> [usize; 2] {
+        match turned {
+            true => [self.height, self.width],
+            false => [self.width, self.height],
+        }
+    }
+
+    /// Whether the item may lie turned: it has leave and is not square.
+    pub fn turns(&self) -> bool {
+        self.leave && self.width != self.height
+    }
 }
 
 /// A job: stage mode, board and item types; item type i stands at place i - 1.
@@ -31,6 +47,21 @@ impl Job {
     /// The item type with this number, from 1.
     pub fn item(&self, item_type: usize) -> Item {
         self.items[item_type - 1]
+    }
+
+    /// Width and height of an item type as it lies.
+    pub fn sides(&self, item_type: usize, turned: bool) -> [usize; 2] {
+        self.item(item_type).sides(turned)
+    }
+
+    /// Whether an item type fits the board in a position in which it may lie.
+    pub fn fits(&self, item_type: usize) -> bool {
+        let item = self.item(item_type);
+        let fits = |turned| {
+            let [width, height] = item.sides(turned);
+            width <= self.width && height <= self.height
+        };
+        fits(false) || (item.turns() && fits(true))
     }
 
     /// Whether cuts are made in two stages.
@@ -57,7 +88,9 @@ impl Job {
         ];
         let mut text = line(&first);
         for (item_type, item) in (1..).zip(&self.items) {
-            text.push_str(&line(&[2, item_type, item.width, item.height, item.demand]));
+            let leave = usize::from(item.leave);
+            let numbers = [2, item_type, item.width, item.height, item.demand, leave];
+            text.push_str(&line(&numbers));
         }
         text
     }
@@ -100,13 +133,16 @@ impl Job {
         })
     }
 
-    /// No item is larger than the board, and the demands add up to at most 4,000.
+    /// Every item fits the board as it may lie, and the demands add up to at most 4,000.
     fn admitted(&self) -> Result<(), String> {
         for (item_type, item) in (1..).zip(&self.items) {
-            if item.width > self.width || item.height > self.height {
+            if !self.fits(item_type) {
+                let turned = match item.leave {
+                    true => "turned or not",
+                    false => "and has no leave to be turned",
+                };
                 return Err(format!(
-                    "item type {item_type} is {} by {} and does not fit the board of {} by {} \
-                     (items are not turned)",
+                    "item type {item_type} is {} by {} and does not fit the board of {} by {}, {turned}",
                     item.width, item.height, self.width, self.height
                 ));
             }
@@ -143,9 +179,9 @@ fn five(first: &str) -> Result<[usize; 5], String> {
 
 /// The item type of a line 2, whose running number must be the one given.
 fn item_line(text: &str, item_type: usize) -> Result<Item, String> {
-    let form = format!("must be: 2, {item_type}, width, height, demand");
+    let form = format!("must be: 2, {item_type}, width, height, demand, leave");
     let all = numbers(text).ok_or(format!("{form}; something in it is not a whole number"))?;
-    let [2, number, width, height, demand] = all[..] else {
+    let [2, number, width, height, demand, leave] = all[..] else {
         return Err(format!(
             "{form}; it has {} number(s), the first being the kind",
             all.len()
@@ -159,10 +195,12 @@ fn item_line(text: &str, item_type: usize) -> Result<Item, String> {
     within("width", width, 1, MOST_SIDE)?;
     within("height", height, 1, MOST_SIDE)?;
     within("demand", demand, 1, MOST_PIECES)?;
+    within("leave", leave, 0, 1)?;
     Ok(Item {
         width,
         height,
         demand,
+        leave: leave == 1,
     })
 }
 
@@ -183,12 +221,20 @@ fn within(name: &str, number: usize, least: usize, most: usize) -> Result<(), St
 pub mod tests {
     use super::*;
 
-    /// A job in a mode such as "2N".
-    pub fn job(mode: &str, [width, height]: [usize; 2], items: &[[usize; 3]]) -> Job {
-        let item = |&[width, height, demand]: &[usize; 3]| Item {
+    /// A job in a mode such as "2N"; no item may be turned.
+    pub fn job(mode: &str, board: [usize; 2], items: &[[usize; 3]]) -> Job {
+        let without = |&[width, height, demand]: &[usize; 3]| [width, height, demand, 0];
+        let items: Vec<[usize; 4]> = items.iter().map(without).collect();
+        job_with_leave(mode, board, &items)
+    }
+
+    /// A job in a mode, the leave of each item type given.
+    pub fn job_with_leave(mode: &str, [width, height]: [usize; 2], items: &[[usize; 4]]) -> Job {
+        let item = |&[width, height, demand, leave]: &[usize; 4]| Item {
             width,
             height,
             demand,
+            leave: leave == 1,
         };
         Job {
             stages: mode[..1].parse().unwrap(),
@@ -212,12 +258,14 @@ pub mod tests {
     #[test]
     fn a_job_is_read_as_it_is_written() {
         assert_eq!(Job::read(&job_a().text()), Ok(job_a()));
+        let turning = job_with_leave("3E", [5, 3], &[[3, 5, 1, 1], [2, 2, 1, 0]]);
+        assert_eq!(Job::read(&turning.text()), Ok(turning));
         assert_eq!(job_a().mode(), "2N");
     }
 
     #[test]
     fn blanks_and_what_follows_do_not_matter() {
-        let text = "1 2 0 9 7 2\r\n2 1 5 4 2\r\n2 2 3 3 3\r\n3 0 1 2\n";
+        let text = "1 2 0 9 7 2\r\n2 1 5 4 2 0\r\n2 2 3 3 3 0\r\n3 0 1 2 0\n";
         assert_eq!(Job::read(text), Ok(job_a()));
     }
 
@@ -232,12 +280,18 @@ pub mod tests {
             ("1 2 0 10001 7 2", "W is 10,001"),
             ("1 2 0 9 0 2", "H is 0"),
             ("1 2 0 9 7 41", "n is 41"),
-            ("1 2 0 9 7 2\n2 1 5 4 2", "only 1 line(s)"),
-            ("1 2 0 9 7 2\n2 2 5 4 2", "2 is not the next"),
-            ("1 2 0 9 7 2\n3 1 5 4 2", "line 2: must be: 2, 1"),
-            ("1 2 0 9 7 1\n2 1 5 4 0", "demand is 0"),
-            ("1 2 0 9 7 1\n2 1 7 9 1", "does not fit the board"),
-            ("1 2 0 9 7 2\n2 1 5 4 3999\n2 2 3 3 2", "add up to 4,001"),
+            ("1 2 0 9 7 2\n2 1 5 4 2 0", "only 1 line(s)"),
+            ("1 2 0 9 7 2\n2 1 5 4 2", "5 number(s)"),
+            ("1 2 0 9 7 2\n2 2 5 4 2 0", "2 is not the next"),
+            ("1 2 0 9 7 2\n3 1 5 4 2 0", "line 2: must be: 2, 1"),
+            ("1 2 0 9 7 1\n2 1 5 4 0 0", "demand is 0"),
+            ("1 2 0 9 7 1\n2 1 5 4 1 2", "leave is 2"),
+            ("1 2 0 9 7 1\n2 1 7 9 1 0", "has no leave to be turned"),
+            ("1 2 0 9 7 1\n2 1 8 8 1 1", "9 by 7, turned or not"),
+            (
+                "1 2 0 9 7 2\n2 1 5 4 3999 0\n2 2 3 3 2 0",
+                "add up to 4,001",
+            ),
         ] {
             let fault = Job::read(text).unwrap_err();
             assert!(fault.contains(told), "{text}: {fault}");

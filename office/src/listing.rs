@@ -14,11 +14,13 @@ pub struct Plate {
     pub stage: usize,
 }
 
-/// A cut: the plate type cut, the item type obtained, and the residuals that are kept.
+/// A cut: the plate type cut, the item type obtained, whether it is turned, and the residuals that
+/// are kept.
 #[derive(Debug, Clone, Copy, PartialEq, Eq)]
 pub struct Cut {
     pub plate: usize,
     pub item: usize,
+    pub turned: bool,
     pub top: Option<usize>,
     pub right: Option<usize>,
 }
@@ -48,6 +50,11 @@ impl From<reference::Plate> for Plate {
 }
 
 impl Cut {
+    /// The turn as a number: 1 if turned, else 0.
+    pub fn turn(&self) -> usize {
+        self.turned.into()
+    }
+
     /// The residuals that the cut leaves and that are kept.
     pub fn kept(&self) -> impl Iterator<Item = usize> {
         [self.top, self.right].into_iter().flatten()
@@ -58,7 +65,8 @@ impl From<reference::Cut> for Cut {
     fn from(cut: reference::Cut) -> Cut {
         Cut {
             plate: cut.plate.into(),
-            item: cut.item.into(),
+            item: cut.position.item.into(),
+            turned: cut.position.turned,
             top: cut.top.map(usize::from),
             right: cut.right.map(usize::from),
         }
@@ -80,11 +88,10 @@ impl Listing {
         self.plates.len() - 1
     }
 
-    /// The cut of this item type from this plate type, from 1, if there is one.
-    pub fn cut_of(&self, plate: usize, item: usize) -> Option<usize> {
-        let found = self
-            .cuts
-            .binary_search_by_key(&(plate, item), |cut| (cut.plate, cut.item));
+    /// The cut of this item type and turn from this plate type, from 1, if there is one.
+    pub fn cut_of(&self, plate: usize, item: usize, turned: bool) -> Option<usize> {
+        let key = |cut: &Cut| (cut.plate, cut.item, cut.turned);
+        let found = self.cuts.binary_search_by_key(&(plate, item, turned), key);
         found.ok().map(|place| place + 1)
     }
 }
@@ -95,6 +102,7 @@ fn to_walk(job: &Job) -> reference::Job {
         width: word(item.width),
         height: word(item.height),
         demand: word(item.demand),
+        leave: item.leave,
     };
     let mode = Mode::from_numbers(word(job.stages).into(), job.exact.into());
     reference::Job {
@@ -126,7 +134,7 @@ fn too_large(refusal: Refusal) -> String {
 #[cfg(test)]
 mod tests {
     use super::*;
-    use crate::job::tests::{example, job, job_a};
+    use crate::job::tests::{example, job, job_a, job_with_leave};
 
     fn sizes(job: &Job) -> (usize, usize) {
         let listing = Listing::of(job).unwrap();
@@ -201,12 +209,18 @@ mod tests {
     }
 
     #[test]
-    fn cuts_are_found_by_plate_and_item() {
+    fn cuts_are_found_by_plate_item_and_turn() {
         let listing = Listing::of(&job_a()).unwrap();
-        assert_eq!(listing.cut_of(0, 1), Some(1));
-        assert_eq!(listing.cut_of(4, 2), Some(7));
-        assert_eq!(listing.cut_of(1, 1), None);
-        assert_eq!(listing.cut_of(6, 1), None);
+        assert_eq!(listing.cut_of(0, 1, false), Some(1));
+        assert_eq!(listing.cut_of(4, 2, false), Some(7));
+        assert_eq!(listing.cut_of(1, 1, false), None);
+        assert_eq!(listing.cut_of(6, 1, false), None);
+        assert_eq!(listing.cut_of(0, 1, true), None);
+        let turning = job_with_leave("2N", [9, 7], &[[5, 4, 2, 1], [3, 3, 3, 1]]);
+        let listing = Listing::of(&turning).unwrap();
+        assert_eq!((listing.residual_types(), listing.cuts.len()), (6, 12));
+        assert_eq!(listing.cut_of(0, 1, true), Some(2));
+        assert_eq!(listing.cut_of(0, 2, true), None);
     }
 
     #[test]

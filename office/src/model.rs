@@ -12,9 +12,9 @@ use crate::listing::{Cut, Listing};
 /// Lines of the file are shorter than this; some readers stop at 255 bytes.
 const LINE: usize = 100;
 
-/// The column of a cut.
+/// The column of a cut: plate type, item type, turn.
 pub fn column(cut: &Cut) -> String {
-    format!("x_{}_{}", cut.plate, cut.item)
+    format!("x_{}_{}_{}", cut.plate, cut.item, cut.turn())
 }
 
 /// The names of all columns, in the order of the cuts.
@@ -70,7 +70,7 @@ fn head(job: &Job, listing: &Listing) -> String {
     format!(
         "\\ One-cut model of a job in mode {}: board {} by {}, {} item types.\n\
          \\ {} residual types, {} cuts.\n\
-         \\ Column x_P_I: how often item type I is cut from plate type P.\n\
+         \\ Column x_P_I_T: how often item type I is cut from plate type P, turned if T is 1.\n\
          \\ Row item_I: item type I is cut as often as demanded.\n\
          \\ Row plate_P: residual type P is cut at most as often as it arises.\n\
          \\ Row pieces: a plan has at most 4,000 cuts.\n",
@@ -131,7 +131,7 @@ fn wrapped(text: &mut String, words: impl Iterator<Item = String>) {
 #[cfg(test)]
 mod tests {
     use super::*;
-    use crate::job::tests::{job, job_a};
+    use crate::job::tests::{job, job_a, job_with_leave};
 
     fn lp_of(job: &Job) -> String {
         lp(job, &Listing::of(job).unwrap())
@@ -142,24 +142,38 @@ mod tests {
         let text = lp_of(&job_a());
         let model = "\
 Minimize
- boards: + x_0_1 + x_0_2 + 0 x_1_2 + 0 x_2_2 + 0 x_3_1 + 0 x_3_2 + 0 x_4_2 + 0 x_5_2
+ boards: + x_0_1_0 + x_0_2_0 + 0 x_1_2_0 + 0 x_2_2_0 + 0 x_3_1_0 + 0 x_3_2_0 + 0 x_4_2_0 + 0 x_5_2_0
 Subject To
- item_1: + x_0_1 + x_3_1 >= 2
- item_2: + x_0_2 + x_1_2 + x_2_2 + x_3_2 + x_4_2 + x_5_2 >= 3
- plate_1: + x_0_1 - x_1_2 >= 0
- plate_2: + x_0_1 - x_2_2 + x_3_1 >= 0
- plate_3: + x_0_2 - x_3_1 - x_3_2 >= 0
- plate_4: + x_0_2 + x_1_2 + x_3_2 - x_4_2 >= 0
- plate_5: + x_4_2 - x_5_2 >= 0
- pieces: + x_0_1 + x_0_2 + x_1_2 + x_2_2 + x_3_1 + x_3_2 + x_4_2 + x_5_2 <= 4000
+ item_1: + x_0_1_0 + x_3_1_0 >= 2
+ item_2: + x_0_2_0 + x_1_2_0 + x_2_2_0 + x_3_2_0 + x_4_2_0 + x_5_2_0 >= 3
+ plate_1: + x_0_1_0 - x_1_2_0 >= 0
+ plate_2: + x_0_1_0 - x_2_2_0 + x_3_1_0 >= 0
+ plate_3: + x_0_2_0 - x_3_1_0 - x_3_2_0 >= 0
+ plate_4: + x_0_2_0 + x_1_2_0 + x_3_2_0 - x_4_2_0 >= 0
+ plate_5: + x_4_2_0 - x_5_2_0 >= 0
+ pieces: + x_0_1_0 + x_0_2_0 + x_1_2_0 + x_2_2_0 + x_3_1_0 + x_3_2_0 + x_4_2_0 + x_5_2_0 <= 4000
 Generals
- x_0_1 x_0_2 x_1_2 x_2_2 x_3_1 x_3_2 x_4_2 x_5_2
+ x_0_1_0 x_0_2_0 x_1_2_0 x_2_2_0 x_3_1_0 x_3_2_0 x_4_2_0 x_5_2_0
 End
 ";
         assert!(text.ends_with(model), "{text}");
         assert!(
             text.starts_with("\\ One-cut model of a job in mode 2N: board 9 by 7, 2 item types.\n")
         );
+    }
+
+    #[test]
+    fn both_turns_of_a_type_stand_in_its_row() {
+        let turning = job_with_leave("2N", [5, 4], &[[3, 4, 3, 1]]);
+        let model = "\
+Minimize
+ boards: + x_0_1_0 + x_0_1_1
+Subject To
+ item_1: + x_0_1_0 + x_0_1_1 >= 3
+ pieces: + x_0_1_0 + x_0_1_1 <= 4000
+";
+        let text = lp_of(&turning);
+        assert!(text.contains(model), "{text}");
     }
 
     #[test]

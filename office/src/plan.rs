@@ -58,7 +58,7 @@ pub fn accepted(job: &Job, listing: &Listing, counts: &[usize]) -> Result<(), St
     Ok(())
 }
 
-/// How often an item type is cut.
+/// How often an item type is cut, in both turns together.
 pub fn cut_of_type(listing: &Listing, counts: &[usize], item_type: usize) -> usize {
     let cuts = listing.cuts.iter().zip(counts);
     cuts.filter(|(cut, _)| cut.item == item_type)
@@ -88,14 +88,19 @@ pub fn of_text(text: &str, job: &Job, listing: &Listing) -> Result<Vec<usize>, S
             "line {number}: something in it is not a whole number"
         ))?;
         match all[..] {
-            [3, plate, item, count] => {
-                let cut = listing.cut_of(plate, item);
+            [3, plate, item, count, turn] => {
+                let cut = listing.cut_of(plate, item, turn == 1);
+                let turned = if turn == 1 { " turned" } else { "" };
                 let cut = cut.ok_or(format!(
-                    "line {number}: item type {item} cannot be cut from plate type {plate}"
+                    "line {number}: item type {item}{turned} cannot be cut from plate type {plate}"
                 ))?;
                 counts[cut - 1] = count;
             }
-            [3, ..] => return Err(format!("line {number}: must be: 3, plate, item, count")),
+            [3, ..] => {
+                return Err(format!(
+                    "line {number}: must be: 3, plate, item, count, turn"
+                ))
+            }
             _ => {}
         }
     }
@@ -114,14 +119,14 @@ pub fn lines(listing: &Listing, counts: &[usize]) -> String {
         .iter()
         .zip(counts)
         .filter(|(_, &count)| count > 0);
-    done.map(|(cut, &count)| line(&[3, cut.plate, cut.item, count]))
+    done.map(|(cut, &count)| line(&[3, cut.plate, cut.item, count, cut.turn()]))
         .collect()
 }
 
 #[cfg(test)]
 mod tests {
     use super::*;
-    use crate::job::tests::job_a;
+    use crate::job::tests::{job_a, job_with_leave};
 
     /// Job A's plan.
     const PLAN: [usize; 8] = [2, 0, 1, 1, 0, 0, 1, 0];
@@ -149,6 +154,23 @@ mod tests {
     }
 
     #[test]
+    fn a_plan_of_turned_cuts_is_written_with_the_turn() {
+        let turning = job_with_leave("2N", [5, 4], &[[3, 4, 3, 1]]);
+        let listing = Listing::of(&turning).unwrap();
+        let mut solution = Solution::default();
+        solution.values.insert("x_0_1_0".into(), 1.0);
+        solution.values.insert("x_0_1_1".into(), 2.0);
+        let counts = counts(&listing, &solution).unwrap();
+        assert_eq!(accepted(&turning, &listing, &counts), Ok(()));
+        let lines = lines(&listing, &counts);
+        assert_eq!(lines, line(&[3, 0, 1, 1, 0]) + &line(&[3, 0, 1, 2, 1]));
+        let text = turning.text() + &lines;
+        assert_eq!(of_text(&text, &turning, &listing), Ok(counts));
+        let answer = reference::saw_text(text.as_bytes());
+        assert!(answer.ends_with(b"        8        3        0        1        0\n"));
+    }
+
+    #[test]
     fn a_solution_becomes_lines() {
         let listing = Listing::of(&job_a()).unwrap();
         let mut solution = Solution::default();
@@ -161,12 +183,12 @@ mod tests {
         let text = job_a().text() + &lines(&listing, &counts);
         assert_eq!(text.lines().count(), 7);
         assert_eq!(of_text(&text, &job_a(), &listing), Ok(counts));
-        let fault = of_text(&(text + "3 1 1 1\n"), &job_a(), &listing).unwrap_err();
+        let fault = of_text(&(text + "3 1 1 1 0\n"), &job_a(), &listing).unwrap_err();
         assert!(
             fault.contains("line 8: item type 1 cannot be cut from plate type 1"),
             "{fault}"
         );
-        solution.values.insert("x_0_1".into(), 1.5);
+        solution.values.insert("x_0_1_0".into(), 1.5);
         assert!(super::counts(&listing, &solution)
             .unwrap_err()
             .contains("relaxation"));

@@ -24,10 +24,19 @@ impl Random {
 
     fn job(&mut self) -> Job {
         let [width, height] = [self.between(4, 24), self.between(4, 24)];
-        let mut item = || Item {
-            width: self.between(width.div_ceil(4), width),
-            height: self.between(height.div_ceil(4), height),
-            demand: self.between(1, 9),
+        let mut item = || {
+            let item = Item {
+                width: self.between(width.div_ceil(4), width),
+                height: self.between(height.div_ceil(4), height),
+                demand: self.between(1, 9),
+                leave: self.below(2) == 1,
+            };
+            let [width, height] = item.sides(item.leave && self.below(2) == 1);
+            Item {
+                width,
+                height,
+                ..item
+            }
         };
         let items = (0..4).map(|_| item()).collect::<Vec<_>>();
         let items = items[..self.between(1, 4)].to_vec();
@@ -41,10 +50,11 @@ impl Random {
     }
 }
 
-/// The plan that cuts every item from a board of its own.
+/// The plan that cuts every item from a board of its own, in the last of its positions that fit.
 fn one_each(job: &Job, listing: &Listing) -> Vec<usize> {
     let count = |cut: &office::listing::Cut| {
-        if cut.plate == 0 {
+        let unturned_only = cut.turned || listing.cut_of(0, cut.item, true).is_none();
+        if cut.plate == 0 && unturned_only {
             job.item(cut.item).demand
         } else {
             0
@@ -65,7 +75,7 @@ fn words(job: &Job) -> Vec<u16> {
     let items = job
         .items
         .iter()
-        .flat_map(|item| [item.width, item.height, item.demand]);
+        .flat_map(|item| [item.width, item.height, item.demand, item.leave.into()]);
     head.into_iter()
         .chain(items)
         .map(|word| word as u16)
@@ -80,7 +90,10 @@ fn records(listing: &Listing) -> [Vec<u16>; 2] {
         .iter()
         .flat_map(|plate| [plate.width, plate.height, plate.stage]);
     let cuts = listing.cuts.iter();
-    let cuts = cuts.flat_map(|cut| [cut.plate, cut.item, number(cut.top), number(cut.right)]);
+    let cuts = cuts.flat_map(|cut| {
+        let item = 2 * cut.item + cut.turn();
+        [cut.plate, item, number(cut.top), number(cut.right)]
+    });
     [
         plates.map(|word| word as u16).collect(),
         cuts.map(|word| word as u16).collect(),
@@ -106,6 +119,7 @@ fn listings_are_those_of_the_listing_call() {
 #[test]
 fn plans_and_prices_are_accepted_and_drawn() {
     let mut random = Random(2);
+    let mut turned = 0;
     for round in 0..24 {
         let job = random.job();
         let listing = Listing::of(&job).unwrap();
@@ -128,12 +142,16 @@ fn plans_and_prices_are_accepted_and_drawn() {
             (prices.sum(&job), prices.denominator)
         );
         assert_eq!(page(&job, &answer).len(), answer.boards.len() + 1);
+        turned += (1..=job.items.len())
+            .map(|item| answer.turned_of(item))
+            .sum::<usize>();
     }
+    assert!(turned > 20, "{turned} items are turned");
 }
 
 #[test]
 fn prices_by_area_reach_the_area_bound_where_boards_can_be_filled() {
-    let job = Job::read("1 2 0 6 6 1\n2 1 2 3 13\n").unwrap();
+    let job = Job::read("1 2 0 6 6 1\n2 1 2 3 13 0\n").unwrap();
     let prices = prices::scaled(&job, &Listing::of(&job).unwrap(), &prices::areas(&job));
     assert_eq!((prices.sum(&job), prices.denominator), (13, 6));
 }

@@ -146,7 +146,7 @@ fn every_block_is_marked() {
 
 #[test]
 fn every_refusal_but_5_has_an_example_and_an_explanation() {
-    let mut given = [false; 19];
+    let mut given = [false; 20];
     for example in examples(&blocks()).values() {
         if let Ok([number, place]) = refusal(&example.answer()) {
             given[number] = true;
@@ -154,7 +154,7 @@ fn every_refusal_but_5_has_an_example_and_an_explanation() {
             assert!(told.starts_with(&format!("Refusal {number}, ")), "{told}");
         }
     }
-    let without: Vec<usize> = (1..=18).filter(|&number| !given[number]).collect();
+    let without: Vec<usize> = (1..=19).filter(|&number| !given[number]).collect();
     assert_eq!(without, [5]);
 }
 
@@ -190,8 +190,10 @@ fn listing(example: &Example) -> Vec<String> {
             panic!()
         };
         format!(
-            "cut {}: plate {plate}, item {item}, top {top}, right {right}",
-            number + 1
+            "cut {}: plate {plate}, item {}, turn {}, top {top}, right {right}",
+            number + 1,
+            item / 2,
+            item % 2
         )
     };
     let plates = plates
@@ -214,7 +216,7 @@ fn every_refusal_stands_in_the_handbook_and_on_the_card() {
         fs::read_to_string(path).unwrap()
     };
     let [handbook, card] = ["FORMAT.md", "PANEL.md"].map(read);
-    for number in 1..=18 {
+    for number in 1..=19 {
         assert_eq!(
             card.matches(&format!("\n| **{number}** |")).count(),
             1,
@@ -232,7 +234,7 @@ fn the_worked_listings_are_right() {
         .iter()
         .filter(|block| block.mark[0] == "listing")
         .collect();
-    assert_eq!(listings.len(), 2);
+    assert_eq!(listings.len(), 3);
     for block in listings {
         assert_eq!(block.lines, listing(&examples[&block.mark[1]]));
     }

@@ -25,10 +25,10 @@ pub const COUNTS: Kind = Kind {
     place: 3,
     full_size: 8_192,
 };
-/// Lent placements: 4,000 records of 7 words.
+/// Lent placements: 4,000 records of 8 words.
 pub const PLACEMENTS: Kind = Kind {
     place: 4,
-    full_size: 28_000,
+    full_size: 32_000,
 };
 
 /// Refuses with 5 the first buffer that is shorter than its full size.

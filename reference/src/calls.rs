@@ -1,7 +1,7 @@
 //! The five calls over words: listing, plan test, price test, unfolding and folding.
 //!
 //! Every call refuses in this order: the job's words (1, then 2), the words of prices or layouts
-//! (1, then 2), the job row (3, 4), the buffers (5), the model (6 or 7), and then the row of its
+//! (1, then 2, then 19), the job row (3, 4), the buffers (5), the model (6 or 7), and then the row of its
 //! own input (document 01, "Where each number is given"). Each builds its model afresh, and the
 //! old contents of a lent buffer have no influence.
 
@@ -97,7 +97,7 @@ pub fn test_prices(
 /// Unfolds a plan into placements, and gives the numbers of boards and pieces.
 ///
 /// Refuses as the plan test does, with 5 also for the placements. After success plates and cuts
-/// hold the listing and placements seven words for each item.
+/// hold the listing and placements eight words for each item.
 pub fn unfold(
     job: &[u16],
     counts: &[u16],
@@ -130,7 +130,7 @@ pub fn unfold(
 
 /// Folds layouts into counts, and gives the number of boards.
 ///
-/// Refuses as the listing does, with 1 and 2 also for the layout words (after the job's own 1
+/// Refuses as the listing does, with 1, 2 and 19 also for the layout words (after the job's own 1
 /// and 2) and with 5 for the counts, then with 10, 15, 16, 17, 18 or 11 for the layouts. After
 /// success plates and cuts hold the listing and counts one word for each cut.
 pub fn fold(
@@ -147,7 +147,7 @@ pub fn fold(
     ];
     let answer = || {
         let job = Job::from_words(job)?;
-        let lines = layout_lines::lines_of_words(layouts, job.items.len())?;
+        let lines = layout_lines::lines_of_words(layouts, &job)?;
         let listing = model(&job, &lengths)?;
         let set = layout_lines::test(&job, &lines, 1)?;
         let contents = [

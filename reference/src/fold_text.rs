@@ -1,5 +1,5 @@
 //! The fold text: job and layouts as lines, answered by the lines of a plan (document 01,
-//! "Texts").
+//! "Texts"; document 02, One).
 
 use crate::columns::{refusal_text, write_line};
 use crate::folding::fold;
@@ -36,7 +36,9 @@ fn read(text: &[u8]) -> Result<(Job, Vec<Placement>), Refusal> {
     while !lines.is_at_end() {
         let line = lines.line_of(7)?;
         let placement = Placement::from_numbers(line.values, job.items.len());
-        layouts.push(placement.ok_or(line.outside_limits())?);
+        let placement = placement.ok_or(line.outside_limits())?;
+        job.ensure_permitted(placement.position, line.number)?;
+        layouts.push(placement);
     }
     Ok((job, layouts))
 }
@@ -46,8 +48,9 @@ fn output(listing: &Listing, counts: &[u16]) -> Vec<u8> {
     let mut out = Vec::new();
     for (cut, &count) in listing.cuts.iter().zip(counts) {
         if count > 0 {
-            let line = [cut.plate, cut.item, count].map(u32::from);
-            write_line(&mut out, &[3, line[0], line[1], line[2]]);
+            let item = cut.position;
+            let line = [3, cut.plate, item.item, count, item.turn()];
+            write_line(&mut out, &line.map(u32::from));
         }
     }
     out

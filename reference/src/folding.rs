@@ -4,19 +4,21 @@
 use crate::job::Job;
 use crate::layout::{leading_stack, Board, Strip};
 use crate::listing::Listing;
+use crate::position::Position;
 use std::cmp::Reverse;
 
 /// A strip in the order of folding. Two-stage: items by falling height. Three-stage: the items
 /// of each stack by falling width, and the leftmost single-item stack of the strip's height
-/// moved to the front. Equal ones keep their order.
+/// moved to the front. Items are measured as they lie. Equal
+/// ones keep their order.
 pub fn ordered(job: &Job, strip: &Strip) -> Strip {
     let mut strip = strip.clone();
     if job.mode.is_two_stage() {
-        strip.sort_by_key(|stack| Reverse(job.item(stack[0]).height));
+        strip.sort_by_key(|stack| Reverse(job.sides(stack[0]).height));
         return strip;
     }
     for stack in &mut strip {
-        stack.sort_by_key(|&item| Reverse(job.item(item).width));
+        stack.sort_by_key(|&item| Reverse(job.sides(item).width));
     }
     if let Some(leading) = leading_stack(job, &strip) {
         strip[..=leading].rotate_right(1);
@@ -47,7 +49,7 @@ struct Counting<'a> {
 
 impl Counting<'_> {
     /// Counts the cut of an item from a plate and gives its top and right.
-    fn cut(&mut self, plate: Option<u16>, item: u16) -> (Option<u16>, Option<u16>) {
+    fn cut(&mut self, plate: Option<u16>, item: Position) -> (Option<u16>, Option<u16>) {
         let index = plate
             .and_then(|plate| self.listing.cut_of(plate, item))
             .expect("a layout that keeps the rules has a cut for each of its items");

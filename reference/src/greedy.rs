@@ -1,9 +1,10 @@
 //! A simple way to a set of layouts: strips filled one after another, highest items first. No
 //! part of document 01; it gives the tests plans for jobs that are too large to try all.
 
-use crate::job::{Item, Job};
+use crate::job::Job;
 use crate::layout::{Board, Stack, Strip};
 use crate::mode::Mode;
+use crate::position::{Position, Sides};
 use std::cmp::Reverse;
 
 /// A set of layouts that keeps the rules of an admitted job and meets each demand exactly.
@@ -22,18 +23,20 @@ pub fn set(job: &Job) -> Vec<Board> {
 /// The items that are still to be laid.
 struct Missing<'a> {
     job: &'a Job,
-    /// Item types by falling height, and by falling width among equals.
-    order: Vec<u16>,
+    /// Item types in the positions that fit the board, by falling height, and by falling width
+    /// among equals.
+    order: Vec<Position>,
     /// How often each is missing, by item type from 1.
     times: Vec<u16>,
 }
 
 impl Missing<'_> {
     fn of(job: &Job) -> Missing<'_> {
-        let mut order: Vec<u16> = (1..=job.items.len() as u16).collect();
-        order.sort_by_key(|&number| {
-            let item = job.item(number);
-            Reverse((item.height, item.width))
+        let fitting = job.positions().filter(|&position| job.fits(position));
+        let mut order: Vec<Position> = fitting.collect();
+        order.sort_by_key(|&position| {
+            let Sides { width, height } = job.sides(position);
+            Reverse((height, width))
         });
         Missing {
             job,
@@ -43,12 +46,12 @@ impl Missing<'_> {
     }
 
     /// Takes the first missing item of the order that fits.
-    fn take(&mut self, fits: impl Fn(&Item) -> bool) -> Option<u16> {
-        let missing = |number: u16| self.times[usize::from(number) - 1] > 0;
-        let mut open = self.order.iter().filter(|&&number| missing(number));
-        let &number = open.find(|&&number| fits(self.job.item(number)))?;
-        self.times[usize::from(number) - 1] -= 1;
-        Some(number)
+    fn take(&mut self, fits: impl Fn(Sides) -> bool) -> Option<Position> {
+        let missing = |position: Position| self.times[usize::from(position.item) - 1] > 0;
+        let mut open = self.order.iter().filter(|&&position| missing(position));
+        let &position = open.find(|&&position| fits(self.job.sides(position)))?;
+        self.times[usize::from(position.item) - 1] -= 1;
+        Some(position)
     }
 
     /// A board of strips, each led by the highest item that the room above allows.
@@ -56,42 +59,42 @@ impl Missing<'_> {
         let mut board = Board::new();
         let mut room = self.job.height;
         while let Some(lead) = self.take(|item| item.height <= room) {
-            room -= self.job.item(lead).height;
+            room -= self.job.sides(lead).height;
             board.push(self.strip(lead));
         }
         board
     }
 
     /// A strip as high as its leading item, which is its first stack.
-    fn strip(&mut self, lead: u16) -> Strip {
+    fn strip(&mut self, lead: Position) -> Strip {
         let job = self.job;
-        let Item { width, height, .. } = *job.item(lead);
+        let Sides { width, height } = job.sides(lead);
         let exact = job.mode == Mode::TwoExact;
         let mut strip = vec![vec![lead]];
         let mut room = job.width - width;
         while let Some(first) = self.take(|item| {
             item.width <= room && item.height <= height && (!exact || item.height == height)
         }) {
-            room -= job.item(first).width;
+            room -= job.sides(first).width;
             strip.push(self.stack(first, height));
         }
         strip
     }
 
     /// A stack that is no wider than its first item; in two stages that item alone.
-    fn stack(&mut self, first: u16, height: u16) -> Stack {
+    fn stack(&mut self, first: Position, height: u16) -> Stack {
         let job = self.job;
         let mut stack = vec![first];
         if job.mode.is_two_stage() {
             return stack;
         }
-        let width = job.item(first).width;
+        let width = job.sides(first).width;
         let exact = job.mode == Mode::ThreeExact;
-        let mut room = height - job.item(first).height;
+        let mut room = height - job.sides(first).height;
         while let Some(next) = self.take(|item| {
             item.width <= width && item.height <= room && (!exact || item.width == width)
         }) {
-            room -= job.item(next).height;
+            room -= job.sides(next).height;
             stack.push(next);
         }
         stack

@@ -1,29 +1,44 @@
-//! The job: board, item types and stage mode (document 01, "The job").
+//! The job: board, item types and stage mode (document 01, "The job"; document 02, One).
 
-use crate::limits::{DEMAND, ITEM_TYPES, MOST_PIECES, SIDE};
+use crate::limits::{DEMAND, ITEM_TYPES, MOST_PIECES, SIDE, TURN};
 use crate::mode::Mode;
 use crate::plate::Plate;
+use crate::position::{Position, Sides};
 use crate::refusal::{
     ensure, Refusal, DEMANDS_TOO_HIGH, ITEM_TOO_LARGE, NOT_OF_THE_FORM, OUTSIDE_LIMITS,
+    TURNED_WITHOUT_LEAVE,
 };
 
-/// An item type: its sides and its demand.
+/// Numbers of an item type: those of line 2 after the type, and its words.
+pub const ITEM_NUMBERS: usize = 4;
+
+/// An item type: its sides, its demand, and whether it may be turned.
 #[derive(Debug, Clone, Copy, PartialEq, Eq)]
 pub struct Item {
     pub width: u16,
     pub height: u16,
     pub demand: u16,
+    pub leave: bool,
 }
 
 impl Item {
-    /// The item of these three numbers, if each is within its limits.
-    pub fn from_numbers([width, height, demand]: [u32; 3]) -> Option<Item> {
-        let within = SIDE.contains(&width) && SIDE.contains(&height) && DEMAND.contains(&demand);
+    /// The item of these four numbers, if each is within its limits.
+    pub fn from_numbers([width, height, demand, leave]: [u32; ITEM_NUMBERS]) -> Option<Item> {
+        let within = SIDE.contains(&width)
+            && SIDE.contains(&height)
+            && DEMAND.contains(&demand)
+            && TURN.contains(&leave);
         within.then_some(Item {
             width: width as u16,
             height: height as u16,
             demand: demand as u16,
+            leave: leave == 1,
         })
+    }
+
+    /// Whether the item has a turned position: it has leave and is not square.
+    pub fn turns(&self) -> bool {
+        self.leave && self.width != self.height
     }
 }
 
@@ -71,28 +86,29 @@ impl Job {
         }
     }
 
-    /// Reads job words: stages, exact, W, H, n, then width, height, demand of each type.
+    /// Reads job words: stages, exact, W, H, n, then width, height, demand, leave of each type.
     /// Another length is 1, place 0; then a value outside its limits is 2, naming 0 for the
     /// board and else the type.
     pub fn from_words(words: &[u16]) -> Result<Job, Refusal> {
         let types = words.get(4).map_or(0, |&n| usize::from(n));
-        ensure(words.len() == 5 + 3 * types, NOT_OF_THE_FORM, 0)?;
+        ensure(words.len() == 5 + ITEM_NUMBERS * types, NOT_OF_THE_FORM, 0)?;
         let (head, items) = words.split_at(5);
         let head = Head::from_numbers(std::array::from_fn(|k| u32::from(head[k])))
             .ok_or(Refusal::new(OUTSIDE_LIMITS, 0))?;
         let mut read = Vec::with_capacity(types);
-        for (index, item) in items.chunks_exact(3).enumerate() {
+        for (index, item) in items.chunks_exact(ITEM_NUMBERS).enumerate() {
             let item = Item::from_numbers(std::array::from_fn(|k| u32::from(item[k])));
             read.push(item.ok_or(Refusal::new(OUTSIDE_LIMITS, index + 1))?);
         }
         Ok(Job::new(head, read))
     }
 
-    /// The job row of the table: an item larger than the board is 3, demands above 4,000 are 4.
+    /// The job row of the table: an item of which no permitted position fits the board is 3,
+    /// demands above 4,000 are 4.
     pub fn admit(&self) -> Result<(), Refusal> {
-        for (index, item) in self.items.iter().enumerate() {
-            let fits = item.width <= self.width && item.height <= self.height;
-            ensure(fits, ITEM_TOO_LARGE, index + 1)?;
+        for item in 1..=self.items.len() as u16 {
+            let fits = self.positions_of(item).any(|position| self.fits(position));
+            ensure(fits, ITEM_TOO_LARGE, usize::from(item))?;
         }
         let demands: u32 = self.items.iter().map(|item| u32::from(item.demand)).sum();
         ensure(demands <= MOST_PIECES, DEMANDS_TOO_HIGH, 0)
@@ -101,6 +117,43 @@ impl Job {
     /// The item of this type, from 1.
     pub fn item(&self, number: u16) -> &Item {
         &self.items[usize::from(number) - 1]
+    }
+
+    /// The sides of a type of the job as it lies: turned, width and height change places.
+    pub fn sides(&self, position: Position) -> Sides {
+        let item = self.item(position.item);
+        let (width, height) = match position.turned {
+            false => (item.width, item.height),
+            true => (item.height, item.width),
+        };
+        Sides { width, height }
+    }
+
+    /// Whether a type of the job may lie so: unturned always, turned with leave and if not square.
+    pub fn permits(&self, position: Position) -> bool {
+        !position.turned || self.item(position.item).turns()
+    }
+
+    /// Refuses with 19, naming the line, a position in which a type of the job may not lie.
+    pub fn ensure_permitted(&self, position: Position, line: usize) -> Result<(), Refusal> {
+        ensure(self.permits(position), TURNED_WITHOUT_LEAVE, line)
+    }
+
+    /// The permitted positions of a type, the unturned first.
+    pub fn positions_of(&self, item: u16) -> impl Iterator<Item = Position> + '_ {
+        let both = [Position::unturned(item), Position::turned(item)];
+        both.into_iter().filter(|&position| self.permits(position))
+    }
+
+    /// The permitted positions of all types, in the order of the walk.
+    pub fn positions(&self) -> impl Iterator<Item = Position> + '_ {
+        (1..=self.items.len() as u16).flat_map(|item| self.positions_of(item))
+    }
+
+    /// Whether an item in a position is no larger than the board.
+    pub fn fits(&self, position: Position) -> bool {
+        let Sides { width, height } = self.sides(position);
+        width <= self.width && height <= self.height
     }
 
     /// Plate type 0: the whole board, at stage 1.
@@ -112,11 +165,10 @@ impl Job {
         }
     }
 
-    /// Whether a residual is kept: at least one item type may be cut from it
-    /// (document 01, "Plates and cuts"). Demand plays no part.
+    /// Whether a residual is kept: at least one item type may be cut from it in a permitted
+    /// position (document 01, "Plates and cuts"). Demand plays no part.
     pub fn keeps(&self, residual: &Plate) -> bool {
-        self.items
-            .iter()
-            .any(|item| residual.admits(self.mode, item))
+        self.positions()
+            .any(|position| residual.admits(self.mode, self.sides(position)))
     }
 }

@@ -1,72 +1,82 @@
 //! Layouts: boards of strips of stacks of items, their measures, rules and item positions
-//! (document 01, "Layouts and folding", first paragraph).
+//! (document 01, "Layouts and folding", first paragraph; document 02, One).
 
 use crate::job::Job;
-use crate::limits::{POSITION, TURN};
+use crate::limits::{COORDINATE, RUNNING, TURN};
 use crate::mode::Mode;
+use crate::position::Position;
 
-/// Item types from the bottom.
-pub type Stack = Vec<u16>;
+/// Item types in their positions, from the bottom.
+pub type Stack = Vec<Position>;
 /// Stacks from the left.
 pub type Strip = Vec<Stack>;
 /// Strips from the bottom.
 pub type Board = Vec<Strip>;
 
-/// An item's board, strip, stack and place, its type and its position: the seven numbers of a
-/// line of kind 7 after the kind.
+/// Numbers of a line of kind 7 after the kind, and words of a placement.
+pub const PLACEMENT_NUMBERS: usize = 8;
+
+/// An item's board, strip, stack and place, its type and turn, and x and y: the eight numbers of
+/// a line of kind 7 after the kind, of which the turn is the last.
 #[derive(Debug, Clone, Copy, PartialEq, Eq, Hash)]
 pub struct Placement {
     pub board: u16,
     pub strip: u16,
     pub stack: u16,
     pub place: u16,
-    pub item: u16,
+    pub position: Position,
     pub x: u16,
     pub y: u16,
 }
 
 impl Placement {
-    /// The placement of these seven numbers, if each is within its limits for a job of so many
+    /// The placement of these eight numbers, if each is within its limits for a job of so many
     /// item types.
-    pub fn from_numbers(numbers: [u32; 7], types: usize) -> Option<Placement> {
-        let [.., item, x, y] = numbers;
-        let within = numbers[..4].iter().all(|number| TURN.contains(number))
+    pub fn from_numbers(numbers: [u32; PLACEMENT_NUMBERS], types: usize) -> Option<Placement> {
+        let [.., item, x, y, turn] = numbers;
+        let within = numbers[..4].iter().all(|number| RUNNING.contains(number))
             && (1..=types as u32).contains(&item)
-            && POSITION.contains(&x)
-            && POSITION.contains(&y);
+            && COORDINATE.contains(&x)
+            && COORDINATE.contains(&y)
+            && TURN.contains(&turn);
         within.then(|| Placement::from_words(numbers.map(|number| number as u16)))
     }
 
-    /// The placement of seven words.
-    pub fn from_words([board, strip, stack, place, item, x, y]: [u16; 7]) -> Placement {
+    /// The placement of eight words.
+    pub fn from_words(words: [u16; PLACEMENT_NUMBERS]) -> Placement {
+        let [board, strip, stack, place, item, x, y, turn] = words;
         Placement {
             board,
             strip,
             stack,
             place,
-            item,
+            position: Position {
+                item,
+                turned: turn == 1,
+            },
             x,
             y,
         }
     }
 
-    /// The seven words of a placement.
-    pub fn words(&self) -> [u16; 7] {
-        [
-            self.board, self.strip, self.stack, self.place, self.item, self.x, self.y,
-        ]
+    /// The eight words of a placement.
+    pub fn words(&self) -> [u16; PLACEMENT_NUMBERS] {
+        let Position { item, .. } = self.position;
+        let turn = self.position.turn();
+        let [board, strip, stack, place] = [self.board, self.strip, self.stack, self.place];
+        [board, strip, stack, place, item, self.x, self.y, turn]
     }
 }
 
 /// A stack's width: its widest item.
-pub fn stack_width(job: &Job, stack: &[u16]) -> u32 {
-    let widths = stack.iter().map(|&item| u32::from(job.item(item).width));
+pub fn stack_width(job: &Job, stack: &[Position]) -> u32 {
+    let widths = stack.iter().map(|&item| u32::from(job.sides(item).width));
     widths.max().unwrap_or(0)
 }
 
 /// A stack's height: the sum of its items' heights.
-pub fn stack_height(job: &Job, stack: &[u16]) -> u32 {
-    let heights = stack.iter().map(|&item| u32::from(job.item(item).height));
+pub fn stack_height(job: &Job, stack: &[Position]) -> u32 {
+    let heights = stack.iter().map(|&item| u32::from(job.sides(item).height));
     heights.sum()
 }
 
@@ -98,7 +108,7 @@ pub fn keeps_stage_rule(job: &Job, strip: &[Stack]) -> bool {
     let as_high_as_strip = |stack: &Stack| stack_height(job, stack) == height;
     let one_width = |stack: &Stack| {
         let width = stack_width(job, stack);
-        let same = |&item: &u16| u32::from(job.item(item).width) == width;
+        let same = |&item: &Position| u32::from(job.sides(item).width) == width;
         stack.iter().all(same)
     };
     match job.mode {
@@ -110,10 +120,13 @@ pub fn keeps_stage_rule(job: &Job, strip: &[Stack]) -> bool {
 }
 
 /// Whether a board keeps all layout rules of the job's mode: no list is empty, every item is of
-/// a type of the job, each strip keeps the stage rule, stack widths of a strip add up to at most
+/// a type of the job and turned only with leave and if not square, each strip keeps the stage rule, stack widths of a strip add up to at most
 /// the board's width and strip heights to at most its height.
 pub fn keeps_rules(job: &Job, board: &[Strip]) -> bool {
-    let known = |&item: &u16| (1..=job.items.len()).contains(&usize::from(item));
+    let known = |&position: &Position| {
+        let types = 1..=job.items.len();
+        types.contains(&usize::from(position.item)) && job.permits(position)
+    };
     let full = |strip: &Strip| {
         let stack_full = |stack: &Stack| !stack.is_empty() && stack.iter().all(known);
         !strip.is_empty() && strip.iter().all(stack_full)
@@ -138,17 +151,17 @@ pub fn placements(job: &Job, set: &[Board]) -> Vec<Placement> {
             let mut x = 0;
             for (stack_number, stack) in (1..).zip(strip) {
                 let mut y = below;
-                for (place, &item) in (1..).zip(stack) {
+                for (place, &position) in (1..).zip(stack) {
                     placed.push(Placement {
                         board: board_number,
                         strip: strip_number,
                         stack: stack_number,
                         place,
-                        item,
+                        position,
                         x: x as u16,
                         y: y as u16,
                     });
-                    y += u32::from(job.item(item).height);
+                    y += u32::from(job.sides(position).height);
                 }
                 x += stack_width(job, stack);
             }

@@ -4,6 +4,7 @@
 use crate::job::Job;
 use crate::layout::{
     keeps_stage_rule, placements, strip_height, strip_width, Board, Placement, Strip,
+    PLACEMENT_NUMBERS,
 };
 use crate::limits::MOST_PIECES;
 use crate::plan::ensure_demands;
@@ -12,10 +13,11 @@ use crate::refusal::{
     POSITION_WRONG, STAGE_RULE, TOTAL_TOO_HIGH,
 };
 
-/// Reads layout words, seven to a line. A line cut short is 1, naming it; then a value outside
-/// its limits is 2, naming its line.
-pub fn lines_of_words(words: &[u16], types: usize) -> Result<Vec<Placement>, Refusal> {
-    let lines = words.chunks_exact(7);
+/// Reads layout words, eight to a line. A line cut short is 1, naming it; then a value outside
+/// its limits is 2, naming its line; then a type turned without leave, or a square one turned, is
+/// 19, naming its line.
+pub fn lines_of_words(words: &[u16], job: &Job) -> Result<Vec<Placement>, Refusal> {
+    let lines = words.chunks_exact(PLACEMENT_NUMBERS);
     ensure(
         lines.remainder().is_empty(),
         NOT_OF_THE_FORM,
@@ -24,8 +26,11 @@ pub fn lines_of_words(words: &[u16], types: usize) -> Result<Vec<Placement>, Ref
     let mut read = Vec::with_capacity(lines.len());
     for (number, line) in (1..).zip(lines) {
         let numbers = std::array::from_fn(|k| u32::from(line[k]));
-        let line = Placement::from_numbers(numbers, types);
+        let line = Placement::from_numbers(numbers, job.items.len());
         read.push(line.ok_or(Refusal::new(OUTSIDE_LIMITS, number))?);
+    }
+    for (number, line) in (1..).zip(&read) {
+        job.ensure_permitted(line.position, number)?;
     }
     Ok(read)
 }
@@ -49,7 +54,7 @@ pub fn test(job: &Job, lines: &[Placement], first: usize) -> Result<Vec<Board>, 
     }
     let mut laid = vec![0; job.items.len() + 1];
     for line in lines {
-        laid[usize::from(line.item)] += 1;
+        laid[usize::from(line.position.item)] += 1;
     }
     ensure_demands(job, &laid)?;
     Ok(set)
@@ -84,7 +89,7 @@ pub fn set_of(lines: &[Placement]) -> Vec<Board> {
             strip.push(Vec::new());
         }
         let stack = strip.last_mut().expect("a strip begins with a stack");
-        stack.push(line.item);
+        stack.push(line.position);
     }
     set
 }

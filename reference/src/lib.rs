@@ -1,4 +1,5 @@
-//! Reference implementation of the beam saw plan engine, written from document 01.
+//! Reference implementation of the beam saw plan engine, written from document 01 and request One
+//! of document 02.
 //!
 //! Layers, bottom up: the job and its limits; plates, cuts and their listing; plans, prices,
 //! layouts, unfolding and folding as structures; the five calls over words; the two texts.
@@ -19,6 +20,7 @@ pub mod listing;
 pub mod mode;
 pub mod plan;
 pub mod plate;
+pub mod position;
 pub mod prices;
 pub mod refusal;
 pub mod saw_text;
@@ -32,6 +34,7 @@ pub use layout::{Board, Placement, Stack, Strip};
 pub use listing::{Cut, Listing};
 pub use mode::Mode;
 pub use plate::Plate;
+pub use position::{Position, Sides};
 pub use prices::{Bound, Prices};
 pub use refusal::Refusal;
 pub use saw_text::saw_text;

@@ -1,4 +1,4 @@
-//! The limits of document 01, each with the section that sets it.
+//! The limits of document 01, each with the section that sets it, and of document 02, One.
 
 use std::ops::RangeInclusive;
 
@@ -37,10 +37,13 @@ pub const COUNT: RangeInclusive<u32> = 1..=4_000;
 pub const RESIDUAL_TYPES: RangeInclusive<u32> = 0..=2_047;
 
 /// Board, strip, stack and place of a layout line ("Texts").
-pub const TURN: RangeInclusive<u32> = 1..=4_000;
+pub const RUNNING: RangeInclusive<u32> = 1..=4_000;
 
 /// x and y of a layout line ("Texts").
-pub const POSITION: RangeInclusive<u32> = 0..=10_000;
+pub const COORDINATE: RangeInclusive<u32> = 0..=10_000;
+
+/// Leave to turn an item type, and the turn of a cut or of a layout line (document 02, One).
+pub const TURN: RangeInclusive<u32> = 0..=1;
 
 /// The line of a text that is refused whatever it holds ("Texts").
 pub const FORBIDDEN_LINE: usize = 100_000;

@@ -1,17 +1,19 @@
-//! The listing: the walk that numbers plate types and cuts (document 01, "Plates and cuts").
+//! The listing: the walk that numbers plate types and cuts (document 01, "Plates and cuts";
+//! document 02, One).
 
 use crate::job::Job;
 use crate::limits::{MOST_CUTS, MOST_PLATE_TYPES};
 use crate::plate::Plate;
+use crate::position::Position;
 use crate::refusal::{ensure, Refusal, TOO_MANY_CUTS, TOO_MANY_PLATE_TYPES};
 use std::collections::HashMap;
 use std::ops::Range;
 
-/// A cut: the plate type cut, the item type obtained, and the kept residuals.
+/// A cut: the plate type cut, the item type obtained and its turn, and the kept residuals.
 #[derive(Debug, Clone, Copy, PartialEq, Eq)]
 pub struct Cut {
     pub plate: u16,
-    pub item: u16,
+    pub position: Position,
     pub top: Option<u16>,
     pub right: Option<u16>,
 }
@@ -41,28 +43,30 @@ pub struct Listing {
 }
 
 impl Listing {
-    /// Walks plate types in rising number and at each the item types in rising number.
-    /// Each permitted pair is the next cut; then its top and its right, if kept and new,
-    /// are the next plate types. Refuses a plate type too many with 6 and a cut too many with
+    /// Walks plate types in rising number, at each the item types in rising number, and at each
+    /// of these the unturned position before the turned one. Each that may be cut is the next
+    /// cut; then its top and its right, if kept and new, are the next plate types. Refuses a plate type too many with 6 and a cut too many with
     /// 7, whichever the walk meets first.
     pub fn walk(job: &Job, limits: Limits) -> Result<Listing, Refusal> {
         let mut met = MetPlates::new(job, limits.plate_types);
         let mut cuts = Vec::new();
         let mut first = Vec::new();
+        let positions: Vec<Position> = job.positions().collect();
         while let Some(&plate) = met.plates.get(first.len()) {
             let number = first.len() as u16;
             first.push(cuts.len());
-            for (item_type, item) in (1..).zip(&job.items) {
-                if !plate.admits(job.mode, item) {
+            for &position in &positions {
+                let sides = job.sides(position);
+                if !plate.admits(job.mode, sides) {
                     continue;
                 }
                 ensure(cuts.len() < limits.cuts, TOO_MANY_CUTS, 0)?;
-                let left = plate.residuals(job.mode, item);
+                let left = plate.residuals(job.mode, sides);
                 let top = met.number(left.top)?;
                 let right = met.number(left.right)?;
                 cuts.push(Cut {
                     plate: number,
-                    item: item_type,
+                    position,
                     top,
                     right,
                 });
@@ -88,13 +92,14 @@ impl Listing {
         self.first[plate]..self.first[plate + 1]
     }
 
-    /// The index (from 0) of the cut of this item type from this plate type, if there is one.
-    pub fn cut_of(&self, plate: u16, item: u16) -> Option<usize> {
+    /// The index (from 0) of the cut of an item in this position from this plate type, if there
+    /// is one.
+    pub fn cut_of(&self, plate: u16, position: Position) -> Option<usize> {
         if usize::from(plate) >= self.plates.len() {
             return None;
         }
         let on = self.cuts_on(plate);
-        let found = self.cuts[on.clone()].binary_search_by_key(&item, |cut| cut.item);
+        let found = self.cuts[on.clone()].binary_search_by_key(&position, |cut| cut.position);
         found.ok().map(|offset| on.start + offset)
     }
 
@@ -104,10 +109,14 @@ impl Listing {
         self.plates.iter().flat_map(record).collect()
     }
 
-    /// The cuts as words: plate, item, top and right of each, 0 for a residual not kept.
+    /// The cuts as words: plate, item, top and right of each, 0 for a residual not kept. The item
+    /// word is twice the type plus the turn, also where no type has leave.
     pub fn cut_words(&self) -> Vec<u16> {
         let number = |residual: Option<u16>| residual.unwrap_or(0);
-        let record = |cut: &Cut| [cut.plate, cut.item, number(cut.top), number(cut.right)];
+        let record = |cut: &Cut| {
+            let item = cut.position.word();
+            [cut.plate, item, number(cut.top), number(cut.right)]
+        };
         self.cuts.iter().flat_map(record).collect()
     }
 }

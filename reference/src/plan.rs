@@ -18,7 +18,8 @@ pub fn counts_of_words<'a>(listing: &Listing, words: &'a [u16]) -> Result<&'a [u
 }
 
 /// Tests a plan, one count for each cut, and gives the number of boards that it opens.
-/// A total above 4,000 is 10; an item type cut less often than demanded is 11; a residual type
+/// A total above 4,000 is 10; an item type cut less often than demanded, in
+/// both turns together, is 11; a residual type
 /// cut more often than it arises is 12.
 pub fn test(job: &Job, listing: &Listing, counts: &[u16]) -> Result<u32, Refusal> {
     let mut total = 0;
@@ -28,7 +29,7 @@ pub fn test(job: &Job, listing: &Listing, counts: &[u16]) -> Result<u32, Refusal
     for (cut, &count) in listing.cuts.iter().zip(counts) {
         let count = u32::from(count);
         total += count;
-        obtained[usize::from(cut.item)] += count;
+        obtained[usize::from(cut.position.item)] += count;
         drawn[usize::from(cut.plate)] += count;
         for residual in cut.top.into_iter().chain(cut.right) {
             arisen[usize::from(residual)] += count;

@@ -1,7 +1,7 @@
 //! Plates: which items may be cut from one, and what a cut leaves (document 01, "Plates and cuts").
 
-use crate::job::Item;
 use crate::mode::Mode;
+use crate::position::Sides;
 
 /// A plate type: width, height and stage.
 #[derive(Debug, Clone, Copy, PartialEq, Eq, Hash)]
@@ -19,9 +19,9 @@ pub struct Residuals {
 }
 
 impl Plate {
-    /// Whether the item may be cut from this plate: it fits, and in 2E at stage 2 it is just as
-    /// high, in 3E at stage 3 just as wide as the plate.
-    pub fn admits(&self, mode: Mode, item: &Item) -> bool {
+    /// Whether an item that lies with these sides may be cut from this plate: it fits, and in 2E
+    /// at stage 2 it is just as high, in 3E at stage 3 just as wide as the plate.
+    pub fn admits(&self, mode: Mode, item: Sides) -> bool {
         let fits = item.width <= self.width && item.height <= self.height;
         let exact = match (mode, self.stage) {
             (Mode::TwoExact, 2) => item.height == self.height,
@@ -33,7 +33,7 @@ impl Plate {
 
     /// Top and right residual of cutting the item from this plate, kept or not.
     /// The item must be one that the plate admits.
-    pub fn residuals(&self, mode: Mode, item: &Item) -> Residuals {
+    pub fn residuals(&self, mode: Mode, item: Sides) -> Residuals {
         let above = self.height - item.height;
         let beside = self.width - item.width;
         let plate = |width, height, stage| {

@@ -69,7 +69,7 @@ impl Prices {
             self.items.len() == job.items.len() && self.residuals.len() == listing.residual_types();
         ensure(matching, PRICES_NOT_THE_MODELS, 0)?;
         for (number, cut) in (1..).zip(&listing.cuts) {
-            let item = self.item(cut.item);
+            let item = self.item(cut.position.item);
             let kept: u32 = (cut.top.iter().chain(&cut.right))
                 .map(|&residual| self.limit(residual))
                 .sum();
@@ -83,7 +83,7 @@ impl Prices {
         })
     }
 
-    /// The price of an item type.
+    /// The price of an item type, turned or not.
     fn item(&self, number: u16) -> u32 {
         u32::from(self.items[usize::from(number) - 1])
     }

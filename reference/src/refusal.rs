@@ -1,4 +1,5 @@
-//! Refusals: the numbers and places of the table "Where each number is given".
+//! Refusals: the numbers and places of the table "Where each number is given", and 19 of document
+//! 02, One.
 
 /// A refusal number with the place that it names.
 #[derive(Debug, Clone, Copy, PartialEq, Eq)]
@@ -11,7 +12,7 @@ pub struct Refusal {
 pub const NOT_OF_THE_FORM: u32 = 1;
 /// A value outside its limits.
 pub const OUTSIDE_LIMITS: u32 = 2;
-/// An item larger than the board.
+/// An item of which no permitted position fits the board.
 pub const ITEM_TOO_LARGE: u32 = 3;
 /// Demands that add up to more than 4,000.
 pub const DEMANDS_TOO_HIGH: u32 = 4;
@@ -43,6 +44,8 @@ pub const STAGE_RULE: u32 = 16;
 pub const PAST_THE_BOARD: u32 = 17;
 /// An x or y that is not the item's position.
 pub const POSITION_WRONG: u32 = 18;
+/// A turn of 1 for a square type or one without leave (document 02, One).
+pub const TURNED_WITHOUT_LEAVE: u32 = 19;
 
 impl Refusal {
     /// The refusal with this number, naming this place.

@@ -3,9 +3,10 @@
 
 use crate::columns::{refusal_text, write_line};
 use crate::job::Job;
-use crate::limits::{COUNT, DENOMINATOR, ITEM_TYPES, PLATE_NUMBER, PRICE, RESIDUAL_TYPES};
+use crate::limits::{COUNT, DENOMINATOR, ITEM_TYPES, PLATE_NUMBER, PRICE, RESIDUAL_TYPES, TURN};
 use crate::listing::{Listing, FULL};
 use crate::plan;
+use crate::position::Position;
 use crate::prices::{Bound, Prices};
 use crate::refusal::{ensure, Refusal, CUT_NOT_RISING, NO_SUCH_CUT};
 use crate::text_lines::{Line, Lines};
@@ -23,7 +24,7 @@ pub fn saw_text(text: &[u8]) -> Vec<u8> {
 struct CountLine {
     number: usize,
     plate: u16,
-    item: u16,
+    position: Position,
     count: u16,
 }
 
@@ -58,7 +59,7 @@ fn read(text: &[u8]) -> Result<SawText, Refusal> {
     while !lines.is_at_end() {
         let line = lines.line()?;
         match line.kind {
-            3 if prices.is_none() => plan.push(count_line(line, job.items.len())?),
+            3 if prices.is_none() => plan.push(count_line(line, &job)?),
             4 if prices.is_none() => prices = Some(read_prices(&mut lines, line)?),
             _ => return Err(line.out_of_order()),
         }
@@ -66,21 +67,28 @@ fn read(text: &[u8]) -> Result<SawText, Refusal> {
     Ok(SawText { job, plan, prices })
 }
 
-/// A line of kind 3, if its plate, item and count are within their limits.
-fn count_line(line: Line, types: usize) -> Result<CountLine, Refusal> {
-    let [plate, item, count, ..] = line.values;
+/// A line of kind 3, if its plate, item, count and turn are within their limits, else 2; a type
+/// turned without leave, or a square one turned, is 19.
+fn count_line(line: Line, job: &Job) -> Result<CountLine, Refusal> {
+    let [plate, item, count, turn, ..] = line.values;
     let within = PLATE_NUMBER.contains(&plate)
-        && (1..=types as u32).contains(&item)
-        && COUNT.contains(&count);
-    match within {
-        true => Ok(CountLine {
-            number: line.number,
-            plate: plate as u16,
-            item: item as u16,
-            count: count as u16,
-        }),
-        false => Err(line.outside_limits()),
+        && (1..=job.items.len() as u32).contains(&item)
+        && COUNT.contains(&count)
+        && TURN.contains(&turn);
+    if !within {
+        return Err(line.outside_limits());
     }
+    let position = Position {
+        item: item as u16,
+        turned: turn == 1,
+    };
+    job.ensure_permitted(position, line.number)?;
+    Ok(CountLine {
+        number: line.number,
+        plate: plate as u16,
+        position,
+        count: count as u16,
+    })
 }
 
 /// The prices that a line of kind 4 announces: as many lines of kinds 5 and 6 as it says,
@@ -119,7 +127,7 @@ fn read_price_lines(lines: &mut Lines, kind: u32, last: u32) -> Result<Vec<u16>,
 fn counts_of_lines(listing: &Listing, plan: &[CountLine]) -> Result<Vec<u16>, Refusal> {
     let mut cuts = Vec::with_capacity(plan.len());
     for line in plan {
-        let cut = listing.cut_of(line.plate, line.item);
+        let cut = listing.cut_of(line.plate, line.position);
         cuts.push(cut.ok_or(Refusal::new(NO_SUCH_CUT, line.number))?);
     }
     for (pair, line) in cuts.windows(2).zip(plan.iter().skip(1)) {
@@ -136,8 +144,8 @@ fn counts_of_lines(listing: &Listing, plan: &[CountLine]) -> Result<Vec<u16>, Re
 fn output(unfolding: &Unfolding, bound: Bound) -> Vec<u8> {
     let mut out = Vec::new();
     for placement in &unfolding.placements {
-        let [board, strip, stack, place, item, x, y] = placement.words().map(u32::from);
-        write_line(&mut out, &[7, board, strip, stack, place, item, x, y]);
+        let numbers = placement.words().map(u32::from);
+        write_line(&mut out, &[&[7], &numbers[..]].concat());
     }
     let boards = u32::from(unfolding.boards);
     let fewest = u32::from(bound.is_fewest(boards));

@@ -1,10 +1,13 @@
 //! Lines of a text: their form, their numbering, and the kinds that both texts begin with
-//! (document 01, "Texts").
+//! (document 01, "Texts"; document 02, One).
 
 use crate::columns::{read_group, COLUMNS};
 use crate::job::{Head, Item, Job};
 use crate::limits::FORBIDDEN_LINE;
 use crate::refusal::{Refusal, NOT_OF_THE_FORM, OUTSIDE_LIMITS};
+
+/// The most numbers after the kind on a line.
+const MOST_VALUES: usize = 8;
 
 /// A line of the form: its number in the text, its kind, and the numbers after the kind, of which
 /// a kind uses as many as it has.
@@ -12,7 +15,7 @@ use crate::refusal::{Refusal, NOT_OF_THE_FORM, OUTSIDE_LIMITS};
 pub struct Line {
     pub number: usize,
     pub kind: u32,
-    pub values: [u32; 7],
+    pub values: [u32; MOST_VALUES],
 }
 
 impl Line {
@@ -30,11 +33,11 @@ impl Line {
 /// How many numbers follow the kind on a line of that kind; none for a kind that no text has.
 fn values_of_kind(kind: u32) -> Option<usize> {
     match kind {
-        1 => Some(5),
-        2 => Some(4),
-        3 | 4 => Some(3),
+        1 | 2 => Some(5),
+        3 => Some(4),
+        4 => Some(3),
         5 | 6 => Some(2),
-        7 => Some(7),
+        7 => Some(8),
         _ => None,
     }
 }
@@ -99,8 +102,8 @@ impl<'a> Lines<'a> {
         let mut items = Vec::with_capacity(types as usize);
         for number in 1..=types {
             let line = self.running_line(2, number)?;
-            let [_, width, height, demand, ..] = line.values;
-            let item = Item::from_numbers([width, height, demand]);
+            let [_, width, height, demand, leave, ..] = line.values;
+            let item = Item::from_numbers([width, height, demand, leave]);
             items.push(item.ok_or(line.outside_limits())?);
         }
         Ok(Job::new(head, items))
@@ -114,7 +117,7 @@ fn read_line(bytes: &[u8], number: usize) -> Option<(Line, usize)> {
     let count = values_of_kind(kind)?;
     let length = COLUMNS * (count + 1);
     let groups = bytes.get(COLUMNS..length)?.chunks_exact(COLUMNS);
-    let mut values = [0; 7];
+    let mut values = [0; MOST_VALUES];
     for (value, group) in values.iter_mut().zip(groups) {
         *value = read_group(group)?;
     }

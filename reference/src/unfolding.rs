@@ -109,11 +109,11 @@ fn unfold_board(job: &Job, listing: &Listing, unfolding: &mut Unfolding) {
             strip: turn.strip,
             stack: turn.stack,
             place: turn.place,
-            item: cut.item,
+            position: cut.position,
             x: piece.x,
             y: piece.y,
         });
-        let item = job.item(cut.item);
+        let item = job.sides(cut.position);
         waiting.put(listing, cut.top, piece.x, piece.y + item.height);
         waiting.put(listing, cut.right, piece.x + item.width, piece.y);
     }

@@ -17,3 +17,5 @@ pub mod UnfoldOrder
 pub mod FoldOrder
 pub mod Tests
 pub mod Hypotheses
+pub mod Turned
+pub mod TurnedTexts

@@ -1,7 +1,7 @@
 -- The limits of words, by computation.
 use mathlib.Core.Path.{refl}
 use Rattle.cases.specs.Calls.{plates, cuts, counts, placements, listing, plan, prices, unfolding′, folding}
-use Rattle.cases.specs.Jobs.{jobA, alone}
+use Rattle.cases.specs.Jobs.{jobA, jobT, alone}
 use Rattle.cases.specs.Limits.{JobLimits, ModelLimits, PlanLimits, LayoutLimits, oneType, fortyTypes, fullDemands}
 use Rattle.cases.proofs.Opened.{computed}
 
@@ -53,7 +53,7 @@ planLimits =
     }
 
 pub layoutLimits : LayoutLimits
-unfolding computed plates cuts counts folding jobA
+unfolding computed plates cuts counts folding jobA jobT
 layoutLimits =
     record {
       values-greatest = refl;

@@ -1,11 +1,11 @@
 -- The rows of calls and texts in their order, for every input.
 use Prim.Native.Nat.{ℕ}
-use mathlib.Core.Path.{_≡_, refl, ap}
-use mathlib.Core.Bool.{false}
+use mathlib.Core.Path.{_≡_, refl, ap, _∙_}
+use mathlib.Core.Bool.{true, false, not}
 use mathlib.Core.List.{List, [], _∷_}
 use lib.Dec.{eqb}
 use lib.ListN.{length, replicate}
-use Rattle.job.specs.Verdict.{Verdict, pass, refuse, _then_}
+use Rattle.job.specs.Verdict.{Verdict, pass, refuse, _then_, refuseIf}
 use Rattle.job.specs.Buffers.{ends, filled}
 use Rattle.job.specs.Job.{jobWords, admission}
 use Rattle.listing.specs.ListCall.{listVerdict}
@@ -14,9 +14,11 @@ use Rattle.plan.specs.Plan.{planRow}
 use Rattle.plan.specs.Prices.{pricesRow}
 use Rattle.plan.specs.PlanCall.{planVerdict}
 use Rattle.plan.specs.PriceCall.{priceVerdict}
+use Rattle.layouts.specs.Lines.{layoutWords}
 use Rattle.layouts.specs.LayoutsRow.{layoutsRow}
 use Rattle.layouts.specs.UnfoldCall.{unfoldVerdict}
 use Rattle.layouts.specs.FoldCall.{foldVerdict}
+use Rattle.texts.specs.Shape.{Shape, formed, eachWithin, values, numbersRow}
 use Rattle.texts.specs.Reader.{started, fed, textRow, written}
 use Rattle.texts.specs.SawText.{sawGrammar, priceLinesRow, sawRows, sawLines, sawWritten, sawText}
 use Rattle.texts.specs.FoldText.{foldGrammar, foldRows, foldLines, foldWritten, foldText}
@@ -36,11 +38,22 @@ chained (refuse number place ∷ []) = refl
 chained (pass ∷ w ∷ rows) = chained (w ∷ rows)
 chained (refuse number place ∷ w ∷ rows) = refl
 
+-- a line of a text that is of the form
+line-row :
+    (line : ℕ) (s : Shape) (ss : List Shape) (ns : List ℕ)
+    → formed s ns ≡ true
+    → numbersRow line (s ∷ ss) ns
+    ≡ (refuseIf (not (eachWithin (s .limits) (values s ns))) 2 line then refuseIf (not (s .permits (values s ns))) 19 line)
+unfolding numbersRow
+line-row line s ss ns e = rw (e, numbersRow)
+
 pub withinRows : WithinRows
-unfolding chain jobWords admission planRow priceLinesRow pricesRow layoutsRow
+unfolding chain jobWords layoutWords admission planRow priceLinesRow pricesRow layoutsRow
 withinRows =
     record {
       job-words = λ ws. chained _;
+      layout-words = λ job ws. chained _;
+      text-line = λ line s ss ns e. line-row line s ss ns e ∙ chained _;
       job = λ job. chained _;
       model-refused = row-stopped;
       model-passed = row-going;

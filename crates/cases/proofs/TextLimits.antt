@@ -28,6 +28,7 @@ jobLines =
       item-height-high = refl;
       demand-zero = refl;
       demand-high = refl;
+      leave-high = refl;
     }
 
 pub sawLines : SawLines
@@ -36,6 +37,7 @@ sawLines =
     record {
       plan-greatest = refl;
       plan-item-zero = refl;
+      plan-turn-high = refl;
       prices-greatest = refl;
       prices-least = refl;
       denominator-high = refl;
@@ -63,6 +65,7 @@ foldLines =
       stack-high = refl;
       place-high = refl;
       y-high = refl;
+      turn-high = refl;
     }
 
 pub lastLines : LastLines

@@ -8,19 +8,19 @@ use Rattle.job.specs.Buffers.{given, refused}
 use Rattle.job.specs.Job.{Job, jobOf}
 use Rattle.listing.specs.Listing.{going, stopped, walk, walkWithin, listingOf}
 use Rattle.cases.specs.Calls.{listing, plan, prices, unfolding′, folding}
-use Rattle.cases.specs.Jobs.{jobA, alone}
+use Rattle.cases.specs.Jobs.{jobA, jobT, alone}
 
--- job words of one item type: stages, exact, W, H, and the type's width, height and demand
+-- job words of one item type without leave: stages, exact, W, H, and the type's width, height and demand
 unfoldable pub oneType : ℕ → ℕ → ℕ → ℕ → ℕ → ℕ → ℕ → List ℕ
-oneType stages exact w h wi hi d = stages ∷ exact ∷ w ∷ h ∷ 1 ∷ wi ∷ hi ∷ d ∷ []
+oneType stages exact w h wi hi d = stages ∷ exact ∷ w ∷ h ∷ 1 ∷ wi ∷ hi ∷ d ∷ 0 ∷ []
 
--- 40 item types of 1 by 1 on a board of 1 by 1, each demanded once
+-- 40 item types of 1 by 1 on a board of 1 by 1, each demanded once, with leave, which a square has no use of
 unfoldable pub fortyTypes : List ℕ
-fortyTypes = (2 ∷ 0 ∷ 1 ∷ 1 ∷ 40 ∷ []) ++ replicate 120 1
+fortyTypes = (2 ∷ 0 ∷ 1 ∷ 1 ∷ 40 ∷ []) ++ replicate 160 1
 
 -- two item types of the board's size, demanded 3,999 times and once
 unfoldable pub fullDemands : List ℕ
-fullDemands = 2 ∷ 0 ∷ 9 ∷ 7 ∷ 2 ∷ 9 ∷ 7 ∷ 3999 ∷ 9 ∷ 7 ∷ 1 ∷ []
+fullDemands = 2 ∷ 0 ∷ 9 ∷ 7 ∷ 2 ∷ 9 ∷ 7 ∷ 3999 ∷ 0 ∷ 9 ∷ 7 ∷ 1 ∷ 0 ∷ []
 
 -- "Board W by H, each 1 to 10,000. Item types 1 to n, n from 1 to 40, each with width, height (1 to 10,000) and demand (1 to 4,000)"
 pub record JobLimits : Type 0 where
@@ -78,23 +78,23 @@ pub record PlanLimits : Type 0 where
 -- "board, strip, stack, place 1 to 4,000; x, y 0 to 10,000", "type 1 to n", "over 4,000 lines", of layout words
 pub record LayoutLimits : Type 0 where
   -- limits one lower: a line at all its highest values has no fault but its turn
-  pub values-greatest : folding jobA (4000 ∷ 4000 ∷ 4000 ∷ 4000 ∷ 2 ∷ 10000 ∷ 10000 ∷ []) .answer ≡ refused 15 1
+  pub values-greatest : folding jobA (4000 ∷ 4000 ∷ 4000 ∷ 4000 ∷ 2 ∷ 10000 ∷ 10000 ∷ 0 ∷ []) .answer ≡ refused 15 1
   -- a board, strip, stack or place 0
-  pub board-zero : folding jobA (0 ∷ 1 ∷ 1 ∷ 1 ∷ 1 ∷ 0 ∷ 0 ∷ []) .answer ≡ refused 2 1
-  pub strip-zero : folding jobA (1 ∷ 0 ∷ 1 ∷ 1 ∷ 1 ∷ 0 ∷ 0 ∷ []) .answer ≡ refused 2 1
-  pub stack-zero : folding jobA (1 ∷ 1 ∷ 0 ∷ 1 ∷ 1 ∷ 0 ∷ 0 ∷ []) .answer ≡ refused 2 1
-  pub place-zero : folding jobA (1 ∷ 1 ∷ 1 ∷ 0 ∷ 1 ∷ 0 ∷ 0 ∷ []) .answer ≡ refused 2 1
+  pub board-zero : folding jobA (0 ∷ 1 ∷ 1 ∷ 1 ∷ 1 ∷ 0 ∷ 0 ∷ 0 ∷ []) .answer ≡ refused 2 1
+  pub strip-zero : folding jobA (1 ∷ 0 ∷ 1 ∷ 1 ∷ 1 ∷ 0 ∷ 0 ∷ 0 ∷ []) .answer ≡ refused 2 1
+  pub stack-zero : folding jobA (1 ∷ 1 ∷ 0 ∷ 1 ∷ 1 ∷ 0 ∷ 0 ∷ 0 ∷ []) .answer ≡ refused 2 1
+  pub place-zero : folding jobA (1 ∷ 1 ∷ 1 ∷ 0 ∷ 1 ∷ 0 ∷ 0 ∷ 0 ∷ []) .answer ≡ refused 2 1
   -- a board, strip, stack or place 4,001
-  pub board-high : folding jobA (4001 ∷ 1 ∷ 1 ∷ 1 ∷ 1 ∷ 0 ∷ 0 ∷ []) .answer ≡ refused 2 1
-  pub strip-high : folding jobA (1 ∷ 4001 ∷ 1 ∷ 1 ∷ 1 ∷ 0 ∷ 0 ∷ []) .answer ≡ refused 2 1
-  pub stack-high : folding jobA (1 ∷ 1 ∷ 4001 ∷ 1 ∷ 1 ∷ 0 ∷ 0 ∷ []) .answer ≡ refused 2 1
-  pub place-high : folding jobA (1 ∷ 1 ∷ 1 ∷ 4001 ∷ 1 ∷ 0 ∷ 0 ∷ []) .answer ≡ refused 2 1
+  pub board-high : folding jobA (4001 ∷ 1 ∷ 1 ∷ 1 ∷ 1 ∷ 0 ∷ 0 ∷ 0 ∷ []) .answer ≡ refused 2 1
+  pub strip-high : folding jobA (1 ∷ 4001 ∷ 1 ∷ 1 ∷ 1 ∷ 0 ∷ 0 ∷ 0 ∷ []) .answer ≡ refused 2 1
+  pub stack-high : folding jobA (1 ∷ 1 ∷ 4001 ∷ 1 ∷ 1 ∷ 0 ∷ 0 ∷ 0 ∷ []) .answer ≡ refused 2 1
+  pub place-high : folding jobA (1 ∷ 1 ∷ 1 ∷ 4001 ∷ 1 ∷ 0 ∷ 0 ∷ 0 ∷ []) .answer ≡ refused 2 1
   -- a type 0, or n + 1
-  pub type-zero : folding jobA (1 ∷ 1 ∷ 1 ∷ 1 ∷ 0 ∷ 0 ∷ 0 ∷ []) .answer ≡ refused 2 1
-  pub type-high : folding jobA (1 ∷ 1 ∷ 1 ∷ 1 ∷ 3 ∷ 0 ∷ 0 ∷ []) .answer ≡ refused 2 1
+  pub type-zero : folding jobA (1 ∷ 1 ∷ 1 ∷ 1 ∷ 0 ∷ 0 ∷ 0 ∷ 0 ∷ []) .answer ≡ refused 2 1
+  pub type-high : folding jobA (1 ∷ 1 ∷ 1 ∷ 1 ∷ 3 ∷ 0 ∷ 0 ∷ 0 ∷ []) .answer ≡ refused 2 1
   -- an x or y of 10,001
-  pub x-high : folding jobA (1 ∷ 1 ∷ 1 ∷ 1 ∷ 1 ∷ 10001 ∷ 0 ∷ []) .answer ≡ refused 2 1
-  pub y-high : folding jobA (1 ∷ 1 ∷ 1 ∷ 1 ∷ 1 ∷ 0 ∷ 10001 ∷ []) .answer ≡ refused 2 1
+  pub x-high : folding jobA (1 ∷ 1 ∷ 1 ∷ 1 ∷ 1 ∷ 10001 ∷ 0 ∷ 0 ∷ []) .answer ≡ refused 2 1
+  pub y-high : folding jobA (1 ∷ 1 ∷ 1 ∷ 1 ∷ 1 ∷ 0 ∷ 10001 ∷ 0 ∷ []) .answer ≡ refused 2 1
   -- 10 from 4,000 lines on, or from 4,002; the place 0; 10 after 15, which the second line would be
-  pub lines-most : folding jobA (replicate 28000 1) .answer ≡ refused 15 2
-  pub lines-many : folding jobA (replicate 28007 1) .answer ≡ refused 10 0
+  pub lines-most : folding jobT (replicate 32000 1) .answer ≡ refused 15 2
+  pub lines-many : folding jobT (replicate 32008 1) .answer ≡ refused 10 0

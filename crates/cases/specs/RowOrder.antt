@@ -1,15 +1,15 @@
 -- Document 01, "Where each number is given": "rows apply from the top, within a row lower numbers first, each over all its places, lowest place first",
 -- for every input of each call and each text. The rows stand in the table's order, with its numbers, sizes and limits as figures.
-use Prim.Native.Nat.{ℕ, suc, _+_, _-_, _*_}
+use Prim.Native.Nat.{ℕ, suc, _+_, _-_, _*_, _/_, _%_}
 use mathlib.Core.Path.{_≡_}
-use mathlib.Core.Bool.{false, not}
+use mathlib.Core.Bool.{true, false, not}
 use mathlib.Core.List.{List, [], _∷_, _++_}
 use mathlib.Core.Option.{some}
 use lib.Dec.{ltb, eqb}
 use lib.ListN.{length, getD, drop, replicate}
 use Rattle.job.specs.Verdict.{Verdict, pass, refuse, refuseIf, lowest}
 use Rattle.job.specs.Buffers.{ends, sized}
-use Rattle.job.specs.Job.{Job, jobOf, boardRight, itemRight, jobWords, larger, demanded, admission}
+use Rattle.job.specs.Job.{Job, permitted, jobOf, boardRight, itemRight, jobWords, larger, demanded, admission}
 use Rattle.listing.specs.Listing.{Listing, going, stopped, walk, modelRow, listingOf}
 use Rattle.listing.specs.ListCall.{listVerdict}
 use Rattle.plan.specs.Plan.{total, short, overdrawn, countsRow, planRow}
@@ -17,10 +17,11 @@ use Rattle.plan.specs.Prices.{pricesOf, priceWords, overLimit, modelSized, pric
 use Rattle.plan.specs.PlanCall.{planVerdict}
 use Rattle.plan.specs.PriceCall.{priceVerdict}
 use Rattle.layouts.specs.Placement.{Placement, linesOf}
-use Rattle.layouts.specs.Lines.{rowsOf, layoutWords, turns, grouped}
+use Rattle.layouts.specs.Lines.{linesIn, rowsOf, rowRight, layoutWords, turns, grouped}
 use Rattle.layouts.specs.LayoutsRow.{laidSet, lowestStrip, breaksStage, pastBoard, positioned, lacks, layoutsRow}
 use Rattle.layouts.specs.UnfoldCall.{unfoldVerdict}
 use Rattle.layouts.specs.FoldCall.{foldVerdict}
+use Rattle.texts.specs.Shape.{Shape, formed, eachWithin, values, numbersRow}
 use Rattle.texts.specs.Reader.{started, fed, textRow, written}
 use Rattle.texts.specs.SawText.{Saw, PriceLines, sawGrammar, cutsNamed, cutsRising, planCounts, priceLinesRow, sawRows, sawLines, sawText}
 use Rattle.texts.specs.FoldText.{Fold, foldGrammar, foldRows, foldLines, foldText}
@@ -42,9 +43,27 @@ pub record WithinRows : Type 0 where
       (ws : List ℕ)
       → jobWords ws
       ≡ fromTheTop
-      (refuseIf (not (eqb (length ws) (5 + 3 * getD ws 4 0))) 1 0
+      (refuseIf (not (eqb (length ws) (5 + 4 * getD ws 4 0))) 1 0
       ∷ refuseIf (not (boardRight ws)) 2 0
       ∷ lowest 2 (λ _ it. not (itemRight it)) 1 (jobOf ws .items)
+      ∷ [])
+  -- layout words: 1, then 2 over all lines, then request One's 19 over all lines
+  pub layout-words :
+      (job : Job) (ws : List ℕ)
+      → layoutWords job ws
+      ≡ fromTheTop
+      (refuseIf (not (eqb (length ws % 8) 0)) 1 (suc (length ws / 8))
+      ∷ lowest 2 (λ _ r. not (rowRight job r)) 1 (linesIn ws)
+      ∷ lowest 19 (λ _ r. not (permitted job (r .item))) 1 (rowsOf ws)
+      ∷ [])
+  -- a line of a text that is of the form, and "1" has not been given: 2, then request One's 19, on this line alone
+  pub text-line :
+      (line : ℕ) (s : Shape) (ss : List Shape) (ns : List ℕ)
+      → formed s ns ≡ true
+      → numbersRow line (s ∷ ss) ns
+      ≡ fromTheTop
+      (refuseIf (not (eachWithin (s .limits) (values s ns))) 2 line
+      ∷ refuseIf (not (s .permits (values s ns))) 19 line
       ∷ [])
   -- the job: 3, 4
   pub job :
@@ -138,7 +157,7 @@ pub record RowsOfCalls : Type 0 where
       ∷ sized 1 6144 plates
       ∷ sized 2 32768 cuts
       ∷ sized 3 8192 counts
-      ∷ sized 4 28000 placements
+      ∷ sized 4 32000 placements
       ∷ modelRow (jobOf ws)
       ∷ countsRow (listingOf (jobOf ws)) counts
       ∷ planRow (jobOf ws) (listingOf (jobOf ws)) counts

@@ -1,4 +1,4 @@
--- Document 01, "Cases": (a) to (m) as one table, at the level of the calls, with every word of every lent buffer.
+-- Document 01, "Cases": (a) to (m) as one table, at the level of the calls, with every word of every lent buffer. No type has leave to be turned.
 use mathlib.Core.Path.{_≡_}
 use mathlib.Core.List.{[], _∷_}
 use Rattle.job.specs.Buffers.{filled, placementsSize}
@@ -30,5 +30,5 @@ pub record Table : Type 0 where
   -- counts 1 0 1 0 0 1: one board, positions (0,0), (3,0), (3,2)
   pub l : unfolding′ jobB planB ≡ succeeds (1 ∷ 3 ∷ []) platesB cutsB (filled placementsSize linesB)
   -- an item of 9 by 7 on job A's board is admitted; one of 10 by 7 is 3
-  pub m : listing (alone 9 7) ≡ succeeds (0 ∷ 1 ∷ []) (9 ∷ 7 ∷ 1 ∷ []) (0 ∷ 1 ∷ 0 ∷ 0 ∷ []) []
+  pub m : listing (alone 9 7) ≡ succeeds (0 ∷ 1 ∷ []) (9 ∷ 7 ∷ 1 ∷ []) (0 ∷ 2 ∷ 0 ∷ 0 ∷ []) []
   pub m-larger : listing (alone 10 7) ≡ refuses 3 1 []

@@ -39,16 +39,16 @@ afterFive ns =
 abbrev pub lineBegins : {S : Type 0} → S → ℕ → Reader S
 lineBegins s lines = record { state = s; lines = lines; pending = []; verdict = pass }
 
--- "1 stages (2 or 3), exact (1 or 0), W, H, n. 2 type, width, height, demand"
+-- "1 stages (2 or 3), exact (1 or 0), W, H, n. 2 type, width, height, demand", and the leave (request One)
 pub record JobLines : Type 0 where
   -- a limit one lower: line 1 and line 2 at all their highest values; the line of type 2 is missing
   pub greatest :
-      sawText (lineOf (1 ∷ 3 ∷ 1 ∷ 10000 ∷ 10000 ∷ 40 ∷ []) ++ lineOf (2 ∷ 1 ∷ 10000 ∷ 10000 ∷ 4000 ∷ [])) ≡ nine 1 3
+      sawText (lineOf (1 ∷ 3 ∷ 1 ∷ 10000 ∷ 10000 ∷ 40 ∷ []) ++ lineOf (2 ∷ 1 ∷ 10000 ∷ 10000 ∷ 4000 ∷ 1 ∷ [])) ≡ nine 1 3
   pub greatest-fold :
-      foldText (lineOf (1 ∷ 3 ∷ 1 ∷ 10000 ∷ 10000 ∷ 40 ∷ []) ++ lineOf (2 ∷ 1 ∷ 10000 ∷ 10000 ∷ 4000 ∷ [])) ≡ nine 1 3
+      foldText (lineOf (1 ∷ 3 ∷ 1 ∷ 10000 ∷ 10000 ∷ 40 ∷ []) ++ lineOf (2 ∷ 1 ∷ 10000 ∷ 10000 ∷ 4000 ∷ 1 ∷ [])) ≡ nine 1 3
   -- a limit one higher: line 1 and line 2 at all their lowest values; nothing is cut
-  pub least : sawText (lineOf (1 ∷ 2 ∷ 0 ∷ 1 ∷ 1 ∷ 1 ∷ []) ++ lineOf (2 ∷ 1 ∷ 1 ∷ 1 ∷ 1 ∷ [])) ≡ nine 11 1
-  pub least-fold : foldText (lineOf (1 ∷ 2 ∷ 0 ∷ 1 ∷ 1 ∷ 1 ∷ []) ++ lineOf (2 ∷ 1 ∷ 1 ∷ 1 ∷ 1 ∷ [])) ≡ nine 11 1
+  pub least : sawText (lineOf (1 ∷ 2 ∷ 0 ∷ 1 ∷ 1 ∷ 1 ∷ []) ++ lineOf (2 ∷ 1 ∷ 1 ∷ 1 ∷ 1 ∷ 0 ∷ [])) ≡ nine 11 1
+  pub least-fold : foldText (lineOf (1 ∷ 2 ∷ 0 ∷ 1 ∷ 1 ∷ 1 ∷ []) ++ lineOf (2 ∷ 1 ∷ 1 ∷ 1 ∷ 1 ∷ 0 ∷ [])) ≡ nine 11 1
   -- stages 1 or 4; an exact of 2
   pub stages-low : sawText (lineOf (1 ∷ 1 ∷ 0 ∷ 9 ∷ 7 ∷ 1 ∷ [])) ≡ nine 2 1
   pub stages-high : foldText (lineOf (1 ∷ 4 ∷ 0 ∷ 9 ∷ 7 ∷ 1 ∷ [])) ≡ nine 2 1
@@ -62,20 +62,24 @@ pub record JobLines : Type 0 where
   pub types-zero : sawText (lineOf (1 ∷ 2 ∷ 0 ∷ 9 ∷ 7 ∷ 0 ∷ [])) ≡ nine 2 1
   pub types-high : sawText (lineOf (1 ∷ 2 ∷ 0 ∷ 9 ∷ 7 ∷ 41 ∷ [])) ≡ nine 2 1
   -- an item's width or height of 0 or 10,001
-  pub item-width-zero : sawText (afterOne (2 ∷ 1 ∷ 0 ∷ 3 ∷ 1 ∷ [])) ≡ nine 2 2
-  pub item-width-high : sawText (afterOne (2 ∷ 1 ∷ 10001 ∷ 3 ∷ 1 ∷ [])) ≡ nine 2 2
-  pub item-height-zero : sawText (afterOne (2 ∷ 1 ∷ 3 ∷ 0 ∷ 1 ∷ [])) ≡ nine 2 2
-  pub item-height-high : sawText (afterOne (2 ∷ 1 ∷ 3 ∷ 10001 ∷ 1 ∷ [])) ≡ nine 2 2
+  pub item-width-zero : sawText (afterOne (2 ∷ 1 ∷ 0 ∷ 3 ∷ 1 ∷ 0 ∷ [])) ≡ nine 2 2
+  pub item-width-high : sawText (afterOne (2 ∷ 1 ∷ 10001 ∷ 3 ∷ 1 ∷ 0 ∷ [])) ≡ nine 2 2
+  pub item-height-zero : sawText (afterOne (2 ∷ 1 ∷ 3 ∷ 0 ∷ 1 ∷ 0 ∷ [])) ≡ nine 2 2
+  pub item-height-high : sawText (afterOne (2 ∷ 1 ∷ 3 ∷ 10001 ∷ 1 ∷ 0 ∷ [])) ≡ nine 2 2
   -- a demand of 0 or 4,001
-  pub demand-zero : sawText (afterOne (2 ∷ 1 ∷ 3 ∷ 3 ∷ 0 ∷ [])) ≡ nine 2 2
-  pub demand-high : sawText (afterOne (2 ∷ 1 ∷ 3 ∷ 3 ∷ 4001 ∷ [])) ≡ nine 2 2
+  pub demand-zero : sawText (afterOne (2 ∷ 1 ∷ 3 ∷ 3 ∷ 0 ∷ 0 ∷ [])) ≡ nine 2 2
+  pub demand-high : sawText (afterOne (2 ∷ 1 ∷ 3 ∷ 3 ∷ 4001 ∷ 0 ∷ [])) ≡ nine 2 2
+  -- a leave of 2
+  pub leave-high : sawText (afterOne (2 ∷ 1 ∷ 3 ∷ 3 ∷ 1 ∷ 2 ∷ [])) ≡ nine 2 2
 
--- "3 plate, item, count (1 to 4,000)", "plate 0 to 2,047; type 1 to n"; "4 D, n, m", "on line 4 n 1 to 40 and m 0 to 2,047"; the price of lines 5 and 6
+-- "3 plate, item, count (1 to 4,000)", and the turn, "plate 0 to 2,047; type 1 to n"; "4 D, n, m", "on line 4 n 1 to 40 and m 0 to 2,047"; the price of lines 5 and 6
 pub record SawLines : Type 0 where
   -- a greatest plate of 2,046, a greatest item of n - 1, a greatest count of 3,999: there is no such cut
-  pub plan-greatest : sawText (afterJob (3 ∷ 2047 ∷ 2 ∷ 4000 ∷ [])) ≡ nine 8 4
+  pub plan-greatest : sawText (afterJob (3 ∷ 2047 ∷ 2 ∷ 4000 ∷ 0 ∷ [])) ≡ nine 8 4
   -- an item 0
-  pub plan-item-zero : sawText (afterJob (3 ∷ 0 ∷ 0 ∷ 1 ∷ [])) ≡ nine 2 4
+  pub plan-item-zero : sawText (afterJob (3 ∷ 0 ∷ 0 ∷ 1 ∷ 0 ∷ [])) ≡ nine 2 4
+  -- a turn of 2
+  pub plan-turn-high : sawText (afterJob (3 ∷ 0 ∷ 1 ∷ 1 ∷ 2 ∷ [])) ≡ nine 2 4
   -- a greatest D of 9,998, n of 39 or m of 2,046: the line of type 1 is missing
   pub prices-greatest : sawText (afterJob (4 ∷ 9999 ∷ 40 ∷ 2047 ∷ [])) ≡ nine 1 5
   -- a least D of 2, n of 2 or m of 1
@@ -94,22 +98,24 @@ pub record SawLines : Type 0 where
   pub plate-price-not-next : sawText (afterFive (6 ∷ 2 ∷ 0 ∷ [])) ≡ nine 1 7
   pub plate-price-zero : sawText (afterFive (6 ∷ 0 ∷ 0 ∷ [])) ≡ nine 1 7
 
--- "7 board, strip, stack, place, type, x, y", "board, strip, stack, place 1 to 4,000; x, y 0 to 10,000"
+-- "7 board, strip, stack, place, type, x, y", and the turn, "board, strip, stack, place 1 to 4,000; x, y 0 to 10,000"
 pub record FoldLines : Type 0 where
   -- limits one lower: a line at all its highest values has no fault but its turn
-  pub greatest : foldText (afterJob (7 ∷ 4000 ∷ 4000 ∷ 4000 ∷ 4000 ∷ 2 ∷ 10000 ∷ 10000 ∷ [])) ≡ nine 15 4
+  pub greatest : foldText (afterJob (7 ∷ 4000 ∷ 4000 ∷ 4000 ∷ 4000 ∷ 2 ∷ 10000 ∷ 10000 ∷ 0 ∷ [])) ≡ nine 15 4
   -- a strip, stack, place or type 0
-  pub strip-zero : foldText (afterJob (7 ∷ 1 ∷ 0 ∷ 1 ∷ 1 ∷ 1 ∷ 0 ∷ 0 ∷ [])) ≡ nine 2 4
-  pub stack-zero : foldText (afterJob (7 ∷ 1 ∷ 1 ∷ 0 ∷ 1 ∷ 1 ∷ 0 ∷ 0 ∷ [])) ≡ nine 2 4
-  pub place-zero : foldText (afterJob (7 ∷ 1 ∷ 1 ∷ 1 ∷ 0 ∷ 1 ∷ 0 ∷ 0 ∷ [])) ≡ nine 2 4
-  pub type-zero : foldText (afterJob (7 ∷ 1 ∷ 1 ∷ 1 ∷ 1 ∷ 0 ∷ 0 ∷ 0 ∷ [])) ≡ nine 2 4
+  pub strip-zero : foldText (afterJob (7 ∷ 1 ∷ 0 ∷ 1 ∷ 1 ∷ 1 ∷ 0 ∷ 0 ∷ 0 ∷ [])) ≡ nine 2 4
+  pub stack-zero : foldText (afterJob (7 ∷ 1 ∷ 1 ∷ 0 ∷ 1 ∷ 1 ∷ 0 ∷ 0 ∷ 0 ∷ [])) ≡ nine 2 4
+  pub place-zero : foldText (afterJob (7 ∷ 1 ∷ 1 ∷ 1 ∷ 0 ∷ 1 ∷ 0 ∷ 0 ∷ 0 ∷ [])) ≡ nine 2 4
+  pub type-zero : foldText (afterJob (7 ∷ 1 ∷ 1 ∷ 1 ∷ 1 ∷ 0 ∷ 0 ∷ 0 ∷ 0 ∷ [])) ≡ nine 2 4
   -- a board, strip, stack or place 4,001
-  pub board-high : foldText (afterJob (7 ∷ 4001 ∷ 1 ∷ 1 ∷ 1 ∷ 1 ∷ 0 ∷ 0 ∷ [])) ≡ nine 2 4
-  pub strip-high : foldText (afterJob (7 ∷ 1 ∷ 4001 ∷ 1 ∷ 1 ∷ 1 ∷ 0 ∷ 0 ∷ [])) ≡ nine 2 4
-  pub stack-high : foldText (afterJob (7 ∷ 1 ∷ 1 ∷ 4001 ∷ 1 ∷ 1 ∷ 0 ∷ 0 ∷ [])) ≡ nine 2 4
-  pub place-high : foldText (afterJob (7 ∷ 1 ∷ 1 ∷ 1 ∷ 4001 ∷ 1 ∷ 0 ∷ 0 ∷ [])) ≡ nine 2 4
+  pub board-high : foldText (afterJob (7 ∷ 4001 ∷ 1 ∷ 1 ∷ 1 ∷ 1 ∷ 0 ∷ 0 ∷ 0 ∷ [])) ≡ nine 2 4
+  pub strip-high : foldText (afterJob (7 ∷ 1 ∷ 4001 ∷ 1 ∷ 1 ∷ 1 ∷ 0 ∷ 0 ∷ 0 ∷ [])) ≡ nine 2 4
+  pub stack-high : foldText (afterJob (7 ∷ 1 ∷ 1 ∷ 4001 ∷ 1 ∷ 1 ∷ 0 ∷ 0 ∷ 0 ∷ [])) ≡ nine 2 4
+  pub place-high : foldText (afterJob (7 ∷ 1 ∷ 1 ∷ 1 ∷ 4001 ∷ 1 ∷ 0 ∷ 0 ∷ 0 ∷ [])) ≡ nine 2 4
   -- a y of 10,001
-  pub y-high : foldText (afterJob (7 ∷ 1 ∷ 1 ∷ 1 ∷ 1 ∷ 1 ∷ 0 ∷ 10001 ∷ [])) ≡ nine 2 4
+  pub y-high : foldText (afterJob (7 ∷ 1 ∷ 1 ∷ 1 ∷ 1 ∷ 1 ∷ 0 ∷ 10001 ∷ 0 ∷ [])) ≡ nine 2 4
+  -- a turn of 2
+  pub turn-high : foldText (afterJob (7 ∷ 1 ∷ 1 ∷ 1 ∷ 1 ∷ 1 ∷ 0 ∷ 0 ∷ 2 ∷ [])) ≡ nine 2 4
 
 -- "a text's 100,000th line is 1, whatever it holds": of any text that stands there, and any byte
 pub record LastLines : Type 0 where
@@ -125,18 +131,18 @@ pub record LastLines : Type 0 where
 pub record Rooms : Type 0 where
   -- another number of columns, or of numbers on a line
   pub job-line : jobLineBytes ≡ 55
-  pub type-line : typeLineBytes ≡ 46
-  pub plan-line : planLineBytes ≡ 37
+  pub type-line : typeLineBytes ≡ 55
+  pub plan-line : planLineBytes ≡ 46
   pub prices-line : pricesLineBytes ≡ 37
   pub price-line : priceLineBytes ≡ 28
-  pub placement-line : placementLineBytes ≡ 73
+  pub placement-line : placementLineBytes ≡ 82
   pub result-line : summaryLineBytes ≡ 46
   pub refusal-line : refusalLineBytes ≡ 28
   -- a line that is read past the longest kind, 7
-  pub longest-line : longestLine ≡ 73
+  pub longest-line : longestLine ≡ 82
   -- texts of 99,998 or 100,000 lines
-  pub saw-text : longestSawText ≡ 3700341
-  pub fold-text : longestFoldText ≡ 7299882
-  -- a job of 40 types has 125 words; D, 40 prices and 2,047 are 2,088
-  pub job-words : longestJob ≡ 125
+  pub saw-text : longestSawText ≡ 4600323
+  pub fold-text : longestFoldText ≡ 8199864
+  -- a job of 40 types has 165 words; D, 40 prices and 2,047 are 2,088
+  pub job-words : longestJob ≡ 165
   pub price-words : pricesSize ≡ 2088

@@ -7,16 +7,16 @@ use Rattle.cases.specs.Bytes.{bytes}
 unfoldable pub jobLinesA : List ℕ
 jobLinesA =
     bytes "        1        2        0        9        7        2\n"
-    ++ bytes "        2        1        5        4        2\n"
-    ++ bytes "        2        2        3        3        3\n"
+    ++ bytes "        2        1        5        4        2        0\n"
+    ++ bytes "        2        2        3        3        3        0\n"
 
 -- its plan, as lines of kind 3
 unfoldable pub planLinesA : List ℕ
 planLinesA =
-    bytes "        3        0        1        2\n"
-    ++ bytes "        3        1        2        1\n"
-    ++ bytes "        3        2        2        1\n"
-    ++ bytes "        3        4        2        1\n"
+    bytes "        3        0        1        2        0\n"
+    ++ bytes "        3        1        2        1        0\n"
+    ++ bytes "        3        2        2        1        0\n"
+    ++ bytes "        3        4        2        1        0\n"
 
 -- its prices, as lines of kinds 4, 5 and 6
 unfoldable pub priceLinesA : List ℕ
@@ -33,11 +33,11 @@ priceLinesA =
 -- the lines of kind 7 that document 01 prints
 unfoldable pub printedA : List ℕ
 printedA =
-    bytes "        7        1        1        1        1        1        0        0\n"
-    ++ bytes "        7        1        1        2        1        2        5        0\n"
-    ++ bytes "        7        1        2        1        1        2        0        4\n"
-    ++ bytes "        7        1        2        2        1        2        3        4\n"
-    ++ bytes "        7        2        1        1        1        1        0        0\n"
+    bytes "        7        1        1        1        1        1        0        0        0\n"
+    ++ bytes "        7        1        1        2        1        2        5        0        0\n"
+    ++ bytes "        7        1        2        1        1        2        0        4        0\n"
+    ++ bytes "        7        1        2        2        1        2        3        4        0\n"
+    ++ bytes "        7        2        1        1        1        1        0        0        0\n"
 
 -- the line of kind 8 that document 01 prints
 unfoldable pub resultA : List ℕ

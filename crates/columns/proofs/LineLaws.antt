@@ -135,9 +135,9 @@ module _ (s : List ℕ) (at i : ℕ) (was numbers : List ℕ) (r : Reading s at 
       go true p = r .fewer k (ltb-true k i p)
       go false p = let q : k ≡ i = omega (arith, ltb-false k i p) in rw q (reading-on e)
 
-  -- eight numbers have been read, and the line goes on
-  pub reading-eight : i ≡ mostNumbers → (getD s (at + groupBytes * i) 0 ≡ 10 → ⊥) → (k : ℕ) → k ≤ mostNumbers → numbersOf k (drop at s) ≡ none
-  reading-eight n e k h = up-to e k (omega arith)
+  -- as many numbers as a line may have have been read, and the line goes on
+  pub reading-most : i ≡ mostNumbers → (getD s (at + groupBytes * i) 0 ≡ 10 → ⊥) → (k : ℕ) → k ≤ mostNumbers → numbersOf k (drop at s) ≡ none
+  reading-most n e k h = up-to e k (omega arith)
 
   -- what comes is neither the end nor a number
   pub reading-not :

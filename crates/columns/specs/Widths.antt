@@ -10,7 +10,7 @@ groupBytes = leadBytes + 1
 
 -- the most numbers of a line, those of kind 7
 abbrev pub mostNumbers : ℕ
-mostNumbers = 8
+mostNumbers = 9
 
 -- the bytes of a line of k numbers, byte 10 included
 abbrev pub lineBytes : ℕ → ℕ

@@ -7,4 +7,4 @@ pub const GROUP: usize = 9;
 pub const LEAD: usize = GROUP - 1;
 
 // The most numbers of a line.
-pub const MOST_NUMBERS: usize = 8;
+pub const MOST_NUMBERS: usize = 9;

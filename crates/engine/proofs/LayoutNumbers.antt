@@ -6,10 +6,10 @@ use native.Mathlib.Omega.{arith}
 use lib.Dec.{ltb, eqb}
 use lib.ListN.{length}
 use Rattle.job.specs.Sizes.{maxPieces, wordsOfPlacement}
-use Rattle.job.specs.Verdict.{Verdict, refuse, refuseIf}
-use Rattle.job.specs.Job.{Job}
+use Rattle.job.specs.Verdict.{Verdict, refuse, refuseIf, lowest}
+use Rattle.job.specs.Job.{Job, permitted}
 use Rattle.layouts.specs.Placement.{Turn, turn, Placement, linesOf}
-use Rattle.layouts.specs.Lines.{rowsOf, layoutWords, rowRight, sameTurn, follows, inTurn, turns, grouped}
+use Rattle.layouts.specs.Lines.{linesIn, rowsOf, layoutWords, rowRight, sameTurn, follows, inTurn, turns, grouped}
 use Rattle.layouts.specs.LayoutsRow.{Laid, laidSet, lowestStrip, breaksStage, pastBoard, positioned, lacks, layoutsRow}
 use Rattle.engine.proofs.Numbers.{Above, above-pass, above-refuse, above-if, above-then, above-lowest}
 
@@ -49,7 +49,8 @@ unfolding layoutWords
 layout-words-above job ws =
     above-then (refuseIf (not (eqb (length ws % wordsOfPlacement) 0)) 1 (suc (length ws / wordsOfPlacement))) _
     (above-if (not (eqb (length ws % wordsOfPlacement) 0)) 1 (suc (length ws / wordsOfPlacement)) (omega arith))
-    (above-lowest 2 (λ _ r. not (rowRight job r)) 1 (rowsOf ws) (omega arith))
+    (above-then (lowest 2 (λ _ r. not (rowRight job r)) 1 (linesIn ws)) _ (above-lowest 2 (λ _ r. not (rowRight job r)) 1 (linesIn ws) (omega arith))
+    (above-lowest 19 (λ _ r. not (permitted job (r .item))) 1 (rowsOf ws) (omega arith)))
 
 pub layouts-above : (k : ℕ) (job : Job) (rs : List Placement) → Above (layoutsRow k job rs)
 unfolding layoutsRow

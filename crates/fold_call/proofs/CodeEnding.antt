@@ -198,6 +198,7 @@ module _ (ws layouts plates cuts counts : List ℕ) where
                   accepted = filled-accepted (J ws) (L ws) plan (length counts) plan-length h (f .accepted);
                   as-many = filled-boards (J ws) (L ws) plan (length counts) plan-length h ∙ f .as-many;
                   as-often = λ i. filled-count (J ws) (L ws) plan (length counts) plan-length h _ ∙ f .as-often i;
+                  turns-as-often = λ q. filled-count (J ws) (L ws) plan (length counts) plan-length h _ ∙ f .turns-as-often q;
                 };
           }
 

@@ -4,13 +4,15 @@ use native.Mathlib.Omega.{arith}
 use mathlib.Core.Path.{_≡_}
 use mathlib.Core.Bool.{true, _&&_}
 use mathlib.Core.List.{List}
-use lib.ListN.{length}
+use lib.ListN.{length, getD}
 use lib.Dec.{leb}
-use Rattle.job.specs.Sizes.{maxPieces, wordsOfPlacement}
+use Rattle.job.specs.Sizes.{maxSide, maxPieces, wordsOfPlacement, jobSize}
 use Rattle.job.specs.Lists.{all, nonEmpty}
-use Rattle.job.specs.Verdict.{pass, _then_, within}
-use Rattle.job.specs.Job.{Job, jobOf, jobWords, admission}
+use Rattle.job.specs.Verdict.{pass, _then_}
+use Rattle.job.specs.Job.{Job, typeOf, unturned, turned, positionAt, permitted, jobOf, jobWords, admission}
 use Rattle.job.proofs.CodeAdmission.{passed-length}
+use Rattle.job.proofs.CodeItems.{items-length}
+use Rattle.job.proofs.Positions.{position-by}
 use Rattle.job.proofs.Tests.{and-left, and-right}
 use Rattle.job.proofs.Verdicts.{then-first, then-second, then-both}
 use Rattle.job.proofs.Admission.{words-right, admitted-words, admitted-job, admitted-sided}
@@ -55,7 +57,7 @@ module _ (ws : List ℕ) (words : jobWords ws ≡ pass) (admitted : admission (j
 board-staged : (job : Job) (b : Board) → boardRules job b ≡ true → all (stageRule job) b ≡ true
 unfolding boardRules
 board-staged job b e =
-    let before = nonEmpty b && all nonEmpty b && all (all nonEmpty) b && all (all (all (within 1 (length (job .items))))) b in
+    let before = nonEmpty b && all nonEmpty b && all (all nonEmpty) b && all (all (all (permitted job))) b in
     let stages = all (stageRule job) b in
     let across = all (λ s. leb (stripWidth job s) (job .width)) b in
     and-right before stages (and-left (before && stages) across (and-left (before && stages && across) (leb (boardHeight job b) (job .height)) e))
@@ -69,14 +71,16 @@ module _ (ws layouts : List ℕ) (words : jobWords ws ≡ pass) (lines : layoutW
   pub few-lines : length layouts / wordsOfPlacement ≤ maxPieces
   few-lines = omega (arith, words-set (jobOf ws) 1 layouts lines row .few, whole-rows layouts (length layouts / wordsOfPlacement) (passed-whole (jobOf ws) layouts lines))
 
+  -- the sides of an item type's positions
+  sides-within : (q : ℕ) → 1 ≤ typeOf q → jobSize (typeOf q) ≤ length ws → (positionAt (jobOf ws) q .width ≤ maxSide) × (positionAt (jobOf ws) q .height ≤ maxSide)
+  unfolding unturned turned
+  sides-within q h g =
+      let l = passed-length ws words in
+      let t = words-right ws words .each-item (typeOf q) h (omega (arith, l)) in
+      position-by (jobOf ws) (λ _ p. (p .width ≤ maxSide) × (p .height ≤ maxSide)) q h (omega (arith, l, items-length ws (getD ws 4 0) l)) (t .width-limits .1, t .height-limits .1) (t .height-limits .1, t .width-limits .1)
+
   pub lent-lines : LinesLent ws layouts (length layouts / wordsOfPlacement)
-  lent-lines =
-      record {
-        lines-lent = passed-lent ws layouts words lines few-lines;
-        sides = λ i h g.
-            let t = words-right ws words .each-item i h (omega (arith, passed-length ws words)) in
-            (t .width-limits .1, t .height-limits .1);
-      }
+  lent-lines = record { lines-lent = passed-lent ws layouts words lines few-lines; sides = sides-within }
 
   pub staged : EachStaged (jobOf ws) (setOf layouts)
   unfolding setOf

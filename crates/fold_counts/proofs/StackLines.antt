@@ -11,7 +11,7 @@ use Rattle.layouts.specs.Placement.{Placement, itemsOfStrip}
 use Rattle.layouts.specs.Lines.{Level, stack, strip, board, begun, inStrip, inBoard, inSet, beside, before, grouped, rowsOf}
 use Rattle.layouts.specs.Rules.{Filled}
 use Rattle.layouts.proofs.row.Grouping.{grouped-on, grouped-new}
-use Rattle.placement.specs.PlacementRead.{typesPlaced}
+use Rattle.placement.specs.PlacementRead.{itemsPlaced}
 use Rattle.layouts_strips.specs.declared.stack.StackMeasure.{StackMeasure}
 use Rattle.layouts_strips.specs.First.{firstStrip, stackOf, stripOf}
 use Rattle.layouts_strips.specs.Measures.{StackIs, StackSmall}
@@ -22,11 +22,11 @@ no-stack : stackOf [] ≡ []
 unfolding grouped
 no-stack = refl
 
-stack-in : (rs : List Placement) → stackOf rs ≡ typesPlaced (take (length (stackOf rs)) rs)
+stack-in : (rs : List Placement) → stackOf rs ≡ itemsPlaced (take (length (stackOf rs)) rs)
 stack-in [] = rw no-stack refl
 stack-in (r ∷ rs) = go (begun rs) refl (stack-in rs)
   where
-    go : (o : Option Level) → begun rs ≡ o → stackOf rs ≡ typesPlaced (take (length (stackOf rs)) rs) → stackOf (r ∷ rs) ≡ typesPlaced (take (length (stackOf (r ∷ rs))) (r ∷ rs))
+    go : (o : Option Level) → begun rs ≡ o → stackOf rs ≡ itemsPlaced (take (length (stackOf rs)) rs) → stackOf (r ∷ rs) ≡ itemsPlaced (take (length (stackOf (r ∷ rs))) (r ∷ rs))
     go none e rec = rw (stack-items r rs, e) (ap (λ (xs : List ℕ). r .item ∷ xs) rec)
     go (some v) e rec = rw (stack-items r rs, e) refl
 
@@ -64,11 +64,11 @@ no-strip : itemsOfStrip (stripOf []) ≡ []
 unfolding grouped itemsOfStrip flatMap
 no-strip = refl
 
-strip-in : (rs : List Placement) → itemsOfStrip (stripOf rs) ≡ typesPlaced (take (length (itemsOfStrip (stripOf rs))) rs)
+strip-in : (rs : List Placement) → itemsOfStrip (stripOf rs) ≡ itemsPlaced (take (length (itemsOfStrip (stripOf rs))) rs)
 strip-in [] = rw no-strip refl
 strip-in (r ∷ rs) = go (begun rs) refl (strip-in rs)
   where
-    go : (o : Option Level) → begun rs ≡ o → itemsOfStrip (stripOf rs) ≡ typesPlaced (take (length (itemsOfStrip (stripOf rs))) rs) → itemsOfStrip (stripOf (r ∷ rs)) ≡ typesPlaced (take (length (itemsOfStrip (stripOf (r ∷ rs)))) (r ∷ rs))
+    go : (o : Option Level) → begun rs ≡ o → itemsOfStrip (stripOf rs) ≡ itemsPlaced (take (length (itemsOfStrip (stripOf rs))) rs) → itemsOfStrip (stripOf (r ∷ rs)) ≡ itemsPlaced (take (length (itemsOfStrip (stripOf (r ∷ rs)))) (r ∷ rs))
     go none e rec = rw (strip-items r rs, e) (ap (λ (xs : List ℕ). r .item ∷ xs) rec)
     go (some stack) e rec = rw (strip-items r rs, e) (ap (λ (xs : List ℕ). r .item ∷ xs) rec)
     go (some strip) e rec = rw (strip-items r rs, e) refl

@@ -8,7 +8,7 @@ ghost use Rattle.fold_counts.specs.Lent.{CutsLent, Counting};
 ghost use Rattle.fold_counts.specs.Chain.{Chained};
 use crate::count::count_cut;
 use job::counters::CutNumber;
-use job::counters::ItemType;
+use job::counters::ItemPosition;
 use job::counters::PlateType;
 
 // The plate type that the next item is cut from; whether an item has been cut, and what else the first of them left.
@@ -24,7 +24,7 @@ impl Chain {
         self,
         cuts: &[u16],
         k: CutNumber,
-        i: ItemType,
+        i: ItemPosition,
         three: bool,
         counts: &mut [u16],
     ) -> Chain

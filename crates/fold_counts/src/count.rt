@@ -10,7 +10,7 @@ ghost use Rattle.layouts.specs.Fold.{cutOf};
 ghost use Rattle.fold_counts.specs.Lent.{CutsLent, Counting};
 ghost use Rattle.fold_counts.specs.Chain.{LeftBy};
 use job::counters::CutNumber;
-use job::counters::ItemType;
+use job::counters::ItemPosition;
 use job::counters::PlateType;
 use listing::cut::cut_at;
 use listing_find::search::Found;
@@ -22,13 +22,13 @@ pub struct Left {
     pub other: PlateType,
 }
 
-// Counts the cut of item type i on plate type j, and gives what it leaves; where there is no such cut nothing is counted and nothing left.
+// Counts the cut of an item in position i on plate type j, and gives what it leaves; where there is no such cut nothing is counted and nothing left.
 // The next item of a stack, in three stages, is cut from the top; the next item of a strip, in two, from the right.
 pub fn count_cut(
     cuts: &[u16],
     k: CutNumber,
     j: PlateType,
-    i: ItemType,
+    i: ItemPosition,
     three: bool,
     counts: &mut [u16],
 ) -> Left

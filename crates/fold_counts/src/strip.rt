@@ -20,7 +20,7 @@ ghost use Rattle.fold_counts.specs.Strip.{others, turnCuts, turnNext};
 use crate::key::item_in;
 use crate::lines::fold_lines;
 use job::counters::CutNumber;
-use job::counters::ItemType;
+use job::counters::ItemPosition;
 use job::counters::PlateType;
 use layouts_strips::begins::begins_stack;
 use layouts_strips::stack::StackMeasure;
@@ -55,7 +55,7 @@ fn is_front(passed: bool, m: StackMeasure, p: usize, height: u32) -> bool
 }
 
 // The item of the stack that comes to the front, of a strip that begins behind a lines and has such a stack.
-pub fn front_item(job: &[u16], layouts: &[u16], lines: usize, a: usize, height: u32) -> ItemType
+pub fn front_item(job: &[u16], layouts: &[u16], lines: usize, a: usize, height: u32) -> ItemPosition
     requires { ⌜ (LinesLent (now job) (now layouts) lines) × (a < lines) ⌝ }
     requires { ⌜ any (fullStack (jobOf (now job)) height) (stripOf (drop a (rowsOf (now layouts)))) ≡ true ⌝ }
     ensures { λ r. ⌜ firstOf (fullStack (jobOf (now (job .entry))) height) (stripOf (drop a (rowsOf (now (layouts .entry))))) ≡ (r .0 ∷ []) ∷ [] ⌝ }

@@ -8,7 +8,7 @@ use lib.Dec.{eqb}
 use lib.ListN.{length, replicate}
 use Rattle.job.specs.Verdict.{pass}
 use Rattle.job.specs.Buffers.{filled}
-use Rattle.job.specs.Job.{jobOf}
+use Rattle.job.specs.Job.{typeOf, turnOf, jobOf}
 use Rattle.listing.specs.Listing.{Cut, listingOf}
 use Rattle.plan.specs.Plan.{total}
 use Rattle.layouts.specs.Lines.{rowsOf, layoutWords, setOf}
@@ -35,7 +35,7 @@ lines-past (c ∷ cs) [] zs h = absurd (omega arith)
 lines-past (c ∷ cs) (n ∷ ns) zs h = go (eqb n 0) (lines-past cs ns zs (omega arith))
   where
     line : List ℕ
-    line = lineOf (3 ∷ c .plate ∷ c .item ∷ n ∷ [])
+    line = lineOf (3 ∷ c .plate ∷ typeOf (c .item) ∷ n ∷ turnOf (c .item) ∷ [])
 
     go :
         (t : Bool)

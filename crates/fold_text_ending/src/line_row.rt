@@ -25,7 +25,7 @@ fn may_end(place: Place) -> bool
     }
 }
 
-// The line row, whole: 1 or 2 for the first line refused; 1 for a last line without byte 10; 1 for a missing line, one past the last.
+// The line row, whole: 1, 2 or 19 for the first line refused; 1 for a last line without byte 10; 1 for a missing line, one past the last.
 pub fn fold_row(text: TextReader) -> Row
     ensures { λ row. ⌜ ((r : Reader Fold) → TextKept (λ s. s .place) r text → rowVerdict row ≡ textRow foldGrammar r) ⌝ }
     ensures { λ row. ⌜ LineNamed (text .lines) row ⌝ }

@@ -10,7 +10,7 @@ use lib.ListN.{length, getD, take, drop, length-append, length-drop, List·getD-
 use lib.Dec.{ltb}
 use borrow.Author.Tests.{eq-eqb, ne-eqb, ltb-true, ltb-false}
 use mathlib.Core.Bool.{Bool, true, false}
-use Rattle.job.specs.Sizes.{wordsOfItem, wordsOfPlacement, wordOfType}
+use Rattle.job.specs.Sizes.{wordsOfItem, wordsOfPlacement, jobSize, wordOfType}
 use Rattle.job.specs.declared.counters.ItemType.{ItemType}
 use Rattle.job.specs.Verdict.{refuse}
 use Rattle.listing.specs.Holds.{Holds}
@@ -27,9 +27,10 @@ use Rattle.texts_reading.specs.Judged.{lineVerdict}
 use Rattle.texts_reading.specs.Standing.{placeOf, TextAt}
 use Rattle.texts_reading.specs.JobRead.{FirstRead, ItemRead}
 use Rattle.texts_reading.proofs.CodeJobLines.{of-shape}
+use Rattle.texts_reading.proofs.JobKept.{held-take}
 use Rattle.texts_reading.proofs.CodeText.{kept-refused, kept-admitted, line-refused, line-admitted, at-ready}
 use Rattle.fold_text_reader.specs.declared.fold.FoldReader.{FoldReader}
-use Rattle.fold_text_reader.specs.FoldKept.{layoutsSize, PlaceReady, FoldReady, WordsSoFar, FoldKept, Step}
+use Rattle.fold_text_reader.specs.FoldKept.{layoutsSize, heldWords, PlaceReady, FoldReady, WordsSoFar, FoldKept, Step}
 
 -- what comes next, by the definition's state
 abbrev pub place : Fold → definition.Place
@@ -119,9 +120,15 @@ module _ (f : FoldReader) (job layouts : List ℕ) (r : Reader Fold) (k : FoldKe
   unfolding foldAdmits
   admits-item i e = rw (stands e, foldAdmits)
 
-  pub admits-layout : f .text .place ≡ Body → foldAdmits (r .state) ≡ layoutLine (definition.typesOf job) ∷ []
+  -- in the body the job's words are the first of the buffer, as many as its own number of types says
+  job-here : f .text .place ≡ Body → r .state .job ≡ heldWords job
+  job-here e =
+      let n : length (r .state .job) ≡ jobSize (definition.typesOf (r .state .job)) = subst (λ (p : Place). WordsSoFar p (r .state .job)) e (k .job-size) in
+      sym (held-take (jobSize (definition.typesOf job)) (n ∙ ap jobSize types-here) (k .job-words))
+
+  pub admits-layout : f .text .place ≡ Body → foldAdmits (r .state) ≡ layoutLine (heldWords job) ∷ []
   unfolding foldAdmits
-  admits-layout e = rw (stands e, foldAdmits, types-here)
+  admits-layout e = rw (stands e, foldAdmits, job-here e)
 
   -- ---- what an admitted line makes of the text
 
@@ -218,8 +225,8 @@ module _ (ns : List ℕ) (f : FoldReader) (t′ : TextReader) (i : ItemType) (jo
   words : (r : Reader Fold) → FoldKept r f job layouts → length (r .state .job) ≡ wordOfType (i .0)
   words r k = subst (λ (p : Place). WordsSoFar p (r .state .job)) e (k .job-size)
 
-  three : length (drop 2 ns) ≡ wordsOfItem
-  three = rw length-drop (omega (arith, shape-groups (itemLine (i .0)) ns (of-shape 1 (itemLine (i .0)) ns (sym (read .row 1)))))
+  four : length (drop 2 ns) ≡ wordsOfItem
+  four = rw length-drop (omega (arith, shape-groups (itemLine (i .0)) ns (of-shape 1 (itemLine (i .0)) ns (sym (read .row 1)))))
 
   module _ (p : Place) (a : TextAt t′ p (suc (f .text .lines)) 0 []) (ready-at : PlaceReady p (definition.typesOf job) 0) (stands-at : placeOf p ≡ definition.afterType (definition.typesOf job) (i .0)) (sized : (ws : List ℕ) → length ws ≡ wordOfType (i .0) → definition.typesOf ws ≡ definition.typesOf job → WordsSoFar p (ws ++ drop 2 ns)) where
     item-step : Step (λ r. lineRead foldGrammar r (some ns)) f job layouts (record { text = t′; rows = 0 }) job′ layouts
@@ -261,7 +268,7 @@ module _ (ns : List ℕ) (f : FoldReader) (t′ : TextReader) (i : ItemType) (jo
       (λ ws s t.
       let l : 4 < length ws = omega (arith, numbered .0) in
       let g : getD (ws ++ drop 2 ns) 4 0 ≡ getD ws 4 0 = List·getD-append ws (drop 2 ns) 0 4 l in
-      rw (length-append ws (drop 2 ns), g) (omega (arith, s, t, n, three, numbered .0)))
+      rw (length-append ws (drop 2 ns), g) (omega (arith, s, t, n, four, numbered .0)))
 
   -- of another
   pub item-next : (definition.typesOf job′ ≡ i .0 → ⊥) → TextAt t′ (Types (record { 0 = i .0 + 1 })) (suc (f .text .lines)) 0 [] → Step (λ r. lineRead foldGrammar r (some ns)) f job layouts (record { text = t′; rows = 0 }) job′ layouts
@@ -271,7 +278,7 @@ module _ (ns : List ℕ) (f : FoldReader) (t′ : TextReader) (i : ItemType) (jo
       let less : i .0 < definition.typesOf job = lt-of-not (i .0) (definition.typesOf job) (numbered .1) n in
       item-step (Types (record { 0 = i .0 + 1 })) a (omega (arith, numbered .2), omega arith, numbered .2, refl)
       (rw (ne-eqb (i .0) (definition.typesOf job) n, add-one (i .0)))
-      (λ ws s t. rw (length-append ws (drop 2 ns)) (omega (arith, s, three, numbered .0)))
+      (λ ws s t. rw (length-append ws (drop 2 ns)) (omega (arith, s, four, numbered .0)))
     where
       lt-of-not : (m n : ℕ) → m ≤ n → (m ≡ n → ⊥) → m < n
       lt-of-not m n p z = by (ltb m n) refl
@@ -283,19 +290,19 @@ module _ (ns : List ℕ) (f : FoldReader) (t′ : TextReader) (i : ItemType) (jo
 -- a line of kind 7
 module _ (ns : List ℕ) (f : FoldReader) (t′ : TextReader) (job layouts layouts′ : List ℕ) (q : FoldReady f job layouts) (e : f .text .place ≡ Body) (size : length layouts′ ≡ length layouts) (few : f .text .lines < maxLines) where
   pub layout-step :
-      ((line : ℕ) → lineVerdict 0 line ≡ numbersRow line (layoutLine (definition.typesOf job) ∷ []) ns)
+      ((line : ℕ) → lineVerdict 0 line ≡ numbersRow line (layoutLine (heldWords job) ∷ []) ns)
       → TextAt t′ Body (suc (f .text .lines)) 0 []
       → ((ws : List ℕ) → length ws ≡ wordsOfPlacement * f .rows → Holds layouts (take layoutsSize ws) → Holds layouts′ (take layoutsSize (ws ++ drop 1 ns)))
       → Step (λ r. lineRead foldGrammar r (some ns)) f job layouts (record { text = t′; rows = f .rows + 1 }) job layouts′
   layout-step row a put =
-      step-admitted ns f t′ (f .rows + 1) job layouts job layouts′ (layoutLine (definition.typesOf job) ∷ []) Body row a ready
+      step-admitted ns f t′ (f .rows + 1) job layouts job layouts′ (layoutLine (heldWords job) ∷ []) Body row a ready
       (λ r k. admits-layout f job layouts r k e)
       (λ r. foldOf definition.body (r .state .job) (r .state .layouts ++ drop 1 ns))
       (λ r k. after-layout f job layouts r k ns e)
       after
     where
-      seven : length (drop 1 ns) ≡ wordsOfPlacement
-      seven = rw length-drop (omega (arith, shape-groups (layoutLine (definition.typesOf job)) ns (of-shape 1 (layoutLine (definition.typesOf job)) ns (sym (row 1)))))
+      eight : length (drop 1 ns) ≡ wordsOfPlacement
+      eight = rw length-drop (omega (arith, shape-groups (layoutLine (heldWords job)) ns (of-shape 1 (layoutLine (heldWords job)) ns (sym (row 1)))))
 
       ready : FoldReady (record { text = t′; rows = f .rows + 1 }) job layouts′
       ready =
@@ -313,6 +320,6 @@ module _ (ns : List ℕ) (f : FoldReader) (t′ : TextReader) (job layouts layou
             stands-at = refl;
             job-words = k .job-words;
             job-size = subst (λ (p : Place). WordsSoFar p (r .state .job)) e (k .job-size);
-            rows-are = rw (length-append (r .state .layouts) (drop 1 ns)) (omega (arith, k .rows, seven));
+            rows-are = rw (length-append (r .state .layouts) (drop 1 ns)) (omega (arith, k .rows, eight));
             layout-words = put (r .state .layouts) (k .rows) (k .layout-words);
           }

@@ -19,6 +19,10 @@ use Rattle.fold_text_reader.specs.declared.fold.FoldReader.{FoldReader}
 unfoldable pub layoutsSize : ℕ
 layoutsSize = placementsSize
 
+-- the words of a job in the buffer that keeps them: as many as its own number of types says
+abbrev pub heldWords : List ℕ → List ℕ
+heldWords job = take (jobSize (typesOf job)) job
+
 -- the state's own numbers for what comes next: n is the job's word for the number of types, and `rows` counts the lines of kind 7
 abbrev pub PlaceReady : Place → ℕ → ℕ → Type 0
 PlaceReady First n rows = rows ≡ 0

@@ -1,18 +1,23 @@
 // The lines of a fold text: kinds 1, 2 and 7.
 ghost use mathlib.Core.Path.{_≡_};
-ghost use mathlib.Core.List.{List, [], _++_};
+ghost use mathlib.Core.List.{List, [], _∷_, _++_};
 ghost use mathlib.Core.Option.{some};
 ghost use Prim.Native.Nat.{ℕ, suc, _*_, _≤_, _<_};
 ghost use lib.ListN.{length, getD, take, drop};
 ghost use Rattle.job.specs.Sizes.{maxTypes, wordsOfPlacement, longestJob};
 ghost use Rattle.listing.specs.Holds.{Holds};
+ghost use Rattle.texts.specs.Shape.{layoutLine, numbersRow};
 ghost use Rattle.texts.specs.Reader.{maxLines, lineRead};
+ghost use Rattle.texts.specs.JobLines.{typesOf};
 ghost use Rattle.texts.specs.FoldText.{foldGrammar};
+ghost use Rattle.texts_reading.specs.Judged.{lineVerdict};
 ghost use Rattle.texts_reading.specs.Standing.{TextAt};
-ghost use Rattle.fold_text_reader.specs.FoldKept.{layoutsSize, FoldReady, Step};
+ghost use Rattle.fold_text_reader.specs.FoldKept.{layoutsSize, heldWords, FoldReady, Step};
 use crate::fold::FoldReader;
 use job::counters::ItemType;
 use job::head::head_of;
+use job::sizes::HEAD_WORDS;
+use job::sizes::ITEM_WORDS;
 use job::sizes::MAX_PIECES;
 use job::sizes::PLACEMENT_WORDS;
 use texts_reading::job_lines::read_first;
@@ -33,6 +38,16 @@ fn keep_row(layouts: &mut [u16], rows: u32, numbers: &[u32])
         return;
     }
     put_words(layouts, PLACEMENT_WORDS * (rows as usize), &numbers[1..]);
+}
+
+// The refusal of a line of kind 7, 0 where there is none, by the words of its job: as many as its own number of types says.
+fn layout_refusal(numbers: &[u32], job: &[u16]) -> u16
+    requires { ⌜ (longestJob ≤ length (now job)) × (typesOf (now job) ≤ maxTypes) ⌝ }
+    ensures { λ r. ⌜ ((line : ℕ) → lineVerdict r line ≡ numbersRow line (layoutLine (heldWords (now (job .entry))) ∷ []) (now (numbers .entry))) ⌝ }
+{
+    let head = head_of(job);
+    let words = HEAD_WORDS + ITEM_WORDS * (head.types.0 as usize);
+    layout_line(numbers, &job[..words])
 }
 
 impl FoldReader {
@@ -95,8 +110,7 @@ impl FoldReader {
     {
         let text = self.text;
         let rows = self.rows;
-        let head = head_of(job);
-        let refusal = layout_line(numbers, head.types);
+        let refusal = layout_refusal(numbers, job);
         if refusal != 0 {
             return self.refused(refusal);
         }

@@ -1,8 +1,8 @@
 -- The line row of job words and the job row pass exactly where the words are right and the job fits.
-use Prim.Native.Nat.{ℕ, zero, suc, _≤_}
+use Prim.Native.Nat.{ℕ, zero, suc, _+_, _*_, _≤_}
 use native.Mathlib.Omega.{arith}
-use mathlib.Core.Path.{_≡_, ap}
-use mathlib.Core.Logic.{_↔_}
+use mathlib.Core.Path.{_≡_, sym, _∙_, ap}
+use mathlib.Core.Logic.{_↔_, _⊎_, inl, inr}
 use mathlib.Core.Bool.{Bool, true, false, not, _&&_}
 use mathlib.Core.List.{List}
 use lib.Dec.{ltb, eqb}
@@ -10,13 +10,15 @@ use lib.ListN.{length, getD}
 use borrow.Author.Tests.{eqb-true, eq-eqb, ltb-false, le-ltb, not-false}
 use Rattle.job.specs.declared.item.Item.{Item}
 use Rattle.job.specs.Sizes.{jobSize}
+use Rattle.job.specs.declared.item.Position.{Position}
 use Rattle.job.specs.Verdict.{pass, _then_, refuseIf, lowest, within}
-use Rattle.job.specs.Job.{Job, noItem, itemAt, jobOf, side, boardRight, itemRight, jobWords, larger, demanded, admission, maxSide, maxTypes, maxPieces}
-use Rattle.job.specs.Admitted.{Between, ItemLimits, WordsRight, Fitting, AdmittedWords, Admitted, Sided}
-use Rattle.job.proofs.Tests.{and-left, and-right, or-left, or-right, or-neither}
-use Rattle.job.proofs.Decides.{decides-within}
+use Rattle.job.specs.Job.{Job, noItem, itemAt, unturned, turned, positionAt, fits, jobOf, side, boardRight, itemRight, jobWords, larger, demanded, admission, maxSide, maxTypes, maxPieces}
+use Rattle.job.specs.Admitted.{Between, ItemLimits, WordsRight, Fits, Fitting, AdmittedWords, Admitted, Sided}
+use Rattle.job.proofs.Tests.{and-left, and-right, or-true, true-or}
+use Rattle.job.proofs.Decides.{Decides, decides-self, decides-le, decides-and, decides-within}
 use Rattle.job.proofs.Verdicts.{then-first, then-second, then-both, refuseIf-pass, refuseIf-false, lowest-good, lowest-pass}
 use Rattle.job.proofs.ItemWords.{items-length}
+use Rattle.job.proofs.Positions.{position-unturned, position-turned, permitted-by, permitted-lies, lies-permitted}
 
 -- the limits of an item type, tested
 pub item-limits : (it : Item) → itemRight it ≡ true → ItemLimits it
@@ -25,11 +27,14 @@ item-limits it h =
     let a = side (it .width) in
     let b = side (it .height) in
     let c = within 1 maxPieces (it .demand) in
-    let ab = and-left (a && b) c h in
+    let d = within 0 1 (it .leave) in
+    let abc = and-left (a && b && c) d h in
+    let ab = and-left (a && b) c abc in
     record {
       width-limits = decides-within 1 maxSide (it .width) .0 (and-left a b ab);
       height-limits = decides-within 1 maxSide (it .height) .0 (and-right a b ab);
-      demand-limits = decides-within 1 maxPieces (it .demand) .0 (and-right (a && b) c h);
+      demand-limits = decides-within 1 maxPieces (it .demand) .0 (and-right (a && b) c abc);
+      leave-limits = decides-within 0 1 (it .leave) .0 (and-right (a && b && c) d h);
     }
 
 pub item-limits-test : (it : Item) → ItemLimits it → itemRight it ≡ true
@@ -39,6 +44,7 @@ item-limits-test it l =
       decides-within 1 maxSide (it .width) .1 (l .width-limits),
       decides-within 1 maxSide (it .height) .1 (l .height-limits),
       decides-within 1 maxPieces (it .demand) .1 (l .demand-limits),
+      decides-within 0 1 (it .leave) .1 (l .leave-limits),
     )
 
 -- the limits of the first five words, tested
@@ -130,6 +136,27 @@ right-words ws r =
     (types-pass 2 (λ it. not (itemRight it)) (jobOf ws)
     (λ i p q. ap not (item-limits-test (itemAt (jobOf ws) i) (r .each-item i p (rw (items-length ws (getD ws 4 0) (r .whole)) at q)))))
 
+-- a permitted position that fits the board, tested
+fits-decides : (job : Job) (p : Position) → Decides (fits job p) (((p .allowed ≡ true) × (p .width ≤ job .width)) × (p .height ≤ job .height))
+unfolding fits
+fits-decides job p = decides-and (decides-and (decides-self (p .allowed)) (decides-le (p .width) (job .width))) (decides-le (p .height) (job .height))
+
+fits-at : (job : Job) (q : ℕ) (p : Position) → positionAt job q ≡ p → fits job p ≡ true → Fits job q
+fits-at job q p e h =
+    let d = fits-decides job p .0 h in
+    record {
+      allowed = permitted-lies job q (ap (λ (r : Position). r .allowed) e ∙ d .0 .0);
+      in-width = omega (arith, ap (λ (r : Position). r .width) e, d .0 .1);
+      in-height = omega (arith, ap (λ (r : Position). r .height) e, d .1);
+    }
+
+at-fits : (job : Job) (q : ℕ) (p : Position) → positionAt job q ≡ p → Fits job q → fits job p ≡ true
+at-fits job q p e f =
+    fits-decides job p .1 (
+      (sym (ap (λ (r : Position). r .allowed) e) ∙ lies-permitted job q (f .allowed), omega (arith, ap (λ (r : Position). r .width) e, f .in-width)),
+      omega (arith, ap (λ (r : Position). r .height) e, f .in-height),
+    )
+
 -- where neither 3 nor 4 refuses it, the job fits
 pub job-fitting : (job : Job) → admission job ≡ pass → Fitting job
 unfolding admission larger
@@ -138,22 +165,35 @@ job-fitting job h =
     let sum = refuseIf (ltb maxPieces (demanded job)) 4 0 in
     let good = types-good 3 (larger job) job (then-first types sum h) in
     record {
-      in-width = λ i p q. ltb-false (job .width) (itemAt job i .width) (or-left _ _ (good i p q));
-      in-height = λ i p q. ltb-false (job .height) (itemAt job i .height) (or-right (ltb (job .width) (itemAt job i .width)) _ (good i p q));
+      in-board = λ i p q. go i p q (or-true _ _ (not-false _ (good i p q)));
       few-demanded = ltb-false maxPieces (demanded job) (refuseIf-pass _ 4 0 (then-second types sum h));
     }
+  where
+    go :
+        (i : ℕ)
+        → 1 ≤ i
+        → i ≤ length (job .items)
+        → (fits job (unturned (itemAt job i)) ≡ true) ⊎ (fits job (turned (itemAt job i)) ≡ true)
+        → Fits job (2 * i) ⊎ Fits job (2 * i + 1)
+    go i p q (inl f) = inl (fits-at job (2 * i) (unturned (itemAt job i)) (position-unturned job i p q) f)
+    go i p q (inr f) = inr (fits-at job (2 * i + 1) (turned (itemAt job i)) (position-turned job i p q) f)
 
 -- and a job that fits is not refused
 pub fitting-job : (job : Job) → Fitting job → admission job ≡ pass
 unfolding admission larger
 fitting-job job f =
     then-both (lowest 3 (λ _ it. larger job it) 1 (job .items)) (refuseIf (ltb maxPieces (demanded job)) 4 0)
-    (types-pass 3 (larger job) job
-    (λ i p q.
-    or-neither (ltb (job .width) (itemAt job i .width)) (ltb (job .height) (itemAt job i .height))
-    (le-ltb (job .width) (itemAt job i .width) (f .in-width i p q))
-    (le-ltb (job .height) (itemAt job i .height) (f .in-height i p q))))
+    (types-pass 3 (larger job) job (λ i p q. ap not (true-or _ _ (go i p q (f .in-board i p q)))))
     (refuseIf-false _ 4 0 (le-ltb maxPieces (demanded job) (f .few-demanded)))
+  where
+    go :
+        (i : ℕ)
+        → 1 ≤ i
+        → i ≤ length (job .items)
+        → Fits job (2 * i) ⊎ Fits job (2 * i + 1)
+        → (fits job (unturned (itemAt job i)) ≡ true) ⊎ (fits job (turned (itemAt job i)) ≡ true)
+    go i p q (inl g) = inl (at-fits job (2 * i) (unturned (itemAt job i)) (position-unturned job i p q) g)
+    go i p q (inr g) = inr (at-fits job (2 * i + 1) (turned (itemAt job i)) (position-turned job i p q) g)
 
 -- the words pass both rows exactly where they are those of an admitted job
 pub admitted-words : (ws : List ℕ) → ((jobWords ws then admission (jobOf ws)) ≡ pass) ↔ AdmittedWords ws
@@ -178,6 +218,11 @@ admitted-job ws a =
       fitting = a .fitting;
     }
 
--- the item types of an admitted job have sides of at least 1
+-- the permitted positions of an admitted job have sides of at least 1
 pub admitted-sided : (job : Job) → Admitted job → Sided job
-admitted-sided job a i p q = (a .each-item i p q .width-limits .0, a .each-item i p q .height-limits .0)
+unfolding unturned turned
+admitted-sided job a =
+    permitted-by job (λ p. (1 ≤ p .width) × (1 ≤ p .height))
+    (λ i p q.
+    let l = a .each-item i p q in
+    ((l .width-limits .0, l .height-limits .0), (l .height-limits .0, l .width-limits .0)))

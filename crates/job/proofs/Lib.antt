@@ -9,6 +9,7 @@ pub mod CodeLowest
 pub mod Decides
 pub mod Buffers
 pub mod ItemWords
+pub mod Positions
 pub mod Admission
 pub mod CodeTests
 pub mod CodeAdmission

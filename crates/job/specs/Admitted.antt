@@ -1,11 +1,14 @@
 -- Document 01, "The job", in plain statements: what is true of a job's words, and of the job, where 1, 2, 3 and 4 do not refuse them.
-use Prim.Native.Nat.{ℕ, _≤_}
+use Prim.Native.Nat.{ℕ, _+_, _*_, _≤_}
 use mathlib.Core.Path.{_≡_}
+use mathlib.Core.Logic.{_⊎_, _↔_}
+use mathlib.Core.Bool.{true}
 use mathlib.Core.List.{List}
 use lib.ListN.{length, getD}
 use Rattle.job.specs.declared.item.Item.{Item}
+use Rattle.job.specs.declared.item.Position.{Position}
 use Rattle.job.specs.Sizes.{jobSize}
-use Rattle.job.specs.Job.{Job, itemAt, jobOf, demanded, maxSide, maxTypes, maxPieces}
+use Rattle.job.specs.Job.{Job, itemAt, typeOf, turnOf, positionAt, permitted, jobOf, demanded, maxSide, maxTypes, maxPieces}
 
 -- a value from one limit to another, both included
 abbrev pub Between : ℕ → ℕ → ℕ → Type 0
@@ -16,6 +19,7 @@ pub record ItemLimits (it : Item) : Type 0 where
   pub width-limits : Between 1 maxSide (it .width)
   pub height-limits : Between 1 maxSide (it .height)
   pub demand-limits : Between 1 maxPieces (it .demand)
+  pub leave-limits : Between 0 1 (it .leave)
 
 -- the words of a job, where neither 1 nor 2 refuses them: as many as their n says, each within its limits
 pub record WordsRight (ws : List ℕ) : Type 0 where
@@ -27,10 +31,38 @@ pub record WordsRight (ws : List ℕ) : Type 0 where
   pub types-limits : Between 1 maxTypes (getD ws 4 0)
   pub each-item : (i : ℕ) → 1 ≤ i → i ≤ getD ws 4 0 → ItemLimits (itemAt (jobOf ws) i)
 
--- a job that neither 3 nor 4 refuses: no item wider or taller than the board, and at most 4,000 demanded
+-- request One: an item may lie in position q. Its type is "1 to n", and its turn is 0, or else 1 for a type with leave that is not square
+pub record MayLie (job : Job) (q : ℕ) : Type 0 where
+  pub type : Between 1 (length (job .items)) (typeOf q)
+  pub turn : Between 0 1 (turnOf q)
+  pub leave : turnOf q ≡ 1 → itemAt job (typeOf q) .leave ≡ 1
+  pub not-square : turnOf q ≡ 1 → itemAt job (typeOf q) .width ≡ itemAt job (typeOf q) .height → ⊥
+
+-- the sides of an item as it lies
+abbrev pub HasSides : Position → ℕ → ℕ → Type 0
+HasSides p w h = (p .width ≡ w) × (p .height ≡ h)
+
+-- the sides of position q: those of its type, and turned the one for the other
+pub record LiesSo (job : Job) (q : ℕ) : Type 0 where
+  pub unturned : turnOf q ≡ 0 → HasSides (positionAt job q) (itemAt job (typeOf q) .width) (itemAt job (typeOf q) .height)
+  pub turned : turnOf q ≡ 1 → HasSides (positionAt job q) (itemAt job (typeOf q) .height) (itemAt job (typeOf q) .width)
+
+-- request One: what the positions of a job are. A number is "twice the type plus the turn"; those positions are permitted in which an item may lie;
+-- and so it lies there
+pub record PositionsExact (job : Job) : Type 0 where
+  pub number : (q : ℕ) → 2 * typeOf q + turnOf q ≡ q
+  pub may-lie : (q : ℕ) → (permitted job q ≡ true) ↔ MayLie job q
+  pub sides : (q : ℕ) → MayLie job q → LiesSo job q
+
+-- position q is permitted and no wider or taller than the board
+pub record Fits (job : Job) (q : ℕ) : Type 0 where
+  pub allowed : MayLie job q
+  pub in-width : positionAt job q .width ≤ job .width
+  pub in-height : positionAt job q .height ≤ job .height
+
+-- a job that neither 3 nor 4 refuses: each item type fits the board unturned or turned, and at most 4,000 demanded
 pub record Fitting (job : Job) : Type 0 where
-  pub in-width : (i : ℕ) → 1 ≤ i → i ≤ length (job .items) → itemAt job i .width ≤ job .width
-  pub in-height : (i : ℕ) → 1 ≤ i → i ≤ length (job .items) → itemAt job i .height ≤ job .height
+  pub in-board : (i : ℕ) → 1 ≤ i → i ≤ length (job .items) → Fits job (2 * i) ⊎ Fits job (2 * i + 1)
   pub few-demanded : demanded job ≤ maxPieces
 
 -- the words of a job that is admitted
@@ -46,6 +78,6 @@ pub record Admitted (job : Job) : Type 0 where
   pub each-item : (i : ℕ) → 1 ≤ i → i ≤ length (job .items) → ItemLimits (itemAt job i)
   pub fitting : Fitting job
 
--- every item type has sides of at least 1
+-- every permitted position has sides of at least 1
 abbrev pub Sided : Job → Type 0
-Sided job = (i : ℕ) → 1 ≤ i → i ≤ length (job .items) → (1 ≤ itemAt job i .width) × (1 ≤ itemAt job i .height)
+Sided job = (q : ℕ) → permitted job q ≡ true → (1 ≤ positionAt job q .width) × (1 ≤ positionAt job q .height)

@@ -1,11 +1,12 @@
 -- Document 01, "The job": board, item types and stage mode; the job as words; refusals 1 and 2 of the words, 3 and 4 of the job.
-use Prim.Native.Nat.{ℕ, zero, suc}
-use mathlib.Core.Bool.{Bool, not, _&&_, _||_}
+use Prim.Native.Nat.{ℕ, zero, suc, _/_, _%_}
+use mathlib.Core.Bool.{Bool, true, false, not, _&&_, _||_}
 use mathlib.Core.List.{List, [], _∷_}
-use lib.Dec.{ltb, eqb}
+use lib.Dec.{leb, ltb, eqb}
 use lib.ListN.{length, getD, drop}
 use Rattle.job.specs.declared.mode.Mode.{Mode}
 use Rattle.job.specs.declared.item.Item.{Item}
+use Rattle.job.specs.declared.item.Position.{Position}
 use Rattle.job.specs.Lists.{sumOf}
 use Rattle.job.specs.Sizes.{wordsOfHead, jobSize}
 pub use Rattle.job.specs.Sizes.{maxSide, maxTypes, maxPieces}
@@ -19,26 +20,73 @@ pub record Job : Type 0 where
   pub height : ℕ
   pub items : List Item
 
-abbrev pub item : ℕ → ℕ → ℕ → Item
-item w h d = record { width = w; height = h; demand = d }
+-- an item type by its words: width, height, demand, and its leave (request One), "1 if the type may be turned, 0 if not"
+abbrev pub item : ℕ → ℕ → ℕ → ℕ → Item
+item w h d v = record { width = w; height = h; demand = d; leave = v }
 
 -- what stands for an item type that the job has not
 abbrev pub noItem : Item
-noItem = item 0 0 0
+noItem = item 0 0 0 0
 
 -- item type i, from 1
 unfoldable pub itemAt : Job → ℕ → Item
 itemAt job zero = noItem
 itemAt job (suc i) = getD (job .items) i noItem
 
--- the item types of their words, three for each
+-- Request One, "shops turn parts by 90 degrees". What is cut and laid is an item type in a position: its sides as it lies there, and whether the
+-- position is permitted
+abbrev pub position : ℕ → ℕ → Bool → Position
+position w h a = record { width = w; height = h; allowed = a }
+
+-- what stands for a position that no item type has
+abbrev pub noPosition : Position
+noPosition = position 0 0 false
+
+-- unturned, which is always permitted
+unfoldable pub unturned : Item → Position
+unturned it = position (it .width) (it .height) true
+
+-- turned: permitted with leave alone, and "a square item has no turned cut"
+unfoldable pub turned : Item → Position
+turned it =
+    position (it .height) (it .width)
+    (eqb (it .leave) 1 && not (eqb (it .width) (it .height)))
+
+-- the number of a position is "twice the type plus the turn" (request One); so its type is
+unfoldable pub typeOf : ℕ → ℕ
+typeOf q = q / 2
+
+-- and its turn, 0 or 1
+unfoldable pub turnOf : ℕ → ℕ
+turnOf q = q % 2
+
+-- the positions of item types, "the unturned first"
+unfoldable pub positionsOf : List Item → List Position
+positionsOf [] = []
+positionsOf (it ∷ its) = unturned it ∷ turned it ∷ positionsOf its
+
+-- the positions of a job in the order of their numbers, from 1: type 1 has 2 and 3; number 1 is no type's, and not permitted
+unfoldable pub positions : Job → List Position
+positions job = noPosition ∷ positionsOf (job .items)
+
+-- position q, from 1
+unfoldable pub positionAt : Job → ℕ → Position
+positionAt job zero = noPosition
+positionAt job (suc k) = getD (positions job) k noPosition
+
+-- position q is permitted
+abbrev pub permitted : Job → ℕ → Bool
+permitted job q = positionAt job q .allowed
+
+-- the item types of their words, four for each: "job words follow the lines" (request One)
 unfoldable pub itemsOf : List ℕ → List Item
 itemsOf [] = []
 itemsOf (w ∷ []) = []
 itemsOf (w ∷ h ∷ []) = []
-itemsOf (w ∷ h ∷ d ∷ ws) = item w h d ∷ itemsOf ws
+itemsOf (w ∷ h ∷ d ∷ []) = []
+itemsOf (w ∷ h ∷ d ∷ v ∷ ws) = item w h d v ∷ itemsOf ws
 
--- "as words a job is stages, exact, W, H, n, then width, height, demand of each type"
+-- "as words a job is stages, exact, W, H, n, then width, height, demand of each type", and its leave (request One)
 unfoldable pub jobOf : List ℕ → Job
 jobOf ws =
     record {
@@ -61,9 +109,13 @@ boardRight ws =
     && side (getD ws 3 0)
     && within 1 maxTypes (getD ws 4 0)
 
--- the words of an item type are within their limits
+-- the words of an item type are within their limits; a leave is 0 or 1
 unfoldable pub itemRight : Item → Bool
-itemRight it = side (it .width) && side (it .height) && within 1 maxPieces (it .demand)
+itemRight it =
+    side (it .width)
+    && side (it .height)
+    && within 1 maxPieces (it .demand)
+    && within 0 1 (it .leave)
 
 -- the line row of job words: 1 another length than that of n types; 2 a value outside its limits, naming the type, or 0 for the board
 unfoldable pub jobWords : List ℕ → Verdict
@@ -72,15 +124,22 @@ jobWords ws =
     then refuseIf (not (boardRight ws)) 2 0
     then lowest 2 (λ _ it. not (itemRight it)) 1 (jobOf ws .items)
 
--- wider or taller than the board
+-- a permitted position that is not wider or taller than the board
+unfoldable pub fits : Job → Position → Bool
+fits job p =
+    p .allowed
+    && leb (p .width) (job .width)
+    && leb (p .height) (job .height)
+
+-- what 3 means since request One: "no permitted position fits the board"
 unfoldable pub larger : Job → Item → Bool
-larger job it = ltb (job .width) (it .width) || ltb (job .height) (it .height)
+larger job it = not (fits job (unturned it) || fits job (turned it))
 
 -- the demands, added up
 unfoldable pub demanded : Job → ℕ
 demanded job = sumOf (λ it. it .demand) (job .items)
 
--- the job row: 3 an item larger than the board, naming the type; 4 demands above 4,000
+-- the job row: 3 an item of which no permitted position fits the board, naming the type; 4 demands above 4,000
 unfoldable pub admission : Job → Verdict
 admission job =
     lowest 3 (λ _ it. larger job it) 1 (job .items)

@@ -34,9 +34,9 @@ maxPrice = 9999
 abbrev pub wordsOfHead : ℕ
 wordsOfHead = 5
 
--- the words of an item type: width, height, demand
+-- the words of an item type: width, height, demand, leave
 abbrev pub wordsOfItem : ℕ
-wordsOfItem = 3
+wordsOfItem = 4
 
 -- the words of a plate type: width, height, stage
 abbrev pub wordsOfPlate : ℕ
@@ -46,9 +46,9 @@ wordsOfPlate = 3
 abbrev pub wordsOfCut : ℕ
 wordsOfCut = 4
 
--- the words of a placement and of a layout line: board, strip, stack, place, type, x, y
+-- the words of a placement and of a layout line: board, strip, stack, place, type, x, y, turn
 abbrev pub wordsOfPlacement : ℕ
-wordsOfPlacement = 7
+wordsOfPlacement = 8
 
 -- the words of a job of n item types
 abbrev pub jobSize : ℕ → ℕ
@@ -62,7 +62,7 @@ longestJob = jobSize maxTypes
 abbrev pub wordOfType : ℕ → ℕ
 wordOfType i = wordsOfHead + wordsOfItem * (i - 1)
 
--- "lent plates 6,144 words, cuts 32,768, counts lent or passed in 8,192, lent placements 28,000"
+-- "lent plates 6,144 words, cuts 32,768, counts lent or passed in 8,192", lent placements 32,000: request One, "a placement gains a word, so its buffer is 32,000"
 abbrev pub platesSize : ℕ
 platesSize = wordsOfPlate * maxPlates
 

@@ -5,11 +5,14 @@ ghost use Prim.Native.Nat.{_≤_};
 ghost use lib.ListN.{length};
 ghost use Rattle.job.specs.Sizes.{wordsOfHead, jobSize, maxTypes};
 ghost use Rattle.job.specs.Verdict.{pass, _then_, lowest, within};
-ghost use Rattle.job.specs.Job.{jobOf, boardRight, itemRight, jobWords, larger, demanded, admission};
+ghost use Rattle.job.specs.Job.{jobOf, boardRight, itemRight, jobWords, fits, larger, demanded, admission};
 ghost use Rattle.job.specs.Row.{rowVerdict};
 use crate::counters::ItemType;
 use crate::head::head_of;
 use crate::item::Item;
+use crate::item::Position;
+use crate::position::turned;
+use crate::position::unturned;
 use crate::row::Row;
 use crate::sizes::EXACT;
 use crate::sizes::HEAD_WORDS;
@@ -49,6 +52,7 @@ fn item_right(item: Item) -> bool
     within(1, MAX_SIDE, item.width)
         && within(1, MAX_SIDE, item.height)
         && within(1, MAX_PIECES, item.demand)
+        && within(0, 1, item.leave)
 }
 
 // 2 for the lowest of n item types with a word outside its limits.
@@ -86,17 +90,31 @@ pub fn job_words(job: &[u16]) -> Row
     types_right(job, ItemType(n))
 }
 
-// Whether an item is wider or taller than the board.
+// Whether a position is permitted and not wider or taller than the board.
+fn fits(job: &[u16], position: Position) -> bool
+    requires { ⌜ wordsOfHead ≤ length (now job) ⌝ }
+    ensures { λ r. ⌜ r ≡ fits (jobOf (now (job .entry))) position ⌝ }
+{
+    if !position.allowed {
+        return false;
+    }
+    let width = job[WIDTH];
+    let height = job[HEIGHT];
+    position.width <= width && position.height <= height
+}
+
+// Whether no permitted position of an item type fits the board.
 fn larger(job: &[u16], item: Item) -> bool
     requires { ⌜ wordsOfHead ≤ length (now job) ⌝ }
     ensures { λ r. ⌜ r ≡ larger (jobOf (now (job .entry))) item ⌝ }
 {
-    let width = job[WIDTH];
-    let height = job[HEIGHT];
-    width < item.width || height < item.height
+    if fits(job, unturned(item)) {
+        return false;
+    }
+    !fits(job, turned(item))
 }
 
-// 3 for the lowest of n item types that is larger than the board.
+// 3 for the lowest of n item types of which no permitted position fits the board.
 fn types_fit(job: &[u16], n: ItemType) -> Row
     requires { ⌜ (length (now job) ≡ jobSize (n .0)) × (n .0 ≤ maxTypes) ⌝ }
     ensures { λ r. ⌜ rowVerdict r ≡ lowest 3 (λ _ it. larger (jobOf (now (job .entry))) it) 1 (jobOf (now (job .entry)) .items) ⌝ }
@@ -129,7 +147,7 @@ fn demanded(job: &[u16], n: ItemType) -> u32
     sum
 }
 
-// The job row, once the job's words have passed: 3 for an item larger than the board, 4 for demands above 4,000.
+// The job row, once the job's words have passed: 3 for an item of which no permitted position fits the board, 4 for demands above 4,000.
 pub fn admit(job: &[u16]) -> Row
     requires { ⌜ jobWords (now job) ≡ pass ⌝ }
     ensures { λ r. ⌜ rowVerdict r ≡ admission (jobOf (now (job .entry))) ⌝ }

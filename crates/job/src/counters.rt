@@ -1,9 +1,12 @@
-// The three counters of the model; none is used where another is meant.
+// The counters of the model; none is used where another is meant.
 ghost use mathlib.Core.Path.{_≡_};
 ghost use Prim.Native.Nat.{_-_, _≤_};
 
 // The number of an item type, from 1. A job's last item type tells how many it has.
 pub struct ItemType(pub u16);
+
+// The number of an item type in a position: twice the type plus the turn, which is 0, or 1 for an item that is turned.
+pub struct ItemPosition(pub u16);
 
 // The number of a plate type; the board is 0, residual types follow from 1.
 pub struct PlateType(pub u16);

@@ -6,6 +6,7 @@ pub mod head;
 pub mod item;
 pub mod lent;
 pub mod mode;
+pub mod position;
 pub mod row;
 pub mod sizes;
 pub mod words;

@@ -35,8 +35,8 @@ pub const HEIGHT: usize = 3;
 
 pub const TYPES: usize = 4;
 
-// The words of an item type: width, height, demand.
-pub const ITEM_WORDS: usize = 3;
+// The words of an item type: width, height, demand, leave.
+pub const ITEM_WORDS: usize = 4;
 
 // The words of a plate type: width, height, stage.
 pub const PLATE_WORDS: usize = 3;
@@ -44,8 +44,8 @@ pub const PLATE_WORDS: usize = 3;
 // The words of a cut: plate, item, top, right.
 pub const CUT_WORDS: usize = 4;
 
-// The words of a placement and of a layout line: board, strip, stack, place, type, x, y.
-pub const PLACEMENT_WORDS: usize = 7;
+// The words of a placement and of a layout line: board, strip, stack, place, type, x, y, turn.
+pub const PLACEMENT_WORDS: usize = 8;
 
 // The words of the longest job.
 pub const JOB_SIZE: usize = HEAD_WORDS + ITEM_WORDS * (MAX_TYPES as usize);

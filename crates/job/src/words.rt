@@ -19,6 +19,7 @@ pub fn item_at(job: &[u16], i: ItemType) -> Item
         width: job[at],
         height: job[at + 1],
         demand: job[at + 2],
+        leave: job[at + 3],
     }
 }
 

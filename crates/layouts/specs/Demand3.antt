@@ -10,11 +10,12 @@ use Rattle.job.specs.Lists.{all, nonEmpty, occurs}
 use Rattle.job.specs.Verdict.{Verdict, pass, refuse, _then_}
 use Rattle.job.specs.Buffers.{filled, placementsSize}
 use Rattle.job.specs.Job.{Job, jobOf, jobWords, admission, maxPieces}
+use Rattle.job.specs.Admitted.{PositionsExact}
 use Rattle.listing.specs.Listing.{Listing, modelRow, listingOf}
-use Rattle.plan.specs.Plan.{countOf, ofItem, boards, total, countsRow, planRow}
+use Rattle.plan.specs.Plan.{countOf, ofItem, ofPosition, boards, total, countsRow, planRow}
 use Rattle.plan.specs.Prices.{pricesOf, priceWords, pricesSized, pricesRow, priceSum, fewest}
 use Rattle.layouts.specs.Layout.{Stack, Strip, Board, widthOf, stackHeight, layoutRules}
-use Rattle.layouts.specs.Placement.{placementWords, linesOf, itemsOfSet, meetsDemands}
+use Rattle.layouts.specs.Placement.{placementWords, linesOf, itemsOfSet, typesOfSet, meetsDemands}
 use Rattle.layouts.specs.Rectangle.{inside, noOverlap}
 use Rattle.layouts.specs.Unfold.{Run, unfolded}
 use Rattle.layouts.specs.Lines.{layoutWords, turns, setOf}
@@ -60,7 +61,9 @@ module _ (job : Job) (l : Listing) where
     pub none-empty : all nonEmpty set ≡ true
     -- exactly as many pieces as the counts come to, and each item type exactly as often as the plan cuts it
     pub all-pieces : length (itemsOfSet set) ≡ total counts
-    pub as-often : (i : ℕ) → occurs i (itemsOfSet set) ≡ countOf (ofItem i) (l .cuts) counts
+    pub as-often : (i : ℕ) → occurs i (typesOfSet set) ≡ countOf (ofItem i) (l .cuts) counts
+    -- and so each type in each turn, whose number is q (request One)
+    pub turns-as-often : (q : ℕ) → occurs q (itemsOfSet set) ≡ countOf (ofPosition q) (l .cuts) counts
     -- board, strip, stack and place run in turn from 1
     pub in-turn : turns 1 (linesOf job set) ≡ pass
     -- folding it gives back the counts, word for word
@@ -86,7 +89,9 @@ module _ (job : Job) (l : Listing) where
     pub accepted : Accepted counts
     -- it opens exactly as many boards as the set has, and cuts each type exactly as often as it lies there
     pub as-many : boards l counts ≡ length set
-    pub as-often : (i : ℕ) → countOf (ofItem i) (l .cuts) counts ≡ occurs i (itemsOfSet set)
+    pub as-often : (i : ℕ) → countOf (ofItem i) (l .cuts) counts ≡ occurs i (typesOfSet set)
+    -- and so each type in each turn, whose number is q (request One)
+    pub turns-as-often : (q : ℕ) → countOf (ofPosition q) (l .cuts) counts ≡ occurs q (itemsOfSet set)
 
   -- what folding makes of a set
   pub record Folds (set : List Board) : Type 0 where
@@ -169,6 +174,8 @@ module _ (ws : List ℕ) where
 pub record Demand3 : Type 0 where
   -- of every job whose listing is not refused
   pub every-listed : (ws : List ℕ) → Listed ws → Demand3Of ws
+  -- the positions by which it speaks of items that are turned: which are permitted, and how an item lies there (request One)
+  pub positions : (job : Job) → PositionsExact job
   -- the tests by which it speaks of rules, demands and rectangles decide the plain statements of `Rules`
   pub tests : (job : Job) → TestsExact job
   -- folding's order: "within each two-stage strip by falling height and within each three-stage stack by falling width"

@@ -3,13 +3,12 @@ use Prim.Native.Nat.{ℕ}
 use mathlib.Core.Bool.{Bool, true, false, cond, not, _&&_, _||_}
 use mathlib.Core.List.{List, [], _∷_}
 use lib.Dec.{leb, eqb}
-use lib.ListN.{length}
 use Rattle.job.specs.Lists.{any, all, sumOf, maxOf, nonEmpty}
-use Rattle.job.specs.Verdict.{within}
 use Rattle.job.specs.Mode.{three, exact}
-use Rattle.job.specs.Job.{Job, itemAt}
+use Rattle.job.specs.Job.{Job, positionAt, permitted}
 
--- "a board is a list of strips from the bottom, a strip a list of stacks from the left, a stack a list of items from the bottom"
+-- "a board is a list of strips from the bottom, a strip a list of stacks from the left, a stack a list of items from the bottom";
+-- an item is the number of its position here, "twice the type plus the turn" (request One)
 abbrev pub Stack : Type 0
 Stack = List ℕ
 
@@ -19,12 +18,12 @@ Strip = List Stack
 abbrev pub Board : Type 0
 Board = List Strip
 
--- the sides of item type i, from 1
+-- the sides of an item as it lies: "layouts are judged with turned sides" (request One)
 unfoldable pub widthOf : Job → ℕ → ℕ
-widthOf job i = itemAt job i .width
+widthOf job i = positionAt job i .width
 
 unfoldable pub heightOf : Job → ℕ → ℕ
-heightOf job i = itemAt job i .height
+heightOf job i = positionAt job i .height
 
 -- "a stack's width is its widest item, its height the sum; a strip's height is its highest stack"
 unfoldable pub stackWidth : Job → Stack → ℕ
@@ -68,13 +67,14 @@ stageRule job s =
     (any (fullStack job (stripHeight job s)) s && (not (exact (job .mode)) || all (sameWidths job) s))
     (all single s && (not (exact (job .mode)) || sameHeights job s))
 
--- the rules of one board: nothing is empty, the items are of the job, the stage rule holds of each strip, and the sums are at most W and H
+-- the rules of one board: nothing is empty; each item lies in a permitted position, since a piece turned without leave "breaks the layout rules" (request One);
+-- the stage rule holds of each strip; and the sums are at most W and H
 unfoldable pub boardRules : Job → Board → Bool
 boardRules job b =
     nonEmpty b
     && all nonEmpty b
     && all (all nonEmpty) b
-    && all (all (all (within 1 (length (job .items))))) b
+    && all (all (all (permitted job))) b
     && all (stageRule job) b
     && all (λ s. leb (stripWidth job s) (job .width)) b
     && leb (boardHeight job b) (job .height)

@@ -7,7 +7,7 @@ use lib.ListN.{length}
 use Rattle.job.specs.declared.item.Item.{Item}
 use Rattle.job.specs.Lists.{occurs}
 use Rattle.job.specs.Verdict.{Verdict, pass, refuse, _then_, refuseIf, lowest}
-use Rattle.job.specs.Job.{Job, maxPieces}
+use Rattle.job.specs.Job.{Job, typeOf, maxPieces}
 use Rattle.layouts.specs.Layout.{Strip, Board, stripWidth, stripHeight, stageRule}
 use Rattle.layouts.specs.Placement.{Placement, itemsOfStrip, itemsOfBoard, linesOf}
 use Rattle.layouts.specs.Lines.{turns, grouped}
@@ -56,9 +56,9 @@ positioned k (r ∷ rs) (p ∷ ps) =
       | true ↦ positioned (suc k) rs ps
     ]
 
--- 11: item type i lies in the lines less often than demanded
+-- 11: item type i lies in the lines, in both turns together (request One), less often than demanded
 unfoldable pub lacks : List Placement → ℕ → Item → Bool
-lacks rs i item = ltb (occurs i (map (λ r. r .item) rs)) (item .demand)
+lacks rs i item = ltb (occurs i (map (λ r. typeOf (r .item)) rs)) (item .demand)
 
 -- the layouts row over lines that are numbered from k: 1 for layout words, n + 2 in a fold text
 unfoldable pub layoutsRow : ℕ → Job → List Placement → Verdict

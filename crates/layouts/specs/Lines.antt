@@ -1,47 +1,62 @@
--- Document 01, "Texts" and "Layouts and folding": layouts as words, refusals 1, 2 and 15 of their lines, and the set that lines in turn make.
-use Prim.Native.Nat.{ℕ, suc, _/_, _%_}
+-- Document 01, "Texts" and "Layouts and folding": layouts as words, refusals 1, 2, 19 and 15 of their lines, and the set that lines in turn make.
+use Prim.Native.Nat.{ℕ, suc, _+_, _*_, _/_, _%_}
 use mathlib.Core.Bool.{Bool, true, false, not, _&&_, _||_}
-use mathlib.Core.List.{List, [], _∷_}
+use mathlib.Core.List.{List, [], _∷_, map}
 use mathlib.Core.Option.{Option, none, some}
 use lib.Dec.{eqb}
 use lib.ListN.{length}
 use Rattle.job.specs.Sizes.{wordsOfPlacement}
 use Rattle.job.specs.Verdict.{Verdict, pass, refuse, _then_, refuseIf, within, lowest}
-use Rattle.job.specs.Job.{Job, maxSide, maxPieces}
+use Rattle.job.specs.Job.{Job, permitted, maxSide, maxPieces}
 use Rattle.layouts.specs.Layout.{Stack, Strip, Board}
 use Rattle.layouts.specs.Placement.{Turn, turn, Placement, placementOf}
 
--- the whole lines of layout words, seven words each
+-- a line of layout words (request One): its type and its turn as they stand there, which have limits of their own, and the placement that they make
+pub record Line : Type 0 where
+  pub type : ℕ
+  pub turned : ℕ
+  pub placement : Placement
+
+-- the whole lines of layout words, eight words each
+unfoldable pub linesIn : List ℕ → List Line
+linesIn [] = []
+linesIn (b ∷ []) = []
+linesIn (b ∷ s ∷ []) = []
+linesIn (b ∷ s ∷ k ∷ []) = []
+linesIn (b ∷ s ∷ k ∷ p ∷ []) = []
+linesIn (b ∷ s ∷ k ∷ p ∷ i ∷ []) = []
+linesIn (b ∷ s ∷ k ∷ p ∷ i ∷ x ∷ []) = []
+linesIn (b ∷ s ∷ k ∷ p ∷ i ∷ x ∷ y ∷ []) = []
+linesIn (b ∷ s ∷ k ∷ p ∷ i ∷ x ∷ y ∷ t ∷ ws) =
+    record { type = i; turned = t; placement = placementOf b s k p (2 * i + t) x y } ∷ linesIn ws
+
+-- the placements of layout words
 unfoldable pub rowsOf : List ℕ → List Placement
-rowsOf [] = []
-rowsOf (b ∷ []) = []
-rowsOf (b ∷ s ∷ []) = []
-rowsOf (b ∷ s ∷ k ∷ []) = []
-rowsOf (b ∷ s ∷ k ∷ p ∷ []) = []
-rowsOf (b ∷ s ∷ k ∷ p ∷ i ∷ []) = []
-rowsOf (b ∷ s ∷ k ∷ p ∷ i ∷ x ∷ []) = []
-rowsOf (b ∷ s ∷ k ∷ p ∷ i ∷ x ∷ y ∷ ws) = placementOf b s k p i x y ∷ rowsOf ws
+rowsOf ws = map (λ r. r .placement) (linesIn ws)
 
 -- "board, strip, stack, place 1 to 4,000"
 abbrev pub counted : ℕ → Bool
 counted k = within 1 maxPieces k
 
--- the numbers of a line are within their limits: "type 1 to n", "x, y 0 to 10,000"
-unfoldable pub rowRight : Job → Placement → Bool
+-- the numbers of a line are within their limits: "type 1 to n", "x, y 0 to 10,000", the turn 0 or 1
+unfoldable pub rowRight : Job → Line → Bool
 rowRight job r =
-    counted (r .turn .board)
-    && counted (r .turn .strip)
-    && counted (r .turn .stack)
-    && counted (r .turn .place)
-    && within 1 (length (job .items)) (r .item)
-    && within 0 maxSide (r .x)
-    && within 0 maxSide (r .y)
+    counted (r .placement .turn .board)
+    && counted (r .placement .turn .strip)
+    && counted (r .placement .turn .stack)
+    && counted (r .placement .turn .place)
+    && within 1 (length (job .items)) (r .type)
+    && within 0 maxSide (r .placement .x)
+    && within 0 maxSide (r .placement .y)
+    && within 0 1 (r .turned)
 
--- the line row of layout words: 1 "a line cut short"; 2 a value outside its limits; both name the line
+-- the line row of layout words: 1 "a line cut short"; 2 a value outside its limits; then request One's 19, "after 2, for a turn of 1 .. for a square
+-- type or one without leave"; all name the line
 unfoldable pub layoutWords : Job → List ℕ → Verdict
 layoutWords job ws =
     refuseIf (not (eqb (length ws % wordsOfPlacement) 0)) 1 (suc (length ws / wordsOfPlacement))
-    then lowest 2 (λ _ r. not (rowRight job r)) 1 (rowsOf ws)
+    then lowest 2 (λ _ r. not (rowRight job r)) 1 (linesIn ws)
+    then lowest 19 (λ _ r. not (permitted job (r .item))) 1 (rowsOf ws)
 
 unfoldable pub sameTurn : Turn → Turn → Bool
 sameTurn t u =

@@ -1,11 +1,11 @@
 -- Document 01, "Layouts and folding" and "The words of demand 3": item positions, the lines of a set of layouts, its pieces and demands.
 use Prim.Native.Nat.{ℕ, suc, _+_}
 use mathlib.Core.Bool.{Bool, true, _&&_}
-use mathlib.Core.List.{List, [], _∷_, _++_, flatMap}
+use mathlib.Core.List.{List, [], _∷_, _++_, flatMap, map}
 use lib.Dec.{leb}
 use Rattle.job.specs.declared.item.Item.{Item}
 use Rattle.job.specs.Lists.{occurs}
-use Rattle.job.specs.Job.{Job}
+use Rattle.job.specs.Job.{Job, typeOf, turnOf}
 use Rattle.layouts.specs.Layout.{Stack, Strip, Board, heightOf, stackWidth, stripHeight}
 
 -- board, strip, stack and place of an item, each from 1
@@ -18,7 +18,7 @@ pub record Turn : Type 0 where
 abbrev pub turn : ℕ → ℕ → ℕ → ℕ → Turn
 turn b s k p = record { board = b; strip = s; stack = k; place = p }
 
--- an item of a set: where it comes in turn, its type, and its position
+-- an item of a set: where it comes in turn; `item`, "twice the type plus the turn" (request One); and where it lies
 pub record Placement : Type 0 where
   pub turn : Turn
   pub item : ℕ
@@ -33,11 +33,11 @@ placementOf b s k p i x y = record { turn = turn b s k p; item = i; x = x; y = y
 abbrev pub noPlacement : Placement
 noPlacement = placementOf 0 0 0 0 0 0 0
 
--- a placement as words: "the seven numbers after the kind" of line 7
+-- a placement as words, the eight numbers after the kind of line 7: "lines 3 and 7 end with the turn" (request One)
 unfoldable pub placementWords : List Placement → List ℕ
 placementWords ps =
     flatMap
-    (λ p. p .turn .board ∷ p .turn .strip ∷ p .turn .stack ∷ p .turn .place ∷ p .item ∷ p .x ∷ p .y ∷ [])
+    (λ p. p .turn .board ∷ p .turn .strip ∷ p .turn .stack ∷ p .turn .place ∷ typeOf (p .item) ∷ p .x ∷ p .y ∷ turnOf (p .item) ∷ [])
     ps
 
 -- "y the strips below plus the items below it in its stack": the items of a stack from place p on, at x, from y upwards
@@ -77,6 +77,10 @@ itemsOfBoard ss = flatMap itemsOfStrip ss
 unfoldable pub itemsOfSet : List Board → List ℕ
 itemsOfSet bs = flatMap itemsOfBoard bs
 
+-- the types of its pieces, in whichever turn they lie (request One)
+unfoldable pub typesOfSet : List Board → List ℕ
+typesOfSet bs = map typeOf (itemsOfSet bs)
+
 -- each item type from i on is among the pieces at least as often as demanded
 unfoldable pub meetsFrom : ℕ → List Item → List ℕ → Bool
 meetsFrom i [] is = true
@@ -84,4 +88,4 @@ meetsFrom i (item ∷ items) is = leb (item .demand) (occurs i is) && meetsFrom 
 
 -- "it meets the demands if each type lies in it at least as often as demanded"
 unfoldable pub meetsDemands : Job → List Board → Bool
-meetsDemands job bs = meetsFrom 1 (job .items) (itemsOfSet bs)
+meetsDemands job bs = meetsFrom 1 (job .items) (typesOfSet bs)

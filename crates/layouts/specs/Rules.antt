@@ -9,8 +9,9 @@ use lib.ListN.{length, getD}
 use Rattle.job.specs.Lists.{occurs}
 use Rattle.job.specs.Mode.{three, exact}
 use Rattle.job.specs.Job.{Job, itemAt}
+use Rattle.job.specs.Admitted.{MayLie}
 use Rattle.layouts.specs.Layout.{Stack, Strip, Board, widthOf, heightOf, stackHeight, stripHeight, stripWidth, boardHeight}
-use Rattle.layouts.specs.Placement.{Placement, noPlacement, itemsOfStrip, itemsOfSet}
+use Rattle.layouts.specs.Placement.{Placement, noPlacement, itemsOfStrip, typesOfSet}
 
 module _ {A : Type 0} where
   -- every element, some element
@@ -35,9 +36,9 @@ module _ {A : Type 0} where
 abbrev pub Single : Stack → Type 0
 Single s = length s ≡ 1
 
--- an item type of the job, "1 to n"
+-- an item type of the job, "1 to n", in a position that is permitted (request One)
 abbrev pub OfJob : Job → ℕ → Type 0
-OfJob job i = (1 ≤ i) × (i ≤ length (job .items))
+OfJob job q = MayLie job q
 
 -- the stage rule of a strip, by the mode
 pub record Staged (job : Job) (s : Strip) : Type 0 where
@@ -48,7 +49,7 @@ pub record Staged (job : Job) (s : Strip) : Type 0 where
   pub full : three (job .mode) ≡ true → Some (λ k. Single k × (stackHeight job k ≡ stripHeight job s)) s
   pub even : three (job .mode) ≡ true → exact (job .mode) ≡ true → Every (Alike (widthOf job)) s
 
--- a strip that keeps the rules: nothing in it is empty, its items are of the job, and "stack widths of a strip add up to at most W"
+-- a strip that keeps the rules: nothing in it is empty, its items are of the job in permitted positions, and "stack widths of a strip add up to at most W"
 pub record StripOk (job : Job) (s : Strip) : Type 0 where
   pub filled : Filled s
   pub stacks : Every Filled s
@@ -68,7 +69,7 @@ SetOk job bs = Every (BoardOk job) bs
 
 -- "it meets the demands if each type lies in it at least as often as demanded"
 abbrev pub MeetsDemands : Job → List Board → Type 0
-MeetsDemands job bs = (i : ℕ) → 1 ≤ i → i ≤ length (job .items) → itemAt job i .demand ≤ occurs i (itemsOfSet bs)
+MeetsDemands job bs = (i : ℕ) → 1 ≤ i → i ≤ length (job .items) → itemAt job i .demand ≤ occurs i (typesOfSet bs)
 
 -- "that is inside its board if x+wi and y+hi are at most the board's width and height"
 abbrev pub Inside : Job → Placement → Type 0

@@ -5,7 +5,7 @@ use mathlib.Core.List.{List, [], _∷_}
 use mathlib.Core.Option.{Option, none, some}
 use lib.Dec.{ltb, eqb}
 use lib.ListN.{getD, set}
-use Rattle.job.specs.Job.{Job, itemAt}
+use Rattle.job.specs.Job.{Job, positionAt}
 use Rattle.listing.specs.Listing.{Cut, Listing, plateAt, cutAt}
 use Rattle.plan.specs.Plan.{onPlate, boards, total}
 use Rattle.layouts.specs.Placement.{Turn, turn, Placement}
@@ -109,7 +109,7 @@ pub data Step : Type 0 where
 unfoldable pub done : Job → Listing → State → Taken → ℕ → Step
 done job l st t k =
     let c = cutAt l k in
-    let item = itemAt job (c .item) in
+    let item = positionAt job (c .item) in
     let x = t .piece .x in
     let y = t .piece .y in
     let here = nextTurn (t .stage) (st .turn) in

@@ -1,5 +1,5 @@
--- The line row of layout words, on plain values: whole lines, and the limits of each.
-use mathlib.Core.Path.{_≡_}
+-- The line row of layout words, on plain values: whole lines, the limits of each, and its position.
+use mathlib.Core.Path.{_≡_, sym, _∙_}
 use Prim.Native.Nat.{ℕ, _+_, _*_, _<_, _/_, _%_}
 use mathlib.Core.Bool.{Bool, not}
 use mathlib.Core.List.{List}
@@ -9,15 +9,16 @@ use native.Mathlib.Nat.{div-add-mod}
 use borrow.Author.Tests.{eq-eqb, ne-eqb}
 use lib.ListN.{length, getD}
 use Rattle.job.specs.Sizes.{wordsOfPlacement}
-use Rattle.job.specs.Verdict.{Verdict, pass, refuse, lowest}
-use Rattle.job.specs.Job.{Job}
-use Rattle.layouts.specs.Placement.{Placement}
-use Rattle.layouts.specs.Lines.{rowsOf, rowRight, layoutWords}
-use Rattle.layouts.specs.Rules.{OfJob}
-use Rattle.layouts.proofs.lists.Every.{every-at}
-use Rattle.layouts.proofs.row.RowWords.{RowOk, words-exact}
-use Rattle.placement.specs.PlacementRead.{noPlacement, placementAt}
-use Rattle.placement.proofs.Rows.{whole-rows, row-read}
+use Rattle.job.specs.Verdict.{Verdict, pass, refuse, _then_, lowest}
+use Rattle.job.specs.Job.{Job, permitted}
+use Rattle.layouts.specs.Lines.{Line, linesIn, rowsOf, rowRight, layoutWords}
+use Rattle.layouts.specs.Rules.{Every, OfJob}
+use Rattle.layouts.proofs.lists.Every.{every-at, passes-every}
+use Rattle.layouts.proofs.row.RowWords.{LineOk, right-exact, words-exact}
+use Rattle.placement.specs.PlacementRead.{noPlacement, placementAt, lineAt, noLine}
+use Rattle.placement.proofs.Rows.{whole-rows, row-read, line-read}
+use Rattle.placement.proofs.Rows.{whole-lines as lines-number}
+use Rattle.layouts_lines.specs.LineSums.{OfType, OfTypes}
 
 -- words that leave nothing over are whole lines
 pub whole-lines : (ws : List ℕ) → length ws % wordsOfPlacement ≡ 0 → length ws ≡ wordsOfPlacement * (length ws / wordsOfPlacement)
@@ -29,17 +30,35 @@ module _ (job : Job) (ws : List ℕ) where
   unfolding layoutWords
   cut-short h = rw (ne-eqb _ _ h, add-one (length ws / wordsOfPlacement))
 
-  -- else the limits of the lines decide
-  pub by-limits : length ws % wordsOfPlacement ≡ 0 → {v : Verdict} → v ≡ lowest 2 (λ _ r. not (rowRight job r)) 1 (rowsOf ws) → v ≡ layoutWords job ws
+  -- else the limits of the lines decide, and then their positions
+  pub by-limits : length ws % wordsOfPlacement ≡ 0 → {v : Verdict} → v ≡ (lowest 2 (λ _ r. not (rowRight job r)) 1 (linesIn ws) then lowest 19 (λ _ r. not (permitted job (r .item))) 1 (rowsOf ws)) → v ≡ layoutWords job ws
   unfolding layoutWords
   by-limits h e = rw (eq-eqb _ _ h) e
 
   -- what the test says of the line read it says of the line behind c others
-  pub line-tested : (lines c : ℕ) → length ws ≡ wordsOfPlacement * lines → c < lines → {f b : Bool} {r : Placement} → f ≡ rowRight job r → r ≡ placementAt ws c → not f ≡ b → not (rowRight job (getD (rowsOf ws) c noPlacement)) ≡ b
-  line-tested lines c w h e i t = rw (row-read ws c (omega arith), ← i, ← e) t
+  pub line-tested : (lines c : ℕ) → length ws ≡ wordsOfPlacement * lines → c < lines → {f b : Bool} {r : Line} → f ≡ rowRight job r → r ≡ lineAt ws c → not f ≡ b → not (rowRight job (getD (linesIn ws) c noLine)) ≡ b
+  line-tested lines c w h e i t = rw (line-read ws c (omega arith), ← i, ← e) t
 
-  -- lines of words that passed are of the job's item types
+  -- a line within its limits is of an item type of the job
+  line-typed : (lines : ℕ) → Every (LineOk job) (linesIn ws) → length ws ≡ wordsOfPlacement * lines → OfTypes (length (job .items)) lines ws
+  line-typed lines every w = record { each = λ c h. of-type c h (ok c h) }
+    where
+      ok : (c : ℕ) → c < lines → LineOk job (lineAt ws c)
+      ok c h = rw (line-read ws c (omega arith)) at (every-at (LineOk job) (linesIn ws) every noLine c (rw (lines-number ws lines w) h))
+
+      of-type : (c : ℕ) → c < lines → LineOk job (lineAt ws c) → OfType (length (job .items)) (lineAt ws c)
+      of-type c h k = record { from-one = k .type .0; to-last = k .type .1; turn = k .turned }
+
+  -- lines whose limits passed
+  pub limits-typed : (lines : ℕ) → {v : Verdict} → v ≡ lowest 2 (λ _ r. not (rowRight job r)) 1 (linesIn ws) → v ≡ pass → length ws ≡ wordsOfPlacement * lines → OfTypes (length (job .items)) lines ws
+  limits-typed lines e p w = line-typed lines (passes-every 2 1 (right-exact job) (linesIn ws) .0 (sym e ∙ p)) w
+
+  -- lines of words that passed
+  pub passed-typed : (lines : ℕ) → layoutWords job ws ≡ pass → length ws ≡ wordsOfPlacement * lines → OfTypes (length (job .items)) lines ws
+  passed-typed lines p w = line-typed lines (words-exact job ws .0 p .1 .0) w
+
+  -- are in permitted positions
   pub passed-item : (lines c : ℕ) → layoutWords job ws ≡ pass → length ws ≡ wordsOfPlacement * lines → c < lines → OfJob job (placementAt ws c .item)
   passed-item lines c p w h =
-      let ok : RowOk job (getD (rowsOf ws) c noPlacement) = every-at (RowOk job) (rowsOf ws) (words-exact job ws .0 p .1) noPlacement c (rw (whole-rows ws lines w) h) in
-      rw (row-read ws c (omega arith)) at (ok .type)
+      let ok : OfJob job (getD (rowsOf ws) c noPlacement .item) = every-at (λ r. OfJob job (r .item)) (rowsOf ws) (words-exact job ws .0 p .1 .1) noPlacement c (rw (whole-rows ws lines w) h) in
+      rw (row-read ws c (omega arith)) at ok

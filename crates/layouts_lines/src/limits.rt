@@ -1,4 +1,4 @@
-// The line row of layout words: 1 a line cut short, 2 a value outside its limits.
+// The line row of layout words: 1 a line cut short, 2 a value outside its limits, and then 19.
 ghost use mathlib.Core.Path.{_≡_};
 ghost use mathlib.Core.Bool.{not};
 ghost use Prim.Native.Nat.{_*_};
@@ -7,9 +7,10 @@ ghost use Rattle.job.specs.Sizes.{wordsOfPlacement};
 ghost use Rattle.job.specs.Verdict.{pass, lowest};
 ghost use Rattle.job.specs.Row.{rowVerdict};
 ghost use Rattle.job.specs.Job.{Job, jobOf, jobWords};
-ghost use Rattle.layouts.specs.Lines.{rowsOf, rowRight, layoutWords};
-ghost use Rattle.placement.specs.PlacementRead.{placementIn};
+ghost use Rattle.layouts.specs.Lines.{linesIn, rowRight, layoutWords};
+ghost use Rattle.placement.specs.PlacementRead.{placementIn, lineIn};
 ghost use Rattle.layouts_lines.specs.Limits.{turnRight};
+use crate::permitted::permitted_row;
 use job::admit::within;
 use job::counters::ItemType;
 use job::head::head_of;
@@ -32,18 +33,19 @@ fn turn_right(line: Placement) -> bool
 
 // Whether the numbers of a line are within their limits, for n item types.
 fn line_right(line: Placement, n: ItemType) -> bool
-    ensures { λ r. ⌜ ((job : Job) → length (job .items) ≡ n .0 → r ≡ rowRight job (placementIn line)) ⌝ }
+    ensures { λ r. ⌜ ((job : Job) → length (job .items) ≡ n .0 → r ≡ rowRight job (lineIn line)) ⌝ }
 {
     turn_right(line)
         && within(1, n.0, line.item.0)
         && within(0, MAX_SIDE, line.x)
         && within(0, MAX_SIDE, line.y)
+        && within(0, 1, line.turned)
 }
 
 // 2 for the lowest line with a number outside its limits, for n item types.
 fn lines_right(layouts: &[u16], lines: usize, n: ItemType) -> Row
     requires { ⌜ length (now layouts) ≡ wordsOfPlacement * lines ⌝ }
-    ensures { λ r. ⌜ ((job : Job) → length (job .items) ≡ n .0 → rowVerdict r ≡ lowest 2 (λ _ line. not (rowRight job line)) 1 (rowsOf (now (layouts .entry)))) ⌝ }
+    ensures { λ r. ⌜ ((job : Job) → length (job .items) ≡ n .0 → rowVerdict r ≡ lowest 2 (λ _ line. not (rowRight job line)) 1 (linesIn (now (layouts .entry)))) ⌝ }
 {
     let mut c: usize = 0;
     while c < lines {
@@ -56,7 +58,7 @@ fn lines_right(layouts: &[u16], lines: usize, n: ItemType) -> Row
     Row::Passes
 }
 
-// The line row of layout words, once the job's words have passed; both refusals name the line, from 1.
+// The line row of layout words, once the job's words have passed; all three refusals name the line, from 1.
 pub fn layout_words(job: &[u16], layouts: &[u16]) -> Row
     requires { ⌜ jobWords (now job) ≡ pass ⌝ }
     ensures { λ r. ⌜ rowVerdict r ≡ layoutWords (jobOf (now (job .entry))) (now (layouts .entry)) ⌝ }
@@ -66,5 +68,9 @@ pub fn layout_words(job: &[u16], layouts: &[u16]) -> Row
     if layouts.len() % PLACEMENT_WORDS != 0 {
         return Row::Refuses(1, lines + 1);
     }
-    lines_right(layouts, lines, head.types)
+    let limits = lines_right(layouts, lines, head.types);
+    let Row::Passes = limits else {
+        return limits;
+    };
+    permitted_row(job, layouts, lines)
 }

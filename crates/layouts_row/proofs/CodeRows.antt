@@ -1,20 +1,16 @@
 -- The checks of the layouts row in their order, on plain values; and what words that passed are.
-use mathlib.Core.Path.{_≡_, sym, ap, _∙_}
+use mathlib.Core.Path.{_≡_, _∙_}
 use Prim.Native.Nat.{ℕ, _*_, _≤_, _<_, _/_}
 use mathlib.Core.List.{List}
 use native.Mathlib.Omega.{arith}
 use borrow.Author.Tests.{lt-ltb, le-ltb}
 use lib.ListN.{length, getD}
-use Rattle.job.specs.declared.row.Row.{Row}
-use Rattle.job.specs.declared.row.Row.the-variants.{Passes, Refuses}
 use Rattle.job.specs.Sizes.{maxPieces, wordsOfPlacement, jobSize}
-use Rattle.job.specs.Row.{rowVerdict}
 use Rattle.job.specs.Verdict.{Verdict, pass, refuse, _then_, lowest}
 use Rattle.job.specs.Job.{Job, jobOf, jobWords}
 use Rattle.job.proofs.Verdicts.{then-assoc}
-use Rattle.job.proofs.CodeAdmission.{passed-length}
+use Rattle.job.proofs.CodeAdmission.{passed-length, passed-few}
 use Rattle.job.proofs.CodeItems.{items-length}
-use Rattle.job.proofs.CodeEnds.{then-stop, then-on}
 use Rattle.layouts.specs.Lines.{rowsOf, layoutWords, turns}
 use Rattle.layouts.specs.LayoutsRow.{lacks, layoutsRow}
 use Rattle.layouts.specs.Rules.{OfJob}
@@ -22,28 +18,20 @@ use Rattle.layouts.proofs.row.RowWords.{words-exact}
 use Rattle.placement.specs.PlacementRead.{placementAt}
 use Rattle.placement.proofs.Rows.{whole-rows}
 use Rattle.layouts_lines.proofs.CodeLimits.{whole-lines, passed-item}
-use Rattle.layouts_strips.specs.Measures.{LentLines}
+use Rattle.layouts_strips.specs.Measures.{Typed, LentLines}
 use Rattle.layouts_row.specs.RowParts.{stripsRow}
-
--- a check of the code that says u, and those after it
-module _ {r : Row} {u : Verdict} (says : rowVerdict r ≡ u) (w : Verdict) where
-  pub row-stops : {number place : ℕ} → r ≡ Refuses number place → rowVerdict r ≡ (u then w)
-  row-stops {number} {place} e = then-stop w number place says (ap rowVerdict e)
-
-pub row-goes-on : {r : Row} {u v w : Verdict} → rowVerdict r ≡ u → r ≡ Passes → v ≡ w → v ≡ (u then w)
-row-goes-on says e h = then-on (sym says ∙ ap rowVerdict e) h
 
 -- words that passed are whole lines ..
 pub passed-whole : (job : Job) (ws : List ℕ) → layoutWords job ws ≡ pass → length ws ≡ wordsOfPlacement * (length ws / wordsOfPlacement)
 passed-whole job ws p = whole-lines ws (words-exact job ws .0 p .0)
 
--- .. of item types of the job
-pub passed-typed : (job ws : List ℕ) (lines : ℕ) → jobWords job ≡ pass → layoutWords (jobOf job) ws ≡ pass → length ws ≡ wordsOfPlacement * lines → (c : ℕ) → c < lines → (1 ≤ placementAt ws c .item) × (jobSize (placementAt ws c .item) ≤ length job)
+-- .. of item types of the job, in a position
+pub passed-typed : (job ws : List ℕ) (lines : ℕ) → jobWords job ≡ pass → layoutWords (jobOf job) ws ≡ pass → length ws ≡ wordsOfPlacement * lines → (c : ℕ) → c < lines → Typed job (placementAt ws c .item)
 passed-typed job ws lines j p whole c h =
     let t : OfJob (jobOf job) (placementAt ws c .item) = passed-item (jobOf job) ws lines c p whole h in
     let l : length job ≡ jobSize (getD job 4 0) = passed-length job j in
     let n : length (jobOf job .items) ≡ getD job 4 0 = items-length job (getD job 4 0) l in
-    (t .0, omega (arith, t .1))
+    record { from-one = t .type .0; words = omega (arith, t .type .1); few = omega (arith, t .type .1, passed-few job j) }
 
 pub passed-lent : (job ws : List ℕ) → jobWords job ≡ pass → layoutWords (jobOf job) ws ≡ pass → length ws / wordsOfPlacement ≤ maxPieces → LentLines job ws (length ws / wordsOfPlacement)
 passed-lent job ws j p few =

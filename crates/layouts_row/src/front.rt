@@ -9,7 +9,7 @@ use job::admit::job_words;
 use job::row::Row;
 use layouts_lines::limits::layout_words;
 
-// 1 and 2 of the job's words, 1 and 2 of the layout words, naming the line, and 3 and 4 of the job.
+// 1 and 2 of the job's words; 1, 2 and 19 of the layout words, naming the line; 3 and 4 of the job.
 pub fn layout_checks(job: &[u16], layouts: &[u16]) -> Row
     ensures { λ r. ⌜ rowVerdict r ≡ (jobWords (now (job .entry)) then layoutWords (jobOf (now (job .entry))) (now (layouts .entry)) then admission (jobOf (now (job .entry)))) ⌝ }
 {

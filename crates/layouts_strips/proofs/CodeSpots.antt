@@ -1,4 +1,4 @@
--- Item positions line by line: they are those of the lines of the set that the lines make.
+-- Position positions line by line: they are those of the lines of the set that the lines make.
 use mathlib.Core.Path.{_≡_, refl, sym, ap, _∙_}
 use Prim.Native.Nat.{ℕ, suc, _+_, _*_, _≤_, _<_, max}
 use mathlib.Core.Bool.{true, false, _&&_}
@@ -9,10 +9,10 @@ use borrow.Author.Tests.{eq-eqb, ne-eqb}
 use lib.Dec.{eqb}
 use lib.ListN.{length, drop}
 use Rattle.job.specs.Sizes.{wordsOfPlacement}
-use Rattle.job.specs.declared.item.Item.{Item}
+use Rattle.job.specs.declared.item.Position.{Position}
 use Rattle.job.specs.Lists.{sumOf, maxOf}
 use Rattle.job.specs.Verdict.{Verdict, pass, refuse}
-use Rattle.job.specs.Job.{Job, itemAt}
+use Rattle.job.specs.Job.{Job, positionAt}
 use Rattle.layouts.specs.Layout.{Stack, Strip, Board, widthOf, heightOf, stackWidth, stackHeight, stripHeight}
 use Rattle.layouts.specs.Placement.{Turn, turn, Placement, stackLines, stripLines, boardLines, setLines, linesOf}
 use Rattle.layouts.specs.Lines.{Level, stack, strip, board, begun, rowsOf, inStrip, inBoard, inSet, beside, before, grouped}
@@ -52,11 +52,11 @@ module _ (job : Job) where
   -- the further lines of a stack that an item lies in
   same-rest :
       (t : Turn) (i : ℕ) (s : Spot) (k : Stack) (ks : Strip) (ss : Board) (bs : List Board)
-      → rest t s (i ∷ k) ks ss bs ≡ lineOn t i s ∷ rest (nextTurn none t) (putOn s (itemAt job i)) k ks ss bs
+      → rest t s (i ∷ k) ks ss bs ≡ lineOn t i s ∷ rest (nextTurn none t) (putOn s (positionAt job i)) k ks ss bs
   unfolding stackLines stackWidth stackHeight maxOf sumOf widthOf heightOf
   same-rest t i s k ks ss bs =
-      let w = itemAt job i .width in
-      let h = itemAt job i .height in
+      let w = positionAt job i .width in
+      let h = positionAt job i .height in
       let a : max (s .width) (max w (maxOf (widthOf job) k)) ≡ max (max (s .width) w) (maxOf (widthOf job) k) = omega arith in
       let b : max (s .top) (max (s .y + (h + sumOf (heightOf job) k)) (s .base + stripHeight job ks)) ≡ max (max (s .top) (s .y + h)) (max (s .y + h + sumOf (heightOf job) k) (s .base + stripHeight job ks)) = omega arith in
       rw (a, b)
@@ -64,7 +64,7 @@ module _ (job : Job) where
   -- where the lines after an item go on with its stack
   lines-place :
       (t : Turn) (i : ℕ) (s : Spot) (bs : List Board)
-      → linesFrom t s (inSet i bs) ≡ lineOn t i s ∷ linesFrom (nextTurn none t) (putOn s (itemAt job i)) bs
+      → linesFrom t s (inSet i bs) ≡ lineOn t i s ∷ linesFrom (nextTurn none t) (putOn s (positionAt job i)) bs
   unfolding inSet inBoard inStrip
   lines-place t i s [] = same-rest t i s [] [] [] []
   lines-place t i s ([] ∷ bs) = same-rest t i s [] [] [] bs
@@ -125,24 +125,24 @@ module _ (job : Job) where
   -- where they begin a stack, a strip, a board
   lines-stack :
       (t : Turn) (i : ℕ) (s : Spot) (bs : List Board)
-      → linesFrom t s (before stack (i ∷ []) bs) ≡ lineOn t i s ∷ linesFrom (nextTurn (some stack) t) (movedTo (some stack) (putOn s (itemAt job i))) bs
+      → linesFrom t s (before stack (i ∷ []) bs) ≡ lineOn t i s ∷ linesFrom (nextTurn (some stack) t) (movedTo (some stack) (putOn s (positionAt job i))) bs
   unfolding before beside stackLines stripLines boardLines setLines
   lines-stack t i s [] = refl
   lines-stack t i s ([] ∷ bs) = refl
-  lines-stack t i s ((ks ∷ ss) ∷ bs) = same-rest t i s [] ks ss bs ∙ ap (λ (l : List Placement). lineOn t i s ∷ l) (stack-opened t (putOn s (itemAt job i)) ks ss bs (omega arith))
+  lines-stack t i s ((ks ∷ ss) ∷ bs) = same-rest t i s [] ks ss bs ∙ ap (λ (l : List Placement). lineOn t i s ∷ l) (stack-opened t (putOn s (positionAt job i)) ks ss bs (omega arith))
 
   lines-strip :
       (t : Turn) (i : ℕ) (s : Spot) (bs : List Board)
       → s .base ≤ s .top
-      → linesFrom t s (before strip (i ∷ []) bs) ≡ lineOn t i s ∷ linesFrom (nextTurn (some strip) t) (movedTo (some strip) (putOn s (itemAt job i))) bs
+      → linesFrom t s (before strip (i ∷ []) bs) ≡ lineOn t i s ∷ linesFrom (nextTurn (some strip) t) (movedTo (some strip) (putOn s (positionAt job i))) bs
   unfolding before stackLines stripLines boardLines setLines
   lines-strip t i s [] h = refl
   lines-strip t i s (ss ∷ bs) h =
-      same-rest t i s [] [] ss bs ∙ ap (λ (l : List Placement). lineOn t i s ∷ l) (strip-opened t (putOn s (itemAt job i)) ss bs (omega arith) (omega arith))
+      same-rest t i s [] [] ss bs ∙ ap (λ (l : List Placement). lineOn t i s ∷ l) (strip-opened t (putOn s (positionAt job i)) ss bs (omega arith) (omega arith))
 
   lines-board :
       (t : Turn) (i : ℕ) (s : Spot) (bs : List Board)
-      → linesFrom t s (before board (i ∷ []) bs) ≡ lineOn t i s ∷ linesFrom (nextTurn (some board) t) (movedTo (some board) (putOn s (itemAt job i))) bs
+      → linesFrom t s (before board (i ∷ []) bs) ≡ lineOn t i s ∷ linesFrom (nextTurn (some board) t) (movedTo (some board) (putOn s (positionAt job i))) bs
   unfolding before stackLines stripLines boardLines setLines
   lines-board t i s [] = refl
   lines-board t i s (b ∷ bs) = ap (λ (l : List Placement). lineOn t i s ∷ l) (from-board (t .board) (b ∷ bs))
@@ -151,11 +151,11 @@ module _ (job : Job) where
   lines-step :
       (t : Turn) (s : Spot) (r : Placement) (rs : List Placement)
       → s .base ≤ s .top
-      → linesFrom t s (grouped (r ∷ rs)) ≡ lineOn t (r .item) s ∷ linesFrom (nextTurn (begun rs) t) (movedTo (begun rs) (putOn s (itemAt job (r .item)))) (grouped rs)
+      → linesFrom t s (grouped (r ∷ rs)) ≡ lineOn t (r .item) s ∷ linesFrom (nextTurn (begun rs) t) (movedTo (begun rs) (putOn s (positionAt job (r .item)))) (grouped rs)
   lines-step t s r rs h = go (begun rs) refl
     where
       go : (o : Option Level) → begun rs ≡ o
-          → linesFrom t s (grouped (r ∷ rs)) ≡ lineOn t (r .item) s ∷ linesFrom (nextTurn o t) (movedTo o (putOn s (itemAt job (r .item)))) (grouped rs)
+          → linesFrom t s (grouped (r ∷ rs)) ≡ lineOn t (r .item) s ∷ linesFrom (nextTurn o t) (movedTo o (putOn s (positionAt job (r .item)))) (grouped rs)
       go none e = ap (linesFrom t s) (grouped-on r rs e) ∙ lines-place t (r .item) s (grouped rs)
       go (some stack) e = ap (linesFrom t s) (grouped-new r rs stack e) ∙ lines-stack t (r .item) s (grouped rs)
       go (some strip) e = ap (linesFrom t s) (grouped-new r rs strip e) ∙ lines-strip t (r .item) s (grouped rs) h
@@ -167,7 +167,7 @@ module _ (job : Job) where
   spotted k s (r ∷ rs) =
       elim (eqb (r .x) (s .x) && eqb (r .y) (s .y)) [
         | false ↦ refuse 18 k
-        | true ↦ spotted (suc k) (movedTo (begun rs) (putOn s (itemAt job (r .item)))) rs
+        | true ↦ spotted (suc k) (movedTo (begun rs) (putOn s (positionAt job (r .item)))) rs
       ]
 
   based : (o : Option Level) (s : Spot) → s .base ≤ s .top → movedTo o s .base ≤ movedTo o s .top
@@ -180,10 +180,10 @@ module _ (job : Job) where
   unfolding positioned spotted
   spotted-lines k t s [] h = refl
   spotted-lines k t s (r ∷ rs) h =
-      let next = movedTo (begun rs) (putOn s (itemAt job (r .item))) in
+      let next = movedTo (begun rs) (putOn s (positionAt job (r .item))) in
       ap (positioned k (r ∷ rs)) (lines-step t s r rs h)
       ∙ ap (λ (v : Verdict). elim (eqb (r .x) (s .x) && eqb (r .y) (s .y)) as (λ _. Verdict) [ false ↦ refuse 18 k | true ↦ v ])
-      (spotted-lines (suc k) (nextTurn (begun rs) t) next rs (based (begun rs) (putOn s (itemAt job (r .item))) (omega arith)))
+      (spotted-lines (suc k) (nextTurn (begun rs) t) next rs (based (begun rs) (putOn s (positionAt job (r .item))) (omega arith)))
 
   -- from the first line on
   spotted-whole : (k : ℕ) (rs : List Placement) → positioned k rs (linesOf job (grouped rs)) ≡ spotted k (spot 0 0 0 0 0) rs
@@ -202,7 +202,7 @@ module _ (job : Job) where
     unfolding spotted
     spotted-y e h = rw (eq-eqb (r .x) (s .x) e, ne-eqb (r .y) (s .y) h, spotted)
 
-    spotted-on : r .x ≡ s .x → r .y ≡ s .y → spotted k s (r ∷ rs) ≡ spotted (suc k) (movedTo (begun rs) (putOn s (itemAt job (r .item)))) rs
+    spotted-on : r .x ≡ s .x → r .y ≡ s .y → spotted k s (r ∷ rs) ≡ spotted (suc k) (movedTo (begun rs) (putOn s (positionAt job (r .item)))) rs
     unfolding spotted
     spotted-on e h = rw (eq-eqb (r .x) (s .x) e, eq-eqb (r .y) (s .y) h, spotted)
 
@@ -222,17 +222,17 @@ module _ (job : Job) where
       pub off-up : r .x ≡ s .x → (r .y ≡ s .y → ⊥) → refuse 18 (k + c) ≡ whole
       off-up e d = sym (at-line ∙ spotted-y (k + c) s r (drop (c + 1) (rowsOf ws)) e d)
 
-      pub spots-next : r .x ≡ s .x → r .y ≡ s .y → {s′ : Spot} → s′ ≡ movedTo (begun (drop (c + 1) (rowsOf ws))) (putOn s (itemAt job (placementAt ws c .item))) → whole ≡ spotted (k + (c + 1)) s′ (drop (c + 1) (rowsOf ws))
+      pub spots-next : r .x ≡ s .x → r .y ≡ s .y → {s′ : Spot} → s′ ≡ movedTo (begun (drop (c + 1) (rowsOf ws))) (putOn s (positionAt job (placementAt ws c .item))) → whole ≡ spotted (k + (c + 1)) s′ (drop (c + 1) (rowsOf ws))
       spots-next a b e =
           let q : k + (c + 1) ≡ suc (k + c) = omega arith in
           at-line ∙ spotted-on (k + c) s r (drop (c + 1) (rowsOf ws)) a b ∙ rw (q, e, read)
 
 -- the spot of the next line, as the code makes it
-pub spot-said : (b : Option Level) {o : Option Level} (s : Spot) {p r : Spot} {it it′ : Item} → r ≡ movedTo b p → b ≡ o → p ≡ putOn s it → it ≡ it′ → r ≡ movedTo o (putOn s it′)
+pub spot-said : (b : Option Level) {o : Option Level} (s : Spot) {p r : Spot} {it it′ : Position} → r ≡ movedTo b p → b ≡ o → p ≡ putOn s it → it ≡ it′ → r ≡ movedTo o (putOn s it′)
 spot-said b s e f g h = rw (← f, ← h, ← g) e
 
 -- limits
-pub put-small : {c : ℕ} {s p : Spot} (it : Item) → SpotSmall c s → it .width ≤ maxWord → it .height ≤ maxWord → p ≡ putOn s it → SpotSmall (c + 1) p
+pub put-small : {c : ℕ} {s p : Spot} (it : Position) → SpotSmall c s → it .width ≤ maxWord → it .height ≤ maxWord → p ≡ putOn s it → SpotSmall (c + 1) p
 put-small it q a b e = rw e (record { across = omega arith; up = omega arith; below = omega arith; high = omega arith })
 
 pub moved-small : (o : Option Level) {c : ℕ} {s r : Spot} → SpotSmall c s → r ≡ movedTo o s → SpotSmall c r

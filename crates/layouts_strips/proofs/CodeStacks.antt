@@ -1,6 +1,6 @@
 -- The lines of a stack, item by item: what has been measured, and the items that are left.
 use mathlib.Core.Path.{_≡_, refl, sym, ap, _∙_}
-use Prim.Native.Nat.{ℕ, _+_, _*_, _≤_, _<_, max}
+use Prim.Native.Nat.{ℕ, _+_, _*_, _^_, _≤_, _<_, max}
 use mathlib.Core.Bool.{Bool, true, false, _&&_}
 use mathlib.Core.List.{List, [], _∷_}
 use mathlib.Core.Option.{Option, none, some}
@@ -9,15 +9,15 @@ use borrow.Author.Tests.{eqb-true, eq-eqb}
 use lib.Dec.{eqb}
 use lib.ListN.{length, drop}
 use Rattle.job.specs.Sizes.{wordsOfPlacement, jobSize}
-use Rattle.job.specs.declared.item.Item.{Item}
+use Rattle.job.specs.declared.item.Position.{Position}
 use Rattle.job.specs.Lists.{all, sumOf, maxOf}
-use Rattle.job.specs.Job.{Job, itemAt}
+use Rattle.job.specs.Job.{Job, typeOf, positionAt}
+use Rattle.job.proofs.Positions.{type-turn, turn-small}
 use Rattle.job.proofs.Tests.{not-both, same-test, and-left, and-right, and-both}
 use Rattle.job.proofs.Lists.{all-cons}
 use Rattle.layouts.specs.Layout.{Stack, widthOf, heightOf, stackWidth, stackHeight, sameWidths}
-use Rattle.layouts.specs.Placement.{Placement}
-use Rattle.layouts.specs.Lines.{Level, begun, rowsOf}
-use Rattle.placement.specs.PlacementRead.{placementAt}
+use Rattle.layouts.specs.Lines.{Line, Level, begun, rowsOf}
+use Rattle.placement.specs.PlacementRead.{placementAt, lineAt}
 use Rattle.placement.proofs.Rows.{rows-from}
 use Rattle.layouts_strips.specs.declared.stack.StackMeasure.{StackMeasure}
 use Rattle.layouts_strips.specs.Begun.{goesOn}
@@ -57,7 +57,7 @@ and-true true = refl
 and-true false = refl
 
 -- a stack of one item, behind c lines
-abbrev pub oneItem : ℕ → Item → StackMeasure
+abbrev pub oneItem : ℕ → Position → StackMeasure
 oneItem c it = record { end = c + 1; width = it .width; height = it .height; even = true }
 
 -- the items of a stack that are left from the line behind e others on
@@ -76,7 +76,7 @@ module _ (job : Job) where
   -- items put on a stack, one after another
   unfoldable pub itemsOn : StackMeasure → List ℕ → StackMeasure
   itemsOn m [] = m
-  itemsOn m (i ∷ is) = itemsOn (itemOn m (itemAt job i)) is
+  itemsOn m (i ∷ is) = itemsOn (itemOn m (positionAt job i)) is
 
   -- a further item keeps the width only if it has it
   even-on : (e : Bool) (w x : ℕ) (is : List ℕ) → (e && eqb x w) && all (λ i. eqb (widthOf job i) (max w x)) is ≡ (e && (eqb x w && all (λ i. eqb (widthOf job i) w) is))
@@ -90,35 +90,35 @@ module _ (job : Job) where
   on-end : (m : StackMeasure) (is : List ℕ) → itemsOn m is .end ≡ m .end + length is
   unfolding itemsOn
   on-end m [] = omega arith
-  on-end m (i ∷ is) = let e = on-end (itemOn m (itemAt job i)) is in omega arith
+  on-end m (i ∷ is) = let e = on-end (itemOn m (positionAt job i)) is in omega arith
 
   on-width : (m : StackMeasure) (is : List ℕ) → itemsOn m is .width ≡ max (m .width) (maxOf (widthOf job) is)
   unfolding itemsOn maxOf widthOf
   on-width m [] = omega arith
-  on-width m (i ∷ is) = let e = on-width (itemOn m (itemAt job i)) is in omega arith
+  on-width m (i ∷ is) = let e = on-width (itemOn m (positionAt job i)) is in omega arith
 
   on-height : (m : StackMeasure) (is : List ℕ) → itemsOn m is .height ≡ m .height + sumOf (heightOf job) is
   unfolding itemsOn sumOf heightOf
   on-height m [] = omega arith
-  on-height m (i ∷ is) = let e = on-height (itemOn m (itemAt job i)) is in omega arith
+  on-height m (i ∷ is) = let e = on-height (itemOn m (positionAt job i)) is in omega arith
 
   on-even : (m : StackMeasure) (is : List ℕ) → itemsOn m is .even ≡ (m .even && all (λ i. eqb (widthOf job i) (m .width)) is)
   unfolding itemsOn all widthOf
   on-even m [] = and-true (m .even)
   on-even m (i ∷ is) =
-      on-even (itemOn m (itemAt job i)) is
-      ∙ even-on (m .even) (m .width) (itemAt job i .width) is
+      on-even (itemOn m (positionAt job i)) is
+      ∙ even-on (m .even) (m .width) (positionAt job i .width) is
       ∙ ap (λ (t : Bool). m .even && t) (sym (all-cons (λ j. eqb (widthOf job j) (m .width)) i is))
 
   -- with the further items on it, it has the measures of the stack
-  stack-measured : (c i : ℕ) (is : List ℕ) → StackIs job c (i ∷ is) (itemsOn (oneItem c (itemAt job i)) is)
+  stack-measured : (c i : ℕ) (is : List ℕ) → StackIs job c (i ∷ is) (itemsOn (oneItem c (positionAt job i)) is)
   unfolding stackWidth stackHeight sameWidths widthOf heightOf maxOf sumOf
   stack-measured c i is =
       record {
-        ended = omega (arith, on-end (oneItem c (itemAt job i)) is);
-        wide = on-width (oneItem c (itemAt job i)) is;
-        high = on-height (oneItem c (itemAt job i)) is;
-        evenly = on-even (oneItem c (itemAt job i)) is ∙ same-first (widthOf job) i is;
+        ended = omega (arith, on-end (oneItem c (positionAt job i)) is);
+        wide = on-width (oneItem c (positionAt job i)) is;
+        high = on-height (oneItem c (positionAt job i)) is;
+        evenly = on-even (oneItem c (positionAt job i)) is ∙ same-first (widthOf job) i is;
       }
 
   module _ (ws : List ℕ) (n c : ℕ) (e : length ws ≡ wordsOfPlacement * n) (h : c < n) where
@@ -126,20 +126,20 @@ module _ (job : Job) where
     stack-line = rw (rows-from ws n c e h) (stack-items (placementAt ws c) (drop (c + 1) (rowsOf ws)))
 
     -- the first item, and the items that are left
-    pub stack-begins : {it : Item} {m : StackMeasure} → it ≡ itemAt job (placementAt ws c .item) → m ≡ oneItem c it → StackIs job c (stackOf (drop c (rowsOf ws))) (itemsOn m (itemsLeft ws (c + 1)))
+    pub stack-begins : {it : Position} {m : StackMeasure} → it ≡ positionAt job (placementAt ws c .item) → m ≡ oneItem c it → StackIs job c (stackOf (drop c (rowsOf ws))) (itemsOn m (itemsLeft ws (c + 1)))
     stack-begins f g = rw (stack-line, g, f) (stack-measured c (placementAt ws c .item) (itemsLeft ws (c + 1)))
 
     -- the line at which the stack goes on is the next item
-    stack-goes-on : {it : Item} {b : Bool} (m : StackMeasure) → it ≡ itemAt job (placementAt ws c .item) → b ≡ goesOn (begun (drop c (rowsOf ws))) → b ≡ true → itemsOn m (itemsLeft ws c) ≡ itemsOn (itemOn m it) (itemsLeft ws (c + 1))
+    stack-goes-on : {it : Position} {b : Bool} (m : StackMeasure) → it ≡ positionAt job (placementAt ws c .item) → b ≡ goesOn (begun (drop c (rowsOf ws))) → b ≡ true → itemsOn m (itemsLeft ws c) ≡ itemsOn (itemOn m it) (itemsLeft ws (c + 1))
     unfolding itemsOn
     stack-goes-on m f t u =
         rw (goes-on-none (begun (drop c (rowsOf ws))) (stackOf (drop c (rowsOf ws))) (sym t ∙ u), stack-line, f)
 
   pub stack-next :
-      (ws : List ℕ) (n c : ℕ) (m : StackMeasure) {k : Stack} {it : Item} {b : Bool} {m′ : StackMeasure}
+      (ws : List ℕ) (n c : ℕ) (m : StackMeasure) {k : Stack} {it : Position} {b : Bool} {m′ : StackMeasure}
       → length ws ≡ wordsOfPlacement * n
       → m .end < n
-      → it ≡ itemAt job (placementAt ws (m .end) .item)
+      → it ≡ positionAt job (placementAt ws (m .end) .item)
       → b ≡ goesOn (begun (drop (m .end) (rowsOf ws)))
       → b ≡ true
       → m′ ≡ itemOn m it
@@ -153,12 +153,18 @@ module _ (job : Job) where
   stack-ends ws c e t u s = rw (goes-not (begun (drop e (rowsOf ws))) (stackOf (drop e (rowsOf ws))) (sym t ∙ u)) at s
 
 -- the measures stay small
-pub small-next : {c n : ℕ} {m m′ : StackMeasure} (it : Item) → StackSmall c n m → m .end < n → it .width ≤ maxWord → it .height ≤ maxWord → m′ ≡ itemOn m it → StackSmall c n m′
+pub small-next : {c n : ℕ} {m m′ : StackMeasure} (it : Position) → StackSmall c n m → m .end < n → it .width ≤ maxWord → it .height ≤ maxWord → m′ ≡ itemOn m it → StackSmall c n m′
 small-next it s h a b e = rw e (record { begun = omega arith; inside = omega arith; narrow = omega arith; low = omega arith })
 
--- the item of a line that is lent
-pub lent-item : {job ws : List ℕ} {n c : ℕ} → LentLines job ws n → c < n → {r : Placement} → r ≡ placementAt ws c → (1 ≤ r .item) × (jobSize (r .item) ≤ length job)
-lent-item {job} {ws} {n} {c} l h e = rw e (l .typed c h)
+-- the item of a line that is lent: its number is small, and the words of its type are there
+pub lent-small : {job ws : List ℕ} {n : ℕ} → LentLines job ws n → (c : ℕ) → c < n → placementAt ws c .item < 2 ^ 16
+lent-small {job} {ws} l c h = omega (arith, l .typed c h .few, type-turn (placementAt ws c .item), turn-small (placementAt ws c .item))
 
-pub item-said : (job : Job) {it : Item} {r p : Placement} → it ≡ itemAt job (r .item) → r ≡ p → it ≡ itemAt job (p .item)
-item-said job f e = f ∙ ap (λ (q : Placement). itemAt job (q .item)) e
+pub small-read : {l m : Line} → l ≡ m → m .placement .item < 2 ^ 16 → l .placement .item < 2 ^ 16
+small-read e h = rw e h
+
+pub lent-item : {job ws : List ℕ} {n c : ℕ} → LentLines job ws n → c < n → {l : Line} {q : ℕ} → l ≡ lineAt ws c → q ≡ l .placement .item → (1 ≤ typeOf q) × (jobSize (typeOf q) ≤ length job)
+lent-item {job} {ws} {n} {c} l h e f = rw (f, e) (l .typed c h .from-one, l .typed c h .words)
+
+pub item-said : (job : Job) (ws : List ℕ) (c : ℕ) {q : ℕ} {it : Position} {l : Line} → it ≡ positionAt job q → q ≡ l .placement .item → l ≡ lineAt ws c → it ≡ positionAt job (placementAt ws c .item)
+item-said job ws c f g e = f ∙ ap (positionAt job) (g ∙ ap (λ (l : Line). l .placement .item) e)

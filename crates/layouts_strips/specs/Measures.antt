@@ -5,9 +5,9 @@ use mathlib.Core.Bool.{_&&_}
 use lib.Dec.{eqb}
 use mathlib.Core.List.{List}
 use lib.ListN.{length}
-use Rattle.job.specs.Sizes.{maxPieces, wordsOfHead, wordsOfPlacement, jobSize}
-use Rattle.job.specs.declared.item.Item.{Item}
-use Rattle.job.specs.Job.{Job}
+use Rattle.job.specs.Sizes.{maxTypes, maxPieces, wordsOfHead, wordsOfPlacement, jobSize}
+use Rattle.job.specs.declared.item.Position.{Position}
+use Rattle.job.specs.Job.{Job, typeOf}
 use Rattle.layouts.specs.Layout.{Stack, Strip, stackWidth, stackHeight, stripWidth, stripHeight, sameWidths}
 use Rattle.layouts.specs.Placement.{itemsOfStrip}
 use Rattle.placement.specs.PlacementRead.{placementAt}
@@ -18,15 +18,21 @@ use Rattle.layouts_strips.specs.declared.strip.StripMeasure.{StripMeasur
 abbrev pub maxWord : ℕ
 maxWord = 65535
 
+-- an item in position q is of an item type whose words the job has, of which there are at most 40
+pub record Typed (job : List ℕ) (q : ℕ) : Type 0 where
+  pub from-one : 1 ≤ typeOf q
+  pub words : jobSize (typeOf q) ≤ length job
+  pub few : typeOf q ≤ maxTypes
+
 -- the job has the words of its board, and the layout words lent are whole lines, at most 4,000, each of an item type of the job
 pub record LentLines (job layouts : List ℕ) (lines : ℕ) : Type 0 where
   pub board : wordsOfHead ≤ length job
   pub whole : length layouts ≡ wordsOfPlacement * lines
   pub few : lines ≤ maxPieces
-  pub typed : (c : ℕ) → c < lines → (1 ≤ placementAt layouts c .item) × (jobSize (placementAt layouts c .item) ≤ length job)
+  pub typed : (c : ℕ) → c < lines → Typed job (placementAt layouts c .item)
 
 -- one item more on a stack
-abbrev pub itemOn : StackMeasure → Item → StackMeasure
+abbrev pub itemOn : StackMeasure → Position → StackMeasure
 itemOn m it =
     record {
       end = m .end + 1;

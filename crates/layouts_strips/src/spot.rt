@@ -3,7 +3,7 @@ ghost use mathlib.Core.Path.{_≡_};
 ghost use Prim.Native.Nat.{_+_, _*_, _≤_, _<_, _^_};
 ghost use lib.ListN.{drop};
 ghost use Rattle.job.specs.Sizes.{maxPieces};
-ghost use Rattle.job.specs.Job.{jobOf, itemAt};
+ghost use Rattle.job.specs.Job.{jobOf, positionAt};
 ghost use Rattle.layouts.specs.Lines.{rowsOf, begun};
 ghost use Rattle.placement.specs.PlacementRead.{placementAt};
 ghost use Rattle.layouts_strips.specs.Begun.{levelIn};
@@ -13,7 +13,7 @@ use crate::begins::Begins;
 use crate::begins::begins_at;
 use crate::stack::greater;
 use crate::stack::item_of;
-use job::item::Item;
+use job::item::Position;
 
 // The position of the next item of a stack; the strip's lower edge, the stack's width so far, and the strip's upper edge so far.
 pub struct Spot {
@@ -25,7 +25,7 @@ pub struct Spot {
 }
 
 // What is known after an item lies there.
-fn put(spot: Spot, item: Item) -> Spot
+fn put(spot: Spot, item: Position) -> Spot
     requires { ⌜ spot .y ≤ maxWord * maxPieces ⌝ }
     ensures { λ r. ⌜ r ≡ putOn spot item ⌝ }
 {
@@ -74,7 +74,7 @@ fn moved(spot: Spot, begins: Begins) -> Spot
 // The spot of the line after the one behind c others, whose item lies at a spot.
 pub fn next_spot(job: &[u16], layouts: &[u16], lines: usize, c: usize, spot: Spot) -> Spot
     requires { ⌜ (LentLines (now job) (now layouts) lines) × ((c < lines) × (SpotSmall c spot)) ⌝ }
-    ensures { λ r. ⌜ (r ≡ movedTo (begun (drop (c + 1) (rowsOf (now (layouts .entry))))) (putOn spot (itemAt (jobOf (now (job .entry))) (placementAt (now (layouts .entry)) c .item)))) × (SpotSmall (c + 1) r) ⌝ }
+    ensures { λ r. ⌜ (r ≡ movedTo (begun (drop (c + 1) (rowsOf (now (layouts .entry))))) (putOn spot (positionAt (jobOf (now (job .entry))) (placementAt (now (layouts .entry)) c .item)))) × (SpotSmall (c + 1) r) ⌝ }
 {
     let item = item_of(job, layouts, lines, c);
     let placed = put(spot, item);

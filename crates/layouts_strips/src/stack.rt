@@ -3,14 +3,14 @@ ghost use mathlib.Core.Path.{_≡_};
 ghost use Prim.Native.Nat.{_*_, _≤_, _<_, max};
 ghost use lib.ListN.{drop};
 ghost use Rattle.job.specs.Sizes.{maxPieces};
-ghost use Rattle.job.specs.Job.{jobOf, itemAt};
+ghost use Rattle.job.specs.Job.{jobOf, positionAt};
 ghost use Rattle.layouts.specs.Lines.{rowsOf};
 ghost use Rattle.placement.specs.PlacementRead.{placementAt};
 ghost use Rattle.layouts_strips.specs.First.{stackOf};
 ghost use Rattle.layouts_strips.specs.Measures.{maxWord, LentLines, StackIs, StackSmall, itemOn};
 use crate::begins::goes_on;
-use job::item::Item;
-use job::words::item_at;
+use job::item::Position;
+use job::position::position_at;
 use placement::placement_at;
 
 // A stack: the line behind its last, its width and its height, and whether all its items are equally wide.
@@ -31,17 +31,17 @@ pub fn greater(a: u32, b: u32) -> u32
     a
 }
 
-// The item of the line behind c others.
-pub fn item_of(job: &[u16], layouts: &[u16], lines: usize, c: usize) -> Item
+// The item of the line behind c others, as it lies.
+pub fn item_of(job: &[u16], layouts: &[u16], lines: usize, c: usize) -> Position
     requires { ⌜ (LentLines (now job) (now layouts) lines) × (c < lines) ⌝ }
-    ensures { λ r. ⌜ r ≡ itemAt (jobOf (now (job .entry))) (placementAt (now (layouts .entry)) c .item) ⌝ }
+    ensures { λ r. ⌜ r ≡ positionAt (jobOf (now (job .entry))) (placementAt (now (layouts .entry)) c .item) ⌝ }
 {
     let line = placement_at(layouts, c);
-    item_at(job, line.item)
+    position_at(job, line.position())
 }
 
 // A stack with one item more on it.
-fn with_item(m: StackMeasure, item: Item) -> StackMeasure
+fn with_item(m: StackMeasure, item: Position) -> StackMeasure
     requires { ⌜ (m .end ≤ maxPieces) × (m .height ≤ maxWord * maxPieces) ⌝ }
     ensures { λ r. ⌜ r ≡ itemOn m item ⌝ }
 {

@@ -5,8 +5,8 @@ use mathlib.Core.Logic.{_⊎_, inl, inr}
 use mathlib.Core.Bool.{Bool, true, false}
 use mathlib.Core.List.{List, [], _∷_}
 use lib.ListN.{length}
-use Rattle.job.specs.declared.item.Item.{Item}
-use Rattle.job.specs.Job.{Job}
+use Rattle.job.specs.declared.item.Position.{Position}
+use Rattle.job.specs.Job.{Job, positions}
 use Rattle.job.proofs.Tests.{at-most-or-above}
 use Rattle.listing.specs.declared.plate.Plate.{Plate}
 use Rattle.listing.specs.declared.plate.Residuals.{Residuals}
@@ -18,7 +18,7 @@ use Rattle.listing.proofs.Steps.{going-one, going-not-stopped, limited-
 module _ (P C : ℕ) (job : Job) where
   -- a pair after which the walk goes on was not permitted, or is the next cut, within both limits
   pub pair-goes :
-      (j : ℕ) (p : Plate) (i : ℕ) (it : Item) (l l′ : Listing)
+      (j : ℕ) (p : Plate) (i : ℕ) (it : Position) (l l′ : Listing)
       → pair P C job j p i it l ≡ going l′
       → (l′ ≡ l) ⊎ ((l′ ≡ cutDone job j i (leaves (job .mode) it p) l) × (length (l′ .plates) ≤ P) × (length (l′ .cuts) ≤ C))
   pair-goes j p i it l l′ e = go (mayCut (job .mode) it p) refl (at-most-or-above (length (next .cuts)) C) (at-most-or-above (length (next .plates)) P)
@@ -44,8 +44,8 @@ module _ (P C : ℕ) (job : Job) where
       (Q : Listing → Listing → Type 0)
       (none : (l : Listing) → Q l l)
       (both : (l l′ l″ : Listing) → Q l l′ → Q l′ l″ → Q l l″)
-      (step : (j : ℕ) (p : Plate) (i : ℕ) (it : Item) (l l′ : Listing) → pair P C job j p i it l ≡ going l′ → Q l l′) where
-    pub items-keep : (j : ℕ) (p : Plate) (i : ℕ) (its : List Item) (l l′ : Listing) → overItems P C job j p i its l ≡ going l′ → Q l l′
+      (step : (j : ℕ) (p : Plate) (i : ℕ) (it : Position) (l l′ : Listing) → pair P C job j p i it l ≡ going l′ → Q l l′) where
+    pub items-keep : (j : ℕ) (p : Plate) (i : ℕ) (its : List Position) (l l′ : Listing) → overItems P C job j p i its l ≡ going l′ → Q l l′
     unfolding overItems
     items-keep j p i [] l l′ e = subst (Q l) (going-one refl e) (none l)
     items-keep j p i (it ∷ its) l l′ e = go (pair P C job j p i it l) refl (items-keep j p (suc i) its)
@@ -57,21 +57,21 @@ module _ (P C : ℕ) (job : Job) where
     pub plates-keep : (fuel j : ℕ) (l l′ : Listing) → overPlates P C job fuel j l ≡ going l′ → Q l l′
     unfolding overPlates
     plates-keep zero j l l′ e = subst (Q l) (going-one refl e) (none l)
-    plates-keep (suc fuel) j l l′ e = go (at-most-or-above (length (l .plates)) j) (overItems P C job j (plateAt l j) 1 (job .items) l) refl (plates-keep fuel (suc j))
+    plates-keep (suc fuel) j l l′ e = go (at-most-or-above (length (l .plates)) j) (overItems P C job j (plateAt l j) 1 (positions job) l) refl (plates-keep fuel (suc j))
       where
         go :
             (length (l .plates) ≤ j) ⊎ (j < length (l .plates))
             → (w : Walk)
-            → overItems P C job j (plateAt l j) 1 (job .items) l ≡ w
+            → overItems P C job j (plateAt l j) 1 (positions job) l ≡ w
             → ((m m′ : Listing) → overPlates P C job fuel (suc j) m ≡ going m′ → Q m m′)
             → Q l l′
         go (inl h) w f ih = subst (Q l) (going-one (plates-end P C job (suc fuel) j l h) e) (none l)
-        go (inr h) (going m) f ih = both l m l′ (items-keep j (plateAt l j) 1 (job .items) l m f) (ih m l′ (sym (plates-going P C job fuel j l m h f) ∙ e))
+        go (inr h) (going m) f ih = both l m l′ (items-keep j (plateAt l j) 1 (positions job) l m f) (ih m l′ (sym (plates-going P C job fuel j l m h f) ∙ e))
         go (inr h) (stopped n) f ih = absurd (going-not-stopped e (plates-stopped P C job fuel j l n h f))
 
-  -- item types keep the limit of plate types
+  -- positions keep the limit of plate types
   pub items-few :
-      (j : ℕ) (p : Plate) (i : ℕ) (its : List Item) (l l′ : Listing)
+      (j : ℕ) (p : Plate) (i : ℕ) (its : List Position) (l l′ : Listing)
       → length (l .plates) ≤ P
       → overItems P C job j p i its l ≡ going l′
       → length (l′ .plates) ≤ P
@@ -88,7 +88,7 @@ module _ (P C : ℕ) (job : Job) where
       go m m′ (inr s) h = s .1
 
   -- along the walk plate types and cuts keep their numbers
-  pair-grown : (j : ℕ) (p : Plate) (i : ℕ) (it : Item) (l l′ : Listing) → pair P C job j p i it l ≡ going l′ → Grown l l′
+  pair-grown : (j : ℕ) (p : Plate) (i : ℕ) (it : Position) (l l′ : Listing) → pair P C job j p i it l ≡ going l′ → Grown l l′
   pair-grown j p i it l l′ e = go (pair-goes j p i it l l′ e)
     where
       r : Residuals
@@ -98,7 +98,7 @@ module _ (P C : ℕ) (job : Job) where
       go (inl s) = rw s (grown-same l)
       go (inr s) = rw (s .0) (done-grown job j i r l)
 
-  pub items-grown : (j : ℕ) (p : Plate) (i : ℕ) (its : List Item) (l l′ : Listing) → overItems P C job j p i its l ≡ going l′ → Grown l l′
+  pub items-grown : (j : ℕ) (p : Plate) (i : ℕ) (its : List Position) (l l′ : Listing) → overItems P C job j p i its l ≡ going l′ → Grown l l′
   items-grown = items-keep Grown grown-same grown-trans pair-grown
 
   pub plates-grown : (fuel j : ℕ) (l l′ : Listing) → overPlates P C job fuel j l ≡ going l′ → Grown l l′

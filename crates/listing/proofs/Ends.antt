@@ -5,7 +5,7 @@ use mathlib.Core.Path.{_≡_, refl, _∙_}
 use mathlib.Core.Logic.{_⊎_, inl, inr}
 use mathlib.Core.Bool.{Bool, true, false}
 use lib.ListN.{length, drop}
-use Rattle.job.specs.Job.{Job, itemAt}
+use Rattle.job.specs.Job.{Job, positions, positionAt}
 use Rattle.job.proofs.Tests.{at-most-or-above}
 use Rattle.listing.specs.declared.plate.Residuals.{Residuals}
 use Rattle.listing.specs.Plate.{mayCut, leaves}
@@ -43,40 +43,40 @@ module _ (P C : ℕ) (job : Job) where
     pub reached : Reached job plate item listing
     pub few : Few P C listing
     pub on-plate : plate < length (listing .plates)
-    pub of-item : item ≤ length (job .items)
-    pub allowed : mayCut (job .mode) (itemAt job item) (plateAt listing plate) ≡ true
+    pub of-item : item ≤ length (positions job)
+    pub allowed : mayCut (job .mode) (positionAt job item) (plateAt listing plate) ≡ true
     pub passed : Over P C n listing (after job plate item listing)
 
   abbrev pub Ended : Walk → Type 0
   Ended (going l) = Complete l
   Ended (stopped n) = Halted n
 
-  -- the end of a plate type's item types
+  -- the end of a plate type's positions
   abbrev RowEnded : ℕ → Walk → Type 0
-  RowEnded j (going l) = Reached job j (suc (length (job .items))) l × Few P C l × (j < length (l .plates))
+  RowEnded j (going l) = Reached job j (suc (length (positions job))) l × Few P C l × (j < length (l .plates))
   RowEnded j (stopped n) = Halted n
 
   row-ended :
       (m k j : ℕ) (l : Listing)
-      → k + m ≡ length (job .items)
+      → k + m ≡ length (positions job)
       → Reached job j (suc k) l
       → Few P C l
       → j < length (l .plates)
-      → RowEnded j (overItems P C job j (plateAt l j) (suc k) (drop k (job .items)) l)
-  unfolding itemAt
+      → RowEnded j (overItems P C job j (plateAt l j) (suc k) (drop k (positions job)) l)
+  unfolding positionAt
   row-ended zero k j l e r f h =
-      let s : k ≡ length (job .items) = omega arith in
-      rw (items-drop-end P C job j (plateAt l j) (suc k) k (job .items) l (omega arith)) (rw s at r, f, h)
+      let s : k ≡ length (positions job) = omega arith in
+      rw (items-drop-end P C job j (plateAt l j) (suc k) k (positions job) l (omega arith)) (rw s at r, f, h)
   row-ended (suc m) k j l e r f h =
-      go (mayCut (job .mode) (itemAt job (suc k)) (plateAt l j)) refl (row-ended m (suc k) j)
+      go (mayCut (job .mode) (positionAt job (suc k)) (plateAt l j)) refl (row-ended m (suc k) j)
     where
       next : Listing
       next = after job j (suc k) l
 
       left : Residuals
-      left = leaves (job .mode) (itemAt job (suc k)) (plateAt l j)
+      left = leaves (job .mode) (positionAt job (suc k)) (plateAt l j)
 
-      b : k < length (job .items)
+      b : k < length (positions job)
       b = omega arith
 
       n : length (next .cuts) ≡ suc (length (l .cuts))
@@ -84,23 +84,23 @@ module _ (P C : ℕ) (job : Job) where
 
       go :
           (t : Bool)
-          → mayCut (job .mode) (itemAt job (suc k)) (plateAt l j) ≡ t
+          → mayCut (job .mode) (positionAt job (suc k)) (plateAt l j) ≡ t
           → ((l′ : Listing)
-          → suc k + m ≡ length (job .items)
+          → suc k + m ≡ length (positions job)
           → Reached job j (suc (suc k)) l′
           → Few P C l′
           → j < length (l′ .plates)
-          → RowEnded j (overItems P C job j (plateAt l′ j) (suc (suc k)) (drop (suc k) (job .items)) l′))
-          → RowEnded j (overItems P C job j (plateAt l j) (suc k) (drop k (job .items)) l)
+          → RowEnded j (overItems P C job j (plateAt l′ j) (suc (suc k)) (drop (suc k) (positions job)) l′))
+          → RowEnded j (overItems P C job j (plateAt l j) (suc k) (drop k (positions job)) l)
       go false c ih =
           rw
-          (items-drop-going P C job j (plateAt l j) (suc k) k (job .items) l l b
-          (pair-skipped P C job j (plateAt l j) (suc k) (itemAt job (suc k)) l c))
+          (items-drop-going P C job j (plateAt l j) (suc k) k (positions job) l l b
+          (pair-skipped P C job j (plateAt l j) (suc k) (positionAt job (suc k)) l c))
           (ih l (omega arith) (skipped r h b c) f h)
       go true c ih = limits (at-most-or-above (length (next .cuts)) C) (at-most-or-above (length (next .plates)) P)
         where
-          is-pair : pair P C job j (plateAt l j) (suc k) (itemAt job (suc k)) l ≡ limited P C job next
-          is-pair = pair-cut P C job j (plateAt l j) (suc k) (itemAt job (suc k)) l c
+          is-pair : pair P C job j (plateAt l j) (suc k) (positionAt job (suc k)) l ≡ limited P C job next
+          is-pair = pair-cut P C job j (plateAt l j) (suc k) (positionAt job (suc k)) l c
 
           halted : (n : ℕ) → Over P C n l next → Halted n
           halted n p =
@@ -119,20 +119,20 @@ module _ (P C : ℕ) (job : Job) where
           limits :
               (length (next .cuts) ≤ C) ⊎ (C < length (next .cuts))
               → (length (next .plates) ≤ P) ⊎ (P < length (next .plates))
-              → RowEnded j (overItems P C job j (plateAt l j) (suc k) (drop k (job .items)) l)
+              → RowEnded j (overItems P C job j (plateAt l j) (suc k) (drop k (positions job)) l)
           limits (inr p) q =
               rw
-              (items-drop-stopped P C job j (plateAt l j) (suc k) k (job .items) l 7 b
+              (items-drop-stopped P C job j (plateAt l j) (suc k) k (positions job) l 7 b
               (is-pair ∙ limited-cuts P C job next p))
               (halted 7 (by-cut refl (omega (arith, n, f .few-cuts))))
           limits (inl p) (inr q) =
               rw
-              (items-drop-stopped P C job j (plateAt l j) (suc k) k (job .items) l 6 b
+              (items-drop-stopped P C job j (plateAt l j) (suc k) k (positions job) l 6 b
               (is-pair ∙ limited-plates P C job next p q))
               (halted 6 (by-plate refl (omega (arith, n)) q))
           limits (inl p) (inl q) =
               rw
-              (items-drop-going P C job j (plateAt l j) (suc k) k (job .items) l next b
+              (items-drop-going P C job j (plateAt l j) (suc k) k (positions job) l next b
               (is-pair ∙ limited-going P C job next p q))
               (rw (done-plate job j (suc k) left l j h)
               at (ih next (omega arith) (done r h b c) (record { few-plates = q; few-cuts = p }) (omega (arith, done-longer job j (suc k) left l .no-fewer))))
@@ -153,9 +153,9 @@ module _ (P C : ℕ) (job : Job) where
           → ((l′ : Listing) → P ≤ fuel + suc j → Reached job (suc j) 1 l′ → Few P C l′ → Ended (overPlates P C job fuel (suc j) l′))
           → Ended (overPlates P C job (suc fuel) j l)
       go (inl h) ih = rw (plates-end P C job (suc fuel) j l h) (record { place = j; reached = r; few = f; none-left = h })
-      go (inr h) ih = by (overItems P C job j (plateAt l j) 1 (job .items) l) refl (row-ended (length (job .items)) 0 j l (omega arith) r f h)
+      go (inr h) ih = by (overItems P C job j (plateAt l j) 1 (positions job) l) refl (row-ended (length (positions job)) 0 j l (omega arith) r f h)
         where
-          by : (w : Walk) → overItems P C job j (plateAt l j) 1 (job .items) l ≡ w → RowEnded j w → Ended (overPlates P C job (suc fuel) j l)
+          by : (w : Walk) → overItems P C job j (plateAt l j) 1 (positions job) l ≡ w → RowEnded j w → Ended (overPlates P C job (suc fuel) j l)
           by (going l′) s t =
               rw (plates-going P C job fuel j l l′ h s) (ih l′ (omega arith) (row (t .0) (t .2) (omega arith)) (t .1))
           by (stopped n) s t = rw (plates-stopped P C job fuel j l n h s) t

@@ -5,7 +5,7 @@ use mathlib.Core.Path.{_≡_}
 use mathlib.Core.Logic.{_⊎_, inl, inr}
 use mathlib.Core.List.{List}
 use lib.ListN.{length}
-use Rattle.job.specs.Job.{Job, itemAt}
+use Rattle.job.specs.Job.{Job, positionAt}
 use Rattle.job.proofs.Tests.{at-most-or-above}
 use Rattle.listing.specs.declared.plate.Plate.{Plate}
 use Rattle.listing.specs.declared.plate.Residuals.{Residuals}
@@ -34,7 +34,7 @@ module _ (job : Job) where
   -- a cut that is done, where the residual types so far are numbered as met
   module _ (j i : ℕ) (l : Listing) (r : Reached job j i l) (before : AsMet l) where
     abbrev left : Residuals
-    left = leaves (job .mode) (itemAt job i) (plateAt l j)
+    left = leaves (job .mode) (positionAt job i) (plateAt l j)
 
     abbrev next : Listing
     next = after job j i l

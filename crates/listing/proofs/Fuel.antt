@@ -4,7 +4,7 @@ use native.Mathlib.Omega.{arith}
 use mathlib.Core.Path.{_≡_, refl, sym, _∙_, ap}
 use mathlib.Core.Logic.{_⊎_, inl, inr}
 use lib.ListN.{length}
-use Rattle.job.specs.Job.{Job}
+use Rattle.job.specs.Job.{Job, positions}
 use Rattle.job.proofs.Tests.{at-most-or-above}
 use Rattle.listing.specs.Listing.{Listing, Walk, going, stopped, plateAt, overItems, overPlates, walkWithin, walkStart}
 use Rattle.listing.proofs.Steps.{plates-going, plates-stopped, plates-end}
@@ -19,19 +19,19 @@ module _ (P C : ℕ) (job : Job) where
       → overPlates P C job (suc fuel) j l ≡ overPlates P C job fuel j l
   fuel-enough zero j l h f = plates-end P C job 1 j l (omega arith) ∙ sym (plates-end P C job 0 j l (omega arith))
   fuel-enough (suc fuel) j l h f =
-      go (at-most-or-above (length (l .plates)) j) (overItems P C job j (plateAt l j) 1 (job .items) l) refl
+      go (at-most-or-above (length (l .plates)) j) (overItems P C job j (plateAt l j) 1 (positions job) l) refl
       (λ l′ h′. fuel-enough fuel (suc j) l′ h′ (omega arith))
     where
       go :
           (length (l .plates) ≤ j) ⊎ (j < length (l .plates))
           → (w : Walk)
-          → overItems P C job j (plateAt l j) 1 (job .items) l ≡ w
+          → overItems P C job j (plateAt l j) 1 (positions job) l ≡ w
           → ((l′ : Listing) → length (l′ .plates) ≤ P → overPlates P C job (suc fuel) (suc j) l′ ≡ overPlates P C job fuel (suc j) l′)
           → overPlates P C job (suc (suc fuel)) j l ≡ overPlates P C job (suc fuel) j l
       go (inl b) w e ih = plates-end P C job (suc (suc fuel)) j l b ∙ sym (plates-end P C job (suc fuel) j l b)
       go (inr b) (going l′) e ih =
           plates-going P C job (suc fuel) j l l′ b e
-          ∙ ih l′ (items-few P C job j (plateAt l j) 1 (job .items) l l′ h e)
+          ∙ ih l′ (items-few P C job j (plateAt l j) 1 (positions job) l l′ h e)
           ∙ sym (plates-going P C job fuel j l l′ b e)
       go (inr b) (stopped n) e ih = plates-stopped P C job (suc fuel) j l n b e ∙ sym (plates-stopped P C job fuel j l n b e)
 

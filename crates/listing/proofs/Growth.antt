@@ -77,7 +77,7 @@ module _ (job : Job) (p : Plate) (ps : List Plate) where
       go (met k h l g e) = rw e (longer-same waste ps)
       go (fresh h f e) = rw e (longer-append waste ps (p ∷ []))
 
--- the cut done with residuals r at plate type j with item type i
+-- the cut done with residuals r at plate type j with position i
 module _ (job : Job) (j i : ℕ) (r : Residuals) (l : Listing) where
   -- it loses no plate type, and adds two at the most
   pub done-longer : Longer waste (l .plates) (cutDone job j i r l .plates)

@@ -5,7 +5,7 @@ use mathlib.Core.Path.{_≡_, refl, sym, _∙_, ap}
 use mathlib.Core.Logic.{_⊎_, inl, inr}
 use lib.ListN.{length, drop}
 use Rattle.job.specs.Verdict.{pass, refuse}
-use Rattle.job.specs.Job.{Job, itemAt}
+use Rattle.job.specs.Job.{Job, positions, positionAt}
 use Rattle.job.proofs.Tests.{at-most-or-above}
 use Rattle.job.proofs.CodeEnds.{Not5, not5-pass, not5-refuse}
 use Rattle.listing.specs.Plate.{leaves}
@@ -60,16 +60,16 @@ model-not5 job = go (row-cases job)
 
 -- along the rest of a walk plate types and cuts keep their numbers
 pub rest-grown : (P C : ℕ) (job : Job) (j i : ℕ) (l l′ : Listing) → rest P C job j i l ≡ going l′ → Grown l l′
-rest-grown P C job j i l l′ e = go (at-most-or-above (length (l .plates)) j) (overItems P C job j (plateAt l j) i (drop (i - 1) (job .items)) l) refl
+rest-grown P C job j i l l′ e = go (at-most-or-above (length (l .plates)) j) (overItems P C job j (plateAt l j) i (drop (i - 1) (positions job)) l) refl
   where
     go :
         (length (l .plates) ≤ j) ⊎ (j < length (l .plates))
         → (w : Walk)
-        → overItems P C job j (plateAt l j) i (drop (i - 1) (job .items)) l ≡ w
+        → overItems P C job j (plateAt l j) i (drop (i - 1) (positions job)) l ≡ w
         → Grown l l′
     go (inl h) w f = rw (going-one e (rest-end P C job j i l h)) (grown-same l)
     go (inr h) (going m) f =
-        grown-trans l m l′ (items-grown P C job j (plateAt l j) i (drop (i - 1) (job .items)) l m f)
+        grown-trans l m l′ (items-grown P C job j (plateAt l j) i (drop (i - 1) (positions job)) l m f)
         (plates-grown P C job (P - suc j) (suc j) m l′ (sym (rest-row P C job j i l h ∙ ap (onward P C job j) f) ∙ e))
     go (inr h) (stopped n) f = absurd (going-not-stopped e (rest-row P C job j i l h ∙ ap (onward P C job j) f))
 
@@ -95,7 +95,7 @@ module _ (P C P′ C′ : ℕ) (job : Job) (some : 1 ≤ P) (p : P ≤ P′) (c 
       next = after job (h .plate) (h .item) (h .listing)
 
       more : length (next .cuts) ≡ suc (length (h .listing .cuts))
-      more = done-count job (h .plate) (h .item) (leaves (job .mode) (itemAt job (h .item)) (plateAt (h .listing) (h .plate))) (h .listing)
+      more = done-count job (h .plate) (h .item) (leaves (job .mode) (positionAt job (h .item)) (plateAt (h .listing) (h .plate))) (h .listing)
 
       few : Few P′ C′ (h .listing)
       few = few-larger (h .listing) (h .few)
@@ -111,7 +111,7 @@ module _ (P C P′ C′ : ℕ) (job : Job) (some : 1 ≤ P) (p : P ≤ P′) (c 
   pub larger-cuts : (l : Listing) → walkWithin P C job ≡ stopped 7 → walkWithin P′ C′ job ≡ going l → C < length (l .cuts)
   larger-cuts l e f =
       let h = walk-halted P C job some 7 e in
-      let left = leaves (job .mode) (itemAt job (h .item)) (plateAt (h .listing) (h .plate)) in
+      let left = leaves (job .mode) (positionAt job (h .item)) (plateAt (h .listing) (h .plate)) in
       omega (arith, larger-grown 7 h l f .cuts-longer .no-fewer, done-count job (h .plate) (h .item) left (h .listing), over-seven (h .passed))
 
   pub larger-plates : (l : Listing) → walkWithin P C job ≡ stopped 6 → walkWithin P′ C′ job ≡ going l → P < length (l .plates)

@@ -5,7 +5,7 @@ use mathlib.Core.Path.{_≡_, ap}
 use mathlib.Core.Logic.{_⊎_, inl, inr}
 use mathlib.Core.List.{List}
 use lib.ListN.{length, length-append}
-use Rattle.job.specs.Job.{Job, itemAt}
+use Rattle.job.specs.Job.{Job, positionAt}
 use Rattle.job.proofs.Tests.{at-most-or-above}
 use Rattle.listing.specs.declared.plate.Plate.{Plate}
 use Rattle.listing.specs.declared.plate.Residuals.{Residuals}
@@ -39,7 +39,7 @@ module _ (job : Job) where
   reached-left (done {j = j} {i = i} {l = l} r p q s) k a b = go (at-most-or-above (length (l .plates)) k) (λ h. reached-left r k a h)
     where
       left : Residuals
-      left = leaves (job .mode) (itemAt job i) (plateAt l j)
+      left = leaves (job .mode) (positionAt job i) (plateAt l j)
 
       next : Listing
       next = after job j i l

@@ -5,7 +5,7 @@ use mathlib.Core.Bool.{Bool, true, false, cond, not, _&&_, _||_}
 use lib.Dec.{leb, eqb}
 use borrow.Author.Tests.{eqb-true, eq-eqb, leb-true, le-leb}
 use Rattle.job.specs.declared.mode.Mode.{Mode}
-use Rattle.job.specs.declared.item.Item.{Item}
+use Rattle.job.specs.declared.item.Position.{Position}
 use Rattle.job.specs.Mode.{three, exact}
 use Rattle.job.proofs.Tests.{not-both, and-left, and-right}
 use Rattle.listing.specs.declared.plate.Plate.{Plate}
@@ -36,31 +36,34 @@ equal-same p q e =
 pub same-differ : (p q : Plate) → same p q ≡ false → p ≡ q → ⊥
 same-differ p q h e = not-both (equal-same p q e) h
 
--- the item may be cut from the plate
-pub record Permitted (m : Mode) (item : Item) (p : Plate) : Type 0 where
+-- the item, in a permitted position, may be cut from the plate
+pub record Permitted (m : Mode) (item : Position) (p : Plate) : Type 0 where
+  pub allowed : item .allowed ≡ true
   pub in-width : item .width ≤ p .width
   pub in-height : item .height ≤ p .height
   pub just-height : exact m ≡ true → three m ≡ false → p .stage ≡ 2 → item .height ≡ p .height
   pub just-width : exact m ≡ true → three m ≡ true → p .stage ≡ 3 → item .width ≡ p .width
 
-pub may-cut : (m : Mode) (item : Item) (p : Plate) → mayCut m item p ≡ true → Permitted m item p
+pub may-cut : (m : Mode) (item : Position) (p : Plate) → mayCut m item p ≡ true → Permitted m item p
 unfolding mayCut exactFit
 may-cut m item p h =
     let a = leb (item .width) (p .width) in
     let b = leb (item .height) (p .height) in
-    let ab = and-left (a && b) (exactFit m item p) h in
-    let c = and-right (a && b) (exactFit m item p) h in
+    let oab = and-left (item .allowed && a && b) (exactFit m item p) h in
+    let oa = and-left (item .allowed && a) b oab in
+    let c = and-right (item .allowed && a && b) (exactFit m item p) h in
     record {
-      in-width = leb-true (item .width) (p .width) (and-left a b ab);
-      in-height = leb-true (item .height) (p .height) (and-right a b ab);
+      allowed = and-left (item .allowed) a oa;
+      in-width = leb-true (item .width) (p .width) (and-right (item .allowed) a oa);
+      in-height = leb-true (item .height) (p .height) (and-right (item .allowed && a) b oab);
       just-height = λ e t s. eqb-true (item .height) (p .height) (rw (e, t, s) at c);
       just-width = λ e t s. eqb-true (item .width) (p .width) (rw (e, t, s) at c);
     }
 
-pub cut-may : (m : Mode) (item : Item) (p : Plate) → Permitted m item p → mayCut m item p ≡ true
+pub cut-may : (m : Mode) (item : Position) (p : Plate) → Permitted m item p → mayCut m item p ≡ true
 unfolding mayCut exactFit
 cut-may m item p r =
-    rw (le-leb (item .width) (p .width) (r .in-width), le-leb (item .height) (p .height) (r .in-height))
+    rw (r .allowed, le-leb (item .width) (p .width) (r .in-width), le-leb (item .height) (p .height) (r .in-height))
     (go (exact m) (three m) (eqb (p .stage) 2) (eqb (p .stage) 3)
     (λ e t s. eq-eqb _ _ (r .just-height e t (eqb-true (p .stage) 2 s)))
     (λ e t s. eq-eqb _ _ (r .just-width e t (eqb-true (p .stage) 3 s))))

@@ -6,7 +6,7 @@ use mathlib.Core.Logic.{_⊎_, inl, inr}
 use mathlib.Core.Bool.{true, false}
 use mathlib.Core.List.{List, [], _∷_}
 use lib.ListN.{length, getD, length-append}
-use Rattle.job.specs.Job.{Job, itemAt}
+use Rattle.job.specs.Job.{Job, positions, positionAt}
 use Rattle.job.specs.Admitted.{Sided}
 use Rattle.job.proofs.Tests.{not-both, at-most-or-above}
 use Rattle.listing.specs.declared.plate.Plate.{Plate}
@@ -123,12 +123,12 @@ module _ (job : Job) (m : Listing) (is : IsListing job m) where
         go (inr s) = rw s at (numbered-below job l _ (cutAt l (suc b) .right) (v .plates-ok .some-plate) (v .cuts-ok b h .right-numbered))
 
     -- a permitted pair that the walk comes to
-    module _ (a : j < length (l .plates)) (b : 1 ≤ i) (c : i ≤ length (job .items)) (p : mayCut (job .mode) (itemAt job i) (plateAt l j) ≡ true) where
+    module _ (a : j < length (l .plates)) (b : 1 ≤ i) (c : i ≤ length (positions job)) (p : mayCut (job .mode) (positionAt job i) (plateAt l j) ≡ true) where
       abbrev n : ℕ
       n = length (l .cuts)
 
       abbrev left : Residuals
-      left = leaves (job .mode) (itemAt job i) (plateAt l j)
+      left = leaves (job .mode) (positionAt job i) (plateAt l j)
 
       -- it is the next cut of the job's listing
       record Next : Type 0 where

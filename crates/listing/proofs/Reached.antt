@@ -1,4 +1,4 @@
--- The places of the walk, whatever its limits: the listing before item type i of plate type j; and the rest of the walk from such a place.
+-- The places of the walk, whatever its limits: the listing before position i of plate type j; and the rest of the walk from such a place.
 use Prim.Native.Nat.{ℕ, zero, suc, _-_, _≤_, _<_}
 use native.Mathlib.Omega.{arith}
 use mathlib.Core.Path.{_≡_, refl, sym, _∙_, ap}
@@ -7,7 +7,7 @@ use mathlib.Core.Bool.{true, false}
 use lib.Dec.{ltb}
 use lib.ListN.{length, drop}
 use borrow.Author.Tests.{lt-ltb, le-ltb}
-use Rattle.job.specs.Job.{Job, itemAt}
+use Rattle.job.specs.Job.{Job, positions, positionAt}
 use Rattle.job.specs.Admitted.{Sided}
 use Rattle.job.proofs.Tests.{not-both, at-most-or-above}
 use Rattle.listing.specs.Plate.{mayCut, leaves}
@@ -16,36 +16,36 @@ use Rattle.listing.proofs.Growth.{done-longer, done-plate, done-count}
 use Rattle.listing.proofs.Steps.{limited-going, limited-cuts, limited-plates, pair-skipped, pair-cut, items-drop-going, items-drop-stopped, items-drop-end, plates-going, plates-stopped, plates-end}
 use Rattle.listing.proofs.Walked.{Walked, walked-start, walked-skip, walked-row, walked-cut}
 
--- the listing after the pair of plate type j and item type i, which is permitted
+-- the listing after the pair of plate type j and position i, which is permitted
 abbrev pub after : Job → ℕ → ℕ → Listing → Listing
-after job j i l = cutDone job j i (leaves (job .mode) (itemAt job i) (plateAt l j)) l
+after job j i l = cutDone job j i (leaves (job .mode) (positionAt job i) (plateAt l j)) l
 
 module _ (job : Job) where
-  -- the walk comes to item type i of plate type j with listing l; past the last item type it comes to the next plate type
+  -- the walk comes to position i of plate type j with listing l; past the last position it comes to the next plate type
   pub data Reached : ℕ → ℕ → Listing → Type 0 where
     start : Reached 0 1 (walkStart job)
     skipped :
         {j i : ℕ} {l : Listing}
         → Reached j i l
         → j < length (l .plates)
-        → i ≤ length (job .items)
-        → mayCut (job .mode) (itemAt job i) (plateAt l j) ≡ false
+        → i ≤ length (positions job)
+        → mayCut (job .mode) (positionAt job i) (plateAt l j) ≡ false
         → Reached j (suc i) l
     done :
         {j i : ℕ} {l : Listing}
         → Reached j i l
         → j < length (l .plates)
-        → i ≤ length (job .items)
-        → mayCut (job .mode) (itemAt job i) (plateAt l j) ≡ true
+        → i ≤ length (positions job)
+        → mayCut (job .mode) (positionAt job i) (plateAt l j) ≡ true
         → Reached j (suc i) (after job j i l)
     row :
         {j i : ℕ} {l : Listing}
         → Reached j i l
         → j < length (l .plates)
-        → length (job .items) < i
+        → length (positions job) < i
         → Reached (suc j) 1 l
 
-  -- item types are numbered from 1
+  -- positions are numbered from 1
   pub reached-from-one : {j i : ℕ} {l : Listing} → Reached j i l → 1 ≤ i
   reached-from-one start = omega arith
   reached-from-one (skipped r a b c) = omega arith
@@ -70,20 +70,20 @@ module _ (P C : ℕ) (job : Job) where
   -- a listing whose next cut keeps the limits keeps them itself
   pub few-before : (j i : ℕ) (l : Listing) → Few P C (after job j i l) → Few P C l
   few-before j i l f =
-      let r = leaves (job .mode) (itemAt job i) (plateAt l j) in
+      let r = leaves (job .mode) (positionAt job i) (plateAt l j) in
       record {
         few-plates = omega (arith, f .few-plates, done-longer job j i r l .no-fewer);
         few-cuts = omega (arith, f .few-cuts, done-count job j i r l);
       }
 
-  -- after the item types of plate type j
+  -- after the positions of plate type j
   abbrev pub onward : ℕ → Walk → Walk
   onward j (going l) = overPlates P C job (P - suc j) (suc j) l
   onward j (stopped n) = stopped n
 
-  -- the rest of the walk from item type i of plate type j on
+  -- the rest of the walk from position i of plate type j on
   abbrev pub inRow : ℕ → ℕ → Listing → Walk
-  inRow j i l = onward j (overItems P C job j (plateAt l j) i (drop (i - 1) (job .items)) l)
+  inRow j i l = onward j (overItems P C job j (plateAt l j) i (drop (i - 1) (positions job)) l)
 
   unfoldable pub rest : ℕ → ℕ → Listing → Walk
   rest j i l = elim (ltb j (length (l .plates))) [ false ↦ going l | true ↦ inRow j i l ]
@@ -103,7 +103,7 @@ module _ (P C : ℕ) (job : Job) where
       by :
           (w : Walk)
           → j < length (l .plates)
-          → overItems P C job j (plateAt l j) 1 (job .items) l ≡ w
+          → overItems P C job j (plateAt l j) 1 (positions job) l ≡ w
           → overPlates P C job (suc (P - suc j)) j l ≡ onward j w
       by (going l′) h e = plates-going P C job (P - suc j) j l l′ h e
       by (stopped n) h e = plates-stopped P C job (P - suc j) j l n h e
@@ -112,52 +112,52 @@ module _ (P C : ℕ) (job : Job) where
       go (inl h) = plates-end P C job (P - j) j l h ∙ sym (rest-end j 1 l h)
       go (inr h) =
           let e : P - j ≡ suc (P - suc j) = omega arith in
-          rw e (by (overItems P C job j (plateAt l j) 1 (job .items) l) h refl ∙ sym (rest-row j 1 l h))
+          rw e (by (overItems P C job j (plateAt l j) 1 (positions job) l) h refl ∙ sym (rest-row j 1 l h))
 
   -- past a pair after which the walk goes on
   pub rest-going :
       (j i : ℕ) (l l′ : Listing)
       → 1 ≤ i
-      → i ≤ length (job .items)
+      → i ≤ length (positions job)
       → j < length (l .plates)
       → j < length (l′ .plates)
       → plateAt l′ j ≡ plateAt l j
-      → pair P C job j (plateAt l j) i (itemAt job i) l ≡ going l′
+      → pair P C job j (plateAt l j) i (positionAt job i) l ≡ going l′
       → rest j i l ≡ rest j (suc i) l′
-  unfolding itemAt
+  unfolding positionAt
   rest-going j zero l l′ a b h h′ q e = absurd (omega arith)
   rest-going j (suc k) l l′ a b h h′ q e =
       let s : suc k - 1 ≡ k = omega arith in
       let t : suc (suc k) - 1 ≡ suc k = omega arith in
       let x : inRow j (suc k) l ≡ inRow j (suc (suc k)) l′
-      = rw (s, t, q) (ap (onward j) (items-drop-going P C job j (plateAt l j) (suc k) k (job .items) l l′ b e)) in
+      = rw (s, t, q) (ap (onward j) (items-drop-going P C job j (plateAt l j) (suc k) k (positions job) l l′ b e)) in
       rest-row j (suc k) l h ∙ x ∙ sym (rest-row j (suc (suc k)) l′ h′)
 
   -- at a pair that stops the walk
   pub rest-stopped :
       (j i : ℕ) (l : Listing) (n : ℕ)
       → 1 ≤ i
-      → i ≤ length (job .items)
+      → i ≤ length (positions job)
       → j < length (l .plates)
-      → pair P C job j (plateAt l j) i (itemAt job i) l ≡ stopped n
+      → pair P C job j (plateAt l j) i (positionAt job i) l ≡ stopped n
       → rest j i l ≡ stopped n
-  unfolding itemAt
+  unfolding positionAt
   rest-stopped j zero l n a b h e = absurd (omega arith)
   rest-stopped j (suc k) l n a b h e =
       let s : suc k - 1 ≡ k = omega arith in
       rest-row j (suc k) l h
-      ∙ rw s (ap (onward j) (items-drop-stopped P C job j (plateAt l j) (suc k) k (job .items) l n b e))
+      ∙ rw s (ap (onward j) (items-drop-stopped P C job j (plateAt l j) (suc k) k (positions job) l n b e))
 
-  -- past the last item type
+  -- past the last position
   pub rest-next :
       (j i : ℕ) (l : Listing)
-      → length (job .items) < i
+      → length (positions job) < i
       → j < length (l .plates)
       → length (l .plates) ≤ P
       → rest j i l ≡ rest (suc j) 1 l
   rest-next j i l n h few =
       rest-row j i l h
-      ∙ ap (onward j) (items-drop-end P C job j (plateAt l j) i (i - 1) (job .items) l (omega arith))
+      ∙ ap (onward j) (items-drop-end P C job j (plateAt l j) i (i - 1) (positions job) l (omega arith))
       ∙ rest-plates (suc j) l few
 
   -- the walk is the rest from any place that it reaches within its limits
@@ -168,13 +168,13 @@ module _ (P C : ℕ) (job : Job) where
       ap (λ (fuel : ℕ). overPlates P C job fuel 0 (walkStart job)) e ∙ rest-plates 0 (walkStart job) (f .few-plates)
   reached-rest (skipped {j = j} {i = i} {l = l} r a b c) f =
       reached-rest r f
-      ∙ rest-going j i l l (reached-from-one job r) b a a refl (pair-skipped P C job j (plateAt l j) i (itemAt job i) l c)
+      ∙ rest-going j i l l (reached-from-one job r) b a a refl (pair-skipped P C job j (plateAt l j) i (positionAt job i) l c)
   reached-rest (done {j = j} {i = i} {l = l} r a b c) f =
-      let left = leaves (job .mode) (itemAt job i) (plateAt l j) in
+      let left = leaves (job .mode) (positionAt job i) (plateAt l j) in
       let next = after job j i l in
       reached-rest r (few-before j i l f)
       ∙ rest-going j i l next (reached-from-one job r) b a (omega (arith, done-longer job j i left l .no-fewer)) (done-plate job j i left l j a)
-      (pair-cut P C job j (plateAt l j) i (itemAt job i) l c ∙ limited-going P C job next (f .few-cuts) (f .few-plates))
+      (pair-cut P C job j (plateAt l j) i (positionAt job i) l c ∙ limited-going P C job next (f .few-cuts) (f .few-plates))
   reached-rest (row {j = j} {i = i} {l = l} r a b) f = reached-rest r f ∙ rest-next j i l b a (f .few-plates)
 
   -- no plate type is left: the walk goes on with the listing
@@ -186,20 +186,20 @@ module _ (P C : ℕ) (job : Job) where
       (r : Reached job j i l)
       (f : Few P C l)
       (a : j < length (l .plates))
-      (b : i ≤ length (job .items))
-      (c : mayCut (job .mode) (itemAt job i) (plateAt l j) ≡ true) where
+      (b : i ≤ length (positions job))
+      (c : mayCut (job .mode) (positionAt job i) (plateAt l j) ≡ true) where
     -- a permitted pair past the limit of cuts
     pub reached-seven : C ≤ length (l .cuts) → walkWithin P C job ≡ stopped 7
     reached-seven h =
-        let left = leaves (job .mode) (itemAt job i) (plateAt l j) in
+        let left = leaves (job .mode) (positionAt job i) (plateAt l j) in
         reached-rest r f
         ∙ rest-stopped j i l 7 (reached-from-one job r) b a
-        (pair-cut P C job j (plateAt l j) i (itemAt job i) l c ∙ limited-cuts P C job (after job j i l) (omega (arith, done-count job j i left l)))
+        (pair-cut P C job j (plateAt l j) i (positionAt job i) l c ∙ limited-cuts P C job (after job j i l) (omega (arith, done-count job j i left l)))
 
     -- a permitted pair within the limit of cuts, whose residuals pass the limit of plate types
     pub reached-six : length (l .cuts) < C → P < length (after job j i l .plates) → walkWithin P C job ≡ stopped 6
     reached-six h k =
-        let left = leaves (job .mode) (itemAt job i) (plateAt l j) in
+        let left = leaves (job .mode) (positionAt job i) (plateAt l j) in
         reached-rest r f
         ∙ rest-stopped j i l 6 (reached-from-one job r) b a
-        (pair-cut P C job j (plateAt l j) i (itemAt job i) l c ∙ limited-plates P C job (after job j i l) (omega (arith, done-count job j i left l)) k)
+        (pair-cut P C job j (plateAt l j) i (positionAt job i) l c ∙ limited-plates P C job (after job j i l) (omega (arith, done-count job j i left l)) k)

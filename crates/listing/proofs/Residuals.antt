@@ -7,14 +7,14 @@ use mathlib.Core.Bool.{Bool, true, false}
 use lib.Dec.{eqb}
 use borrow.Author.Tests.{eqb-true, eqb-false}
 use Rattle.job.specs.declared.mode.Mode.{Mode}
-use Rattle.job.specs.declared.item.Item.{Item}
+use Rattle.job.specs.declared.item.Position.{Position}
 use Rattle.job.specs.Mode.{three}
 use Rattle.listing.specs.declared.plate.Plate.{Plate}
 use Rattle.listing.specs.declared.plate.Residuals.{Residuals}
 use Rattle.listing.specs.Plate.{plate, waste, residuals, leaves}
 
 -- what a cut leaves of any plate, by cases; a stage that is neither 1 nor 2 is taken as stage 3
-pub data Leaving (m : Mode) (item : Item) (p : Plate) : Type 0 where
+pub data Leaving (m : Mode) (item : Position) (p : Plate) : Type 0 where
   at-one :
       p .stage ≡ 1
       → leaves m item p ≡ residuals (plate (p .width) (p .height - item .height) 1) (plate (p .width - item .width) (item .height) 2)
@@ -35,7 +35,7 @@ pub data Leaving (m : Mode) (item : Item) (p : Plate) : Type 0 where
       → leaves m item p ≡ residuals (plate (item .width) (p .height - item .height) 3) waste
       → Leaving m item p
 
-pub leaving : (m : Mode) (item : Item) (p : Plate) → Leaving m item p
+pub leaving : (m : Mode) (item : Position) (p : Plate) → Leaving m item p
 unfolding leaves
 leaving m item p = go (eqb (p .stage) 1) (eqb (p .stage) 2) (three m) refl refl refl
   where
@@ -53,7 +53,7 @@ sides p = p .width + p .height
 abbrev pub Staged : Plate → Type 0
 Staged p = (1 ≤ p .stage) × (p .stage ≤ 3)
 
-module _ (m : Mode) (item : Item) (p : Plate) where
+module _ (m : Mode) (item : Position) (p : Plate) where
   -- what holds of the residuals in each case holds of what the cut leaves
   pub leaves-by :
       (P : Residuals → Type 0)

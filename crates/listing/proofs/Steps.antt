@@ -7,9 +7,9 @@ use mathlib.Core.List.{List, [], _∷_, _++_}
 use lib.ListN.{length, getD, drop, drop-of-length-le}
 use lib.Seq.{drop-cons}
 use borrow.Author.Tests.{lt-ltb, le-ltb}
-use Rattle.job.specs.declared.item.Item.{Item}
+use Rattle.job.specs.declared.item.Position.{Position}
 use Rattle.job.specs.Verdict.{Verdict, pass, refuse}
-use Rattle.job.specs.Job.{Job, noItem}
+use Rattle.job.specs.Job.{Job, positions, noPosition}
 use Rattle.job.proofs.Verdicts.{pass-not-refuse}
 use Rattle.listing.specs.declared.plate.Plate.{Plate}
 use Rattle.listing.specs.declared.plate.Residuals.{Residuals}
@@ -24,7 +24,7 @@ going-not-stopped {w} {l} {n} e f = let z : _≡_ {A = ℕ} 0 1 = cc in omega ar
 pub going-one : {w : Walk} {l l′ : Listing} → w ≡ going l → w ≡ going l′ → l ≡ l′
 going-one e f = cc
 
--- the cut of plate type j and item type i with residuals r: its top is numbered among the plate types, its right among those with the top
+-- the cut of plate type j and position i with residuals r: its top is numbered among the plate types, its right among those with the top
 abbrev pub cutMade : Job → ℕ → ℕ → Residuals → List Plate → Cut
 cutMade job j i r ps =
     let t = entered job (r .top) ps in
@@ -58,7 +58,7 @@ module _ (plateLimit cutLimit : ℕ) (job : Job) where
 
   -- a pair that is not permitted changes nothing
   pub pair-skipped :
-      (j : ℕ) (p : Plate) (i : ℕ) (it : Item) (l : Listing)
+      (j : ℕ) (p : Plate) (i : ℕ) (it : Position) (l : Listing)
       → mayCut (job .mode) it p ≡ false
       → pair plateLimit cutLimit job j p i it l ≡ going l
   unfolding pair
@@ -66,44 +66,44 @@ module _ (plateLimit cutLimit : ℕ) (job : Job) where
 
   -- a permitted pair is the next cut, within the limits
   pub pair-cut :
-      (j : ℕ) (p : Plate) (i : ℕ) (it : Item) (l : Listing)
+      (j : ℕ) (p : Plate) (i : ℕ) (it : Position) (l : Listing)
       → mayCut (job .mode) it p ≡ true
       → pair plateLimit cutLimit job j p i it l ≡ limited plateLimit cutLimit job (cutDone job j i (leaves (job .mode) it p) l)
   unfolding pair
   pair-cut j p i it l h = rw (h, pair)
 
-  -- the item types of one plate type, one pair further
+  -- the positions of one plate type, one pair further
   pub items-going :
-      (j : ℕ) (p : Plate) (i : ℕ) (it : Item) (its : List Item) (l l′ : Listing)
+      (j : ℕ) (p : Plate) (i : ℕ) (it : Position) (its : List Position) (l l′ : Listing)
       → pair plateLimit cutLimit job j p i it l ≡ going l′
       → overItems plateLimit cutLimit job j p i (it ∷ its) l ≡ overItems plateLimit cutLimit job j p (suc i) its l′
   unfolding overItems
   items-going j p i it its l l′ h = rw (h, overItems)
 
   pub items-stopped :
-      (j : ℕ) (p : Plate) (i : ℕ) (it : Item) (its : List Item) (l : Listing) (n : ℕ)
+      (j : ℕ) (p : Plate) (i : ℕ) (it : Position) (its : List Position) (l : Listing) (n : ℕ)
       → pair plateLimit cutLimit job j p i it l ≡ stopped n
       → overItems plateLimit cutLimit job j p i (it ∷ its) l ≡ stopped n
   unfolding overItems
   items-stopped j p i it its l n h = rw (h, overItems)
 
-  -- the same from a place of the job's item types on
+  -- the same from a place of the job's positions on
   pub items-drop-going :
-      (j : ℕ) (p : Plate) (i k : ℕ) (its : List Item) (l l′ : Listing)
+      (j : ℕ) (p : Plate) (i k : ℕ) (its : List Position) (l l′ : Listing)
       → k < length its
-      → pair plateLimit cutLimit job j p i (getD its k noItem) l ≡ going l′
+      → pair plateLimit cutLimit job j p i (getD its k noPosition) l ≡ going l′
       → overItems plateLimit cutLimit job j p i (drop k its) l ≡ overItems plateLimit cutLimit job j p (suc i) (drop (suc k) its) l′
-  items-drop-going j p i k its l l′ b h = rw (drop-cons its k noItem b) (items-going j p i (getD its k noItem) (drop (suc k) its) l l′ h)
+  items-drop-going j p i k its l l′ b h = rw (drop-cons its k noPosition b) (items-going j p i (getD its k noPosition) (drop (suc k) its) l l′ h)
 
   pub items-drop-stopped :
-      (j : ℕ) (p : Plate) (i k : ℕ) (its : List Item) (l : Listing) (n : ℕ)
+      (j : ℕ) (p : Plate) (i k : ℕ) (its : List Position) (l : Listing) (n : ℕ)
       → k < length its
-      → pair plateLimit cutLimit job j p i (getD its k noItem) l ≡ stopped n
+      → pair plateLimit cutLimit job j p i (getD its k noPosition) l ≡ stopped n
       → overItems plateLimit cutLimit job j p i (drop k its) l ≡ stopped n
-  items-drop-stopped j p i k its l n b h = rw (drop-cons its k noItem b) (items-stopped j p i (getD its k noItem) (drop (suc k) its) l n h)
+  items-drop-stopped j p i k its l n b h = rw (drop-cons its k noPosition b) (items-stopped j p i (getD its k noPosition) (drop (suc k) its) l n h)
 
   pub items-drop-end :
-      (j : ℕ) (p : Plate) (i k : ℕ) (its : List Item) (l : Listing)
+      (j : ℕ) (p : Plate) (i k : ℕ) (its : List Position) (l : Listing)
       → length its ≤ k
       → overItems plateLimit cutLimit job j p i (drop k its) l ≡ going l
   unfolding overItems
@@ -113,7 +113,7 @@ module _ (plateLimit cutLimit : ℕ) (job : Job) where
   pub plates-going :
       (fuel j : ℕ) (l l′ : Listing)
       → j < length (l .plates)
-      → overItems plateLimit cutLimit job j (plateAt l j) 1 (job .items) l ≡ going l′
+      → overItems plateLimit cutLimit job j (plateAt l j) 1 (positions job) l ≡ going l′
       → overPlates plateLimit cutLimit job (suc fuel) j l ≡ overPlates plateLimit cutLimit job fuel (suc j) l′
   unfolding overPlates
   plates-going fuel j l l′ b h = rw (overPlates, lt-ltb j (length (l .plates)) b, h)
@@ -121,7 +121,7 @@ module _ (plateLimit cutLimit : ℕ) (job : Job) where
   pub plates-stopped :
       (fuel j : ℕ) (l : Listing) (n : ℕ)
       → j < length (l .plates)
-      → overItems plateLimit cutLimit job j (plateAt l j) 1 (job .items) l ≡ stopped n
+      → overItems plateLimit cutLimit job j (plateAt l j) 1 (positions job) l ≡ stopped n
       → overPlates plateLimit cutLimit job (suc fuel) j l ≡ stopped n
   unfolding overPlates
   plates-stopped fuel j l n b h = rw (overPlates, lt-ltb j (length (l .plates)) b, h)

@@ -1,11 +1,11 @@
--- What is true of the listing at every place of the walk: before item type i of plate type j.
+-- What is true of the listing at every place of the walk: before position i of plate type j.
 use Prim.Native.Nat.{ℕ, suc, _≤_, _<_}
 use native.Mathlib.Omega.{arith}
 use mathlib.Core.Path.{_≡_, refl, sym, _∙_}
 use mathlib.Core.Logic.{_⊎_, inl, inr}
 use mathlib.Core.List.{[], _∷_}
 use lib.ListN.{length}
-use Rattle.job.specs.Job.{Job, itemAt}
+use Rattle.job.specs.Job.{Job, positions, positionAt}
 use Rattle.job.specs.Admitted.{Sided}
 use Rattle.job.proofs.Tests.{at-most-or-above, equal-or-not}
 use Rattle.listing.specs.declared.plate.Plate.{Plate}
@@ -27,7 +27,7 @@ pub passed-next : {j i k x : ℕ} → Passed j i k x → Passed j (suc i) k x
 passed-next (inl h) = inl h
 passed-next (inr h) = inr (h .0, omega (arith, h .1))
 
--- the pair of plate type k and item type x is a cut of the listing
+-- the pair of plate type k and position x is a cut of the listing
 abbrev pub IsCut : Listing → ℕ → ℕ → Type 0
 IsCut l k x = (c : ℕ) × (c < length (l .cuts)) × (cutAt l (suc c) .plate ≡ k) × (cutAt l (suc c) .item ≡ x)
 
@@ -56,7 +56,7 @@ module _ (job : Job) where
         right-numbered = rw e (numbered-longer l l′ m _ (c .right) (k .right-numbered));
       }
 
-  -- the plate types before j are done, and of plate type j the item types before i
+  -- the plate types before j are done, and of plate type j the positions before i
   pub record Walked (j i : ℕ) (l : Listing) : Type 0 where
     pub plates-ok : PlatesOk job (l .plates)
     pub here : j ≤ length (l .plates)
@@ -101,8 +101,8 @@ module _ (job : Job) where
           go (inl e) = absurd (not-fit (rw (p .0, e) at f))
           go (inr e) = v .each k x h (inr (p .0, omega (arith, p .1))) f
 
-  -- the end of a plate type's item types
-  pub walked-row : (j i : ℕ) (l : Listing) → Walked j i l → length (job .items) < i → j < length (l .plates) → Walked (suc j) 1 l
+  -- the end of a plate type's positions
+  pub walked-row : (j i : ℕ) (l : Listing) → Walked j i l → length (positions job) < i → j < length (l .plates) → Walked (suc j) 1 l
   walked-row j i l v n b =
       record {
         plates-ok = v .plates-ok;
@@ -127,7 +127,7 @@ module _ (job : Job) where
 
   module _ (sided : Sided job) (j i : ℕ) (l : Listing) (v : Walked j i l) (b : j < length (l .plates)) (f : CutFrom job (plateAt l j) i) where
     abbrev left : Residuals
-    left = leaves (job .mode) (itemAt job i) (plateAt l j)
+    left = leaves (job .mode) (positionAt job i) (plateAt l j)
 
     abbrev next : Listing
     next = cutDone job j i left l
@@ -141,7 +141,7 @@ module _ (job : Job) where
     top-ok =
         entered-ok job (left .top) (l .plates) (v .plates-ok)
         (smaller (left .top) (top-smaller job sided (plateAt l j) i f))
-        (top-staged job sided (plateAt l j) (itemAt job i))
+        (top-staged job sided (plateAt l j) (positionAt job i))
 
     -- and then the right
     right-ok : PlatesOk job (next .plates)
@@ -149,7 +149,7 @@ module _ (job : Job) where
         rw (done-plates job j i left l)
         (entered-ok job (left .right) (entered job (left .top) (l .plates) .plates) top-ok
         (smaller (left .right) (right-smaller job sided (plateAt l j) i f))
-        (right-staged job sided (plateAt l j) (itemAt job i)))
+        (right-staged job sided (plateAt l j) (positionAt job i)))
 
     -- the cut that is added
     abbrev added : Cut
@@ -161,11 +161,11 @@ module _ (job : Job) where
         let ps = entered job (left .top) (l .plates) .plates in
         let top : Numbered job next (left .top) (added .top)
         = entered-numbered job (left .top) (l .plates) (v .plates-ok)
-        (smaller (left .top) (top-smaller job sided (plateAt l j) i f)) (top-staged job sided (plateAt l j) (itemAt job i))
+        (smaller (left .top) (top-smaller job sided (plateAt l j) i f)) (top-staged job sided (plateAt l j) (positionAt job i))
         next (rw (done-plates job j i left l) (entered-longer job (left .right) ps)) in
         let right : Numbered job next (left .right) (added .right)
         = entered-numbered job (left .right) ps top-ok
-        (smaller (left .right) (right-smaller job sided (plateAt l j) i f)) (right-staged job sided (plateAt l j) (itemAt job i))
+        (smaller (left .right) (right-smaller job sided (plateAt l j) i f)) (right-staged job sided (plateAt l j) (positionAt job i))
         next (rw (done-plates job j i left l) (longer-same waste (entered job (left .right) ps .plates))) in
         record {
           on-plate = omega (arith, done-longer job j i left l .no-fewer);

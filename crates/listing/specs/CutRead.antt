@@ -4,6 +4,7 @@ use mathlib.Core.Path.{_≡_}
 use mathlib.Core.List.{List, [], _∷_}
 use lib.ListN.{length, getD}
 use Rattle.job.specs.Sizes.{maxTypes, wordsOfCut, jobSize}
+use Rattle.job.specs.Job.{typeOf}
 use Rattle.listing.specs.Listing.{Cut, noCut, maxPlates, maxCuts}
 use Rattle.listing.specs.Holds.{cutOfWords}
 use Rattle.listing.specs.declared.cut.CutRecord.{CutRecord}
@@ -29,8 +30,8 @@ cutsRead k buffer = cutsFrom k 0 buffer
 -- the cut is of one of n item types, on one of m plate types, and what it leaves is among these
 pub record InRange (m n : ℕ) (c : Cut) : Type 0 where
   pub on-plate : c .plate < m
-  pub from-one : 1 ≤ c .item
-  pub of-item : c .item ≤ n
+  pub from-one : 1 ≤ typeOf (c .item)
+  pub of-item : typeOf (c .item) ≤ n
   pub top-plate : c .top < m
   pub right-plate : c .right < m
 

@@ -5,14 +5,15 @@ use mathlib.Core.List.{List, [], _∷_, _++_}
 use lib.Dec.{ltb}
 use lib.ListN.{length, getD}
 pub use Rattle.job.specs.Sizes.{maxPlates, maxCuts}
-use Rattle.job.specs.declared.item.Item.{Item}
-use Rattle.job.specs.Job.{Job}
+use Rattle.job.specs.Job.{Job, positions}
+use Rattle.job.specs.declared.item.Position.{Position}
 use Rattle.job.specs.Verdict.{Verdict, pass, refuse}
 use Rattle.listing.specs.declared.plate.Plate.{Plate}
 use Rattle.listing.specs.declared.plate.Residuals.{Residuals}
 use Rattle.listing.specs.Plate.{board, waste, same, mayCut, leaves, kept}
 
--- a cut: the plate type and the item type of its pair, and the numbers of its top and its right, 0 if not kept
+-- a cut: "plate, type and turn" (request One), and the numbers of its top and its right, 0 if not kept. `item` is the number of type and turn, which is
+-- also the item word of its record: "twice the type plus the turn"
 pub record Cut : Type 0 where
   pub plate : ℕ
   pub item : ℕ
@@ -62,7 +63,7 @@ entered job p ps =
           record { number = j; plates = elim (ltb j (length ps)) [ true ↦ ps | false ↦ ps ++ (p ∷ []) ] }
     ]
 
--- the permitted pair of plate type j and item type i "becomes the next cut", "then its top and after it its right"
+-- the permitted pair of plate type j and position i "becomes the next cut", "then its top and after it its right"
 unfoldable pub cutDone : Job → ℕ → ℕ → Residuals → Listing → Listing
 cutDone job j i r l =
     let t = entered job (r .top) (l .plates) in
@@ -87,16 +88,16 @@ module _ (plateLimit cutLimit : ℕ) (job : Job) where
         | false ↦ elim (ltb plateLimit (length (l .plates))) [ true ↦ stopped 6 | false ↦ going l ]
       ]
 
-  -- plate type j, which is p, with item type i
-  unfoldable pub pair : ℕ → Plate → ℕ → Item → Listing → Walk
+  -- plate type j, which is p, with position i: an item type and its turn
+  unfoldable pub pair : ℕ → Plate → ℕ → Position → Listing → Walk
   pair j p i item l =
       elim (mayCut (job .mode) item p) [
         | false ↦ going l
         | true ↦ limited (cutDone job j i (leaves (job .mode) item p) l)
       ]
 
-  -- "at each, item types in rising number": those from i on
-  unfoldable pub overItems : ℕ → Plate → ℕ → List Item → Listing → Walk
+  -- "at each, item types in rising number", each "the unturned first" (request One): positions from i on
+  unfoldable pub overItems : ℕ → Plate → ℕ → List Position → Listing → Walk
   overItems j p i [] l = going l
   overItems j p i (item ∷ items) l =
       elim (pair j p i item l) [
@@ -111,7 +112,7 @@ module _ (plateLimit cutLimit : ℕ) (job : Job) where
       elim (ltb j (length (l .plates))) [
         | false ↦ going l
         | true ↦
-            elim (overItems j (plateAt l j) 1 (job .items) l) [
+            elim (overItems j (plateAt l j) 1 (positions job) l) [
               | stopped n ↦ stopped n
               | going l′ ↦ overPlates fuel (suc j) l′
             ]

@@ -5,8 +5,8 @@ use mathlib.Core.Path.{_≡_}
 use mathlib.Core.Logic.{_⊎_}
 use mathlib.Core.Bool.{true, false}
 use lib.ListN.{length}
-use Rattle.job.specs.declared.item.Item.{Item}
-use Rattle.job.specs.Job.{Job, itemAt}
+use Rattle.job.specs.declared.item.Position.{Position}
+use Rattle.job.specs.Job.{Job, positions, positionAt}
 use Rattle.listing.specs.declared.plate.Plate.{Plate}
 use Rattle.listing.specs.declared.plate.Residuals.{Residuals}
 use Rattle.listing.specs.Plate.{board, mayCut, leaves, kept}
@@ -22,9 +22,9 @@ Numbered job l q r =
 abbrev pub Before : Cut → Cut → Type 0
 Before c d = (c .plate < d .plate) ⊎ ((c .plate ≡ d .plate) × (c .item < d .item))
 
--- the item and the residuals of a cut
-abbrev pub itemOf : Job → Cut → Item
-itemOf job c = itemAt job (c .item)
+-- the item of a cut, in its position, and the residuals
+abbrev pub itemOf : Job → Cut → Position
+itemOf job c = positionAt job (c .item)
 
 abbrev pub leftBy : Job → Listing → Cut → Residuals
 leftBy job l c = leaves (job .mode) (itemOf job c) (plateAt l (c .plate))
@@ -39,18 +39,18 @@ pub record Model (job : Job) (l : Listing) : Type 0 where
   pub first : plateAt l 0 ≡ board job
   -- plate types are distinct
   pub distinct : (j k : ℕ) → j < length (l .plates) → k < length (l .plates) → plateAt l j ≡ plateAt l k → j ≡ k
-  -- each residual type has an item type that may be cut from it, and a stage from 1 to 3
+  -- each residual type has an item type that may be cut from it, in some position, and a stage from 1 to 3
   pub all-kept : (j : ℕ) → 0 < j → j < length (l .plates) → kept job (plateAt l j) ≡ true
   pub staged : (j : ℕ) → j < length (l .plates) → (1 ≤ plateAt l j .stage) × (plateAt l j .stage ≤ 3)
-  -- a cut is a permitted pair of a plate type and an item type
+  -- a cut is a permitted pair of a plate type and a position of an item type
   pub on-plate : (c : ℕ) → c < length (l .cuts) → cutAt l (suc c) .plate < length (l .plates)
-  pub of-item : (c : ℕ) → c < length (l .cuts) → (1 ≤ cutAt l (suc c) .item) × (cutAt l (suc c) .item ≤ length (job .items))
+  pub of-item : (c : ℕ) → c < length (l .cuts) → (1 ≤ cutAt l (suc c) .item) × (cutAt l (suc c) .item ≤ length (positions job))
   pub permitted : (c : ℕ) → c < length (l .cuts) → mayCut (job .mode) (itemOf job (cutAt l (suc c))) (plateAt l (cutAt l (suc c) .plate)) ≡ true
   -- its residuals have their numbers, or 0 where they are not kept
   pub top-numbered : (c : ℕ) → c < length (l .cuts) → Numbered job l (leftBy job l (cutAt l (suc c)) .top) (cutAt l (suc c) .top)
   pub right-numbered : (c : ℕ) → c < length (l .cuts) → Numbered job l (leftBy job l (cutAt l (suc c)) .right) (cutAt l (suc c) .right)
   -- each permitted pair is a cut
-  pub each : (j i : ℕ) → j < length (l .plates) → 1 ≤ i → i ≤ length (job .items) → mayCut (job .mode) (itemAt job i) (plateAt l j) ≡ true → (c : ℕ) × (c < length (l .cuts)) × (cutAt l (suc c) .plate ≡ j) × (cutAt l (suc c) .item ≡ i)
-  -- cuts rise with the plate type and, on one plate type, with the item type: so each pair is one cut only, and the cuts on one plate type
+  pub each : (j i : ℕ) → j < length (l .plates) → 1 ≤ i → i ≤ length (positions job) → mayCut (job .mode) (positionAt job i) (plateAt l j) ≡ true → (c : ℕ) × (c < length (l .cuts)) × (cutAt l (suc c) .plate ≡ j) × (cutAt l (suc c) .item ≡ i)
+  -- cuts rise with the plate type and, on one plate type, with the position: so each pair is one cut only, and the cuts on one plate type
   -- are numbered in a row
   pub rising : (c d : ℕ) → c < d → d < length (l .cuts) → Before (cutAt l (suc c)) (cutAt l (suc d))

@@ -3,10 +3,10 @@ use Prim.Native.Nat.{ℕ, _-_}
 use mathlib.Core.Bool.{Bool, true, cond, not, _&&_, _||_}
 use lib.Dec.{leb, eqb}
 use Rattle.job.specs.declared.mode.Mode.{Mode}
-use Rattle.job.specs.declared.item.Item.{Item}
+use Rattle.job.specs.declared.item.Position.{Position}
 use Rattle.job.specs.Lists.{any}
 use Rattle.job.specs.Mode.{three, exact}
-use Rattle.job.specs.Job.{Job}
+use Rattle.job.specs.Job.{Job, positions}
 use Rattle.listing.specs.declared.plate.Plate.{Plate}
 use Rattle.listing.specs.declared.plate.Residuals.{Residuals}
 
@@ -27,46 +27,50 @@ unfoldable pub same : Plate → Plate → Bool
 same p q = eqb (p .width) (q .width) && eqb (p .height) (q .height) && eqb (p .stage) (q .stage)
 
 -- "in 2E at stage 2 its height equals h"
-abbrev pub heightAtTwo : Item → Plate → Bool
+abbrev pub heightAtTwo : Position → Plate → Bool
 heightAtTwo item p = not (eqb (p .stage) 2) || eqb (item .height) (p .height)
 
 -- "in 3E at stage 3 its width equals w"
-abbrev pub widthAtThree : Item → Plate → Bool
+abbrev pub widthAtThree : Position → Plate → Bool
 widthAtThree item p = not (eqb (p .stage) 3) || eqb (item .width) (p .width)
 
 -- what the exact modes ask besides: 3E of width, 2E of height; the non-exact modes ask nothing
-unfoldable pub exactFit : Mode → Item → Plate → Bool
+unfoldable pub exactFit : Mode → Position → Plate → Bool
 exactFit m item p =
     cond (exact m)
     (cond (three m) (widthAtThree item p) (heightAtTwo item p))
     true
 
--- the item may be cut from the plate
-unfoldable pub mayCut : Mode → Item → Plate → Bool
-mayCut m item p = leb (item .width) (p .width) && leb (item .height) (p .height) && exactFit m item p
+-- the item in this position may be cut from the plate: the position is permitted (request One), and its sides as it lies fit the plate
+unfoldable pub mayCut : Mode → Position → Plate → Bool
+mayCut m item p =
+    item .allowed
+    && leb (item .width) (p .width)
+    && leb (item .height) (p .height)
+    && exactFit m item p
 
 abbrev pub residuals : Plate → Plate → Residuals
 residuals top right = record { top = top; right = right }
 
--- "The cut leaves, with wi and hi for the item's sides", in document 01's four rows:
+-- "The cut leaves, with wi and hi for the item's sides", as it lies, in document 01's four rows:
 -- "Stage 1: top (w, h−hi, 1); right (w−wi, hi, 2)."
-abbrev pub stageOne : Item → Plate → Residuals
+abbrev pub stageOne : Position → Plate → Residuals
 stageOne item p = residuals (plate (p .width) (p .height - item .height) 1) (plate (p .width - item .width) (item .height) 2)
 
 -- "Stage 2, two-stage modes: right (w−wi, hi, 2); what lies above is waste."
-abbrev pub stageTwoOfTwo : Item → Plate → Residuals
+abbrev pub stageTwoOfTwo : Position → Plate → Residuals
 stageTwoOfTwo item p = residuals waste (plate (p .width - item .width) (item .height) 2)
 
 -- "Stage 2, three-stage modes: top (wi, h−hi, 3); right (w−wi, h, 2)."
-abbrev pub stageTwoOfThree : Item → Plate → Residuals
+abbrev pub stageTwoOfThree : Position → Plate → Residuals
 stageTwoOfThree item p = residuals (plate (item .width) (p .height - item .height) 3) (plate (p .width - item .width) (p .height) 2)
 
 -- "Stage 3: top (wi, h−hi, 3); what lies beside is waste."
-abbrev pub stageThree : Item → Plate → Residuals
+abbrev pub stageThree : Position → Plate → Residuals
 stageThree item p = residuals (plate (item .width) (p .height - item .height) 3) waste
 
 -- the row that holds, by the plate's stage and the mode
-unfoldable pub leaves : Mode → Item → Plate → Residuals
+unfoldable pub leaves : Mode → Position → Plate → Residuals
 leaves m item p =
     cond (eqb (p .stage) 1)
     (stageOne item p)
@@ -74,6 +78,6 @@ leaves m item p =
     (cond (three m) (stageTwoOfThree item p) (stageTwoOfTwo item p))
     (stageThree item p))
 
--- "a residual is kept if at least one item type may be cut from it, otherwise it is waste"
+-- "a residual is kept if at least one item type may be cut from it, otherwise it is waste": in some position, unturned or turned (request One)
 unfoldable pub kept : Job → Plate → Bool
-kept job p = any (λ item. mayCut (job .mode) item p) (job .items)
+kept job p = any (λ item. mayCut (job .mode) item p) (positions job)

@@ -1,4 +1,5 @@
--- Document 01, "Plates and cuts": records as 16-bit words, "a plate's width, height, stage; a cut's plate, item, top and right".
+-- Document 01, "Plates and cuts": records as 16-bit words, "a plate's width, height, stage; a cut's plate, item, top and right"; the item word
+-- is "twice the type plus the turn" (request One).
 use Prim.Native.Nat.{ℕ}
 use mathlib.Core.List.{List, [], _∷_, flatMap}
 use Rattle.listing.specs.declared.plate.Plate.{Plate}

@@ -5,14 +5,14 @@ ghost use lib.ListN.{length};
 ghost use Rattle.job.specs.Sizes.{wordsOfCut};
 ghost use Rattle.listing.specs.CutRead.{cutIn, cutRead};
 use job::counters::CutNumber;
-use job::counters::ItemType;
+use job::counters::ItemPosition;
 use job::counters::PlateType;
 use job::sizes::CUT_WORDS;
 
-// The plate type and the item type of a cut's pair, and its top and its right, 0 if not kept.
+// The plate type of a cut, its item in its position, and its top and its right, 0 if not kept.
 pub struct CutRecord {
     pub plate: PlateType,
-    pub item: ItemType,
+    pub item: ItemPosition,
     pub top: PlateType,
     pub right: PlateType,
 }
@@ -25,7 +25,7 @@ pub fn cut_at(cuts: &[u16], c: CutNumber) -> CutRecord
     let at = CUT_WORDS * (c.0 as usize - 1);
     CutRecord {
         plate: PlateType(cuts[at]),
-        item: ItemType(cuts[at + 1]),
+        item: ItemPosition(cuts[at + 1]),
         top: PlateType(cuts[at + 2]),
         right: PlateType(cuts[at + 3]),
     }

@@ -2,7 +2,7 @@
 ghost use mathlib.Core.Path.{_≡_};
 ghost use Prim.Native.Nat.{_≤_};
 ghost use Rattle.listing.specs.Plate.{mayCut, leaves, same};
-use job::item::Item;
+use job::item::Position;
 use job::mode::Mode;
 
 // A plate type: its sides in millimetres, and its stage, 1 to 3.
@@ -18,10 +18,13 @@ pub struct Residuals {
     pub right: Plate,
 }
 
-// Whether an item may be cut from a plate.
-pub fn may_cut(mode: Mode, item: Item, p: Plate) -> bool
+// Whether an item may be cut from a plate in a position, which must be permitted.
+pub fn may_cut(mode: Mode, item: Position, p: Plate) -> bool
     ensures { λ r. ⌜ r ≡ mayCut mode item p ⌝ }
 {
+    if !item.allowed {
+        return false;
+    }
     if p.width < item.width {
         return false;
     }
@@ -38,7 +41,7 @@ pub fn may_cut(mode: Mode, item: Item, p: Plate) -> bool
 }
 
 // The top and the right residual of a cut, by the plate's stage and the mode: 0 and 1 are the two-stage modes, 2 and 3 the three-stage ones.
-pub fn cut_leaves(mode: Mode, item: Item, p: Plate) -> Residuals
+pub fn cut_leaves(mode: Mode, item: Position, p: Plate) -> Residuals
     requires { ⌜ (item .width ≤ p .width) × (item .height ≤ p .height) ⌝ }
     ensures { λ r. ⌜ r ≡ leaves mode item p ⌝ }
 {

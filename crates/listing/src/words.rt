@@ -9,7 +9,7 @@ ghost use Rattle.listing.specs.Holds.{Holds, plateRead, cutOfWords};
 ghost use Rattle.listing.specs.declared.plate.Plate.{Plate};
 use crate::plate::Plate;
 use job::counters::CutNumber;
-use job::counters::ItemType;
+use job::counters::ItemPosition;
 use job::counters::PlateType;
 use job::counters::PlateTypes;
 use job::sizes::CUT_WORDS;
@@ -39,12 +39,12 @@ pub fn put_plate(plates: &mut [u16], m: PlateTypes, p: Plate)
     plates[at + 2] = p.stage;
 }
 
-// Writes a cut, of plate type j and item type i, behind the k cuts that the buffer holds.
+// Writes a cut, of plate type j and an item in position i, behind the k cuts that the buffer holds.
 pub fn put_cut(
     cuts: &mut [u16],
     k: CutNumber,
     j: PlateType,
-    i: ItemType,
+    i: ItemPosition,
     top: PlateType,
     right: PlateType,
 )

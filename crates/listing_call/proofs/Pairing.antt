@@ -5,7 +5,7 @@ use mathlib.Core.Bool.{true, false}
 use mathlib.Core.List.{List, [], _∷_, _++_}
 use native.Mathlib.Omega.{arith}
 use lib.ListN.{length, length-append}
-use Rattle.job.specs.declared.item.Item.{Item}
+use Rattle.job.specs.declared.item.Position.{Position}
 use Rattle.job.specs.Sizes.{maxPlates, maxCuts}
 use Rattle.job.specs.Job.{Job}
 use Rattle.listing.specs.declared.plate.Plate.{Plate}
@@ -18,7 +18,7 @@ use Rattle.listing.proofs.Steps.{limited-cuts, limited-plates, limited-going, p
 use Rattle.listing_call.specs.Steps.{Rep, Here, EnteredIn}
 use Rattle.listing_call.proofs.Entering.{entered-more}
 
-module _ (job : Job) (j : ℕ) (p : Plate) (i : ℕ) (item : Item) (l : Listing) {plates cuts : List ℕ} {m k : ℕ} (h : Rep l plates cuts m k) where
+module _ (job : Job) (j : ℕ) (p : Plate) (i : ℕ) (item : Position) (l : Listing) {plates cuts : List ℕ} {m k : ℕ} (h : Rep l plates cuts m k) where
   abbrev of-pair : Walk
   of-pair = pair maxPlates maxCuts job j p i item l
 

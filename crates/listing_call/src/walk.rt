@@ -1,18 +1,19 @@
-// The walk: plate types in rising number, at each the item types in rising number.
+// The walk: plate types in rising number, at each the item types in rising number, each unturned and then turned.
 ghost use Prim.Native.Nat.{_≤_};
 ghost use Rattle.job.specs.Sizes.{maxPlates, maxCuts};
-ghost use Rattle.job.specs.Job.{jobOf, itemAt};
+ghost use Rattle.job.specs.Job.{jobOf, typeOf, positionAt};
 ghost use Rattle.listing.specs.Listing.{Listing, walkStart, pair, walk};
 ghost use Rattle.listing_call.specs.Steps.{Room, Rep, Stepped};
 use crate::entry::Entered;
 use crate::entry::enter;
 use job::counters::CutNumber;
+use job::counters::ItemPosition;
 use job::counters::ItemType;
 use job::counters::PlateType;
 use job::counters::PlateTypes;
 use job::mode::Mode;
+use job::position::position_at;
 use job::sizes::MAX_CUTS;
-use job::words::item_at;
 use listing::plate::Plate;
 use listing::plate::cut_leaves;
 use listing::plate::may_cut;
@@ -25,7 +26,7 @@ pub enum Step {
     Stop(u16),
 }
 
-// The pair of plate type j, which is `plate`, and item type i: a permitted one becomes the next cut, and its residuals are entered. Whatever listing the
+// The pair of plate type j, which is `plate`, and an item in position i: a permitted one becomes the next cut, and its residuals are entered. Whatever listing the
 // buffers hold, they end as `pair` makes it, or the step stops where `pair` does.
 pub fn pair_step(
     job: &[u16],
@@ -37,13 +38,13 @@ pub fn pair_step(
     k: CutNumber,
     j: PlateType,
     plate: Plate,
-    i: ItemType,
+    i: ItemPosition,
 ) -> Step
     requires { ⌜ Room (now job) mode (n .0) (now plates) (now cuts) (m .0) (k .0) ⌝ }
-    requires { ⌜ (1 ≤ i .0) × (i .0 ≤ n .0) ⌝ }
-    ensures { λ a. ⌜ ((l : Listing) → Rep l (now (plates .entry)) (now (cuts .entry)) (m .0) (k .0) → Stepped (pair maxPlates maxCuts (jobOf (now (job .entry))) (j .0) plate (i .0) (itemAt (jobOf (now (job .entry))) (i .0)) l) a (now (plates .exit)) (now (cuts .exit))) ⌝ }
+    requires { ⌜ (1 ≤ typeOf (i .0)) × (typeOf (i .0) ≤ n .0) ⌝ }
+    ensures { λ a. ⌜ ((l : Listing) → Rep l (now (plates .entry)) (now (cuts .entry)) (m .0) (k .0) → Stepped (pair maxPlates maxCuts (jobOf (now (job .entry))) (j .0) plate (i .0) (positionAt (jobOf (now (job .entry))) (i .0)) l) a (now (plates .exit)) (now (cuts .exit))) ⌝ }
 {
-    let item = item_at(job, i);
+    let item = position_at(job, i);
     if !may_cut(mode, item, plate) {
         return Step::Next(m, k);
     }
@@ -70,7 +71,7 @@ pub fn walk(job: &[u16], mode: Mode, n: ItemType, plates: &mut [u16], cuts: &mut
     requires { ⌜ Rep (walkStart (jobOf (now job))) (now plates) (now cuts) 1 0 ⌝ }
     ensures { λ a. ⌜ Stepped (walk (jobOf (now (job .entry)))) a (now (plates .exit)) (now (cuts .exit)) ⌝ }
 {
-    let last = n.0;
+    let last = 2 * n.0 + 1;
     let mut m = PlateTypes(1);
     let mut k = CutNumber(0);
     let mut j: u16 = 0;
@@ -79,7 +80,7 @@ pub fn walk(job: &[u16], mode: Mode, n: ItemType, plates: &mut [u16], cuts: &mut
             break 'walk Step::Next(m, k);
         }
         let plate = plate_at(plates, PlateType(j));
-        let mut i: u16 = 1;
+        let mut i: u16 = 2;
         while i <= last {
             match pair_step(
                 job,
@@ -91,7 +92,7 @@ pub fn walk(job: &[u16], mode: Mode, n: ItemType, plates: &mut [u16], cuts: &mut
                 k,
                 PlateType(j),
                 plate,
-                ItemType(i),
+                ItemPosition(i),
             ) {
                 Step::Next(m1, k1) => {
                     m = m1;

@@ -11,7 +11,7 @@ use borrow.Author.Tests.{eq-eqb, ne-eqb, eqb-true, eqb-false, ltb-true, ltb-fals
 use Rattle.job.specs.Job.{Job}
 use Rattle.listing.specs.Listing.{Cut, Listing, noCut, cutAt}
 use Rattle.listing.specs.Model.{Before, Model}
-use Rattle.plan.specs.Plan.{onPlate, ofItem}
+use Rattle.plan.specs.Plan.{onPlate, ofPosition}
 use Rattle.layouts.specs.Fold.{cutFrom, cutOf}
 use Rattle.listing.specs.CutRead.{cutRead, cutsRead}
 use Rattle.listing.proofs.CodeCuts.{length-cutsFrom, cut-read}
@@ -77,9 +77,9 @@ module _ (cs : List Cut) (r : Rising cs) (j i a b m : ℕ) (n : Narrowed cs j i 
 
 -- the cut is that of the pair
 abbrev isPair : ℕ → ℕ → Cut → Bool
-isPair j i c = onPlate j c && ofItem i c
+isPair j i c = onPlate j c && ofPosition i c
 
--- where two cuts are the same, the plate types of the one, and then its item types, are compared for the other
+-- where two cuts are the same, the plate types of the one, and then its positions, are compared for the other
 module _ (j i : ℕ) (c d : Cut) (h : c ≡ d) where
   pub earlier-other : (c .plate ≡ j → ⊥) → ltb (c .plate) j ≡ earlier j i d
   unfolding earlier
@@ -90,16 +90,16 @@ module _ (j i : ℕ) (c d : Cut) (h : c ≡ d) where
   earlier-same e = rw (← h, eq-eqb (c .plate) j e)
 
   pub pair-same : c .plate ≡ j → eqb (c .item) i ≡ isPair j i d
-  unfolding onPlate ofItem
+  unfolding onPlate ofPosition
   pair-same e = rw (← h, eq-eqb (c .plate) j e)
 
   pub pair-other : (c .plate ≡ j → ⊥) → eqb (c .plate) j ≡ isPair j i d
-  unfolding onPlate ofItem
+  unfolding onPlate ofPosition
   pair-other e = rw (← h, ne-eqb (c .plate) j e)
 
 -- one that comes before the pair, or after it, is not
 pair-parts : (j i : ℕ) (c : Cut) → isPair j i c ≡ true → (c .plate ≡ j) × (c .item ≡ i)
-unfolding onPlate ofItem
+unfolding onPlate ofPosition
 pair-parts j i c h = go (eqb (c .plate) j) refl h
   where
     go : (t : Bool) → eqb (c .plate) j ≡ t → t && eqb (c .item) i ≡ true → (c .plate ≡ j) × (c .item ≡ i)

@@ -1,4 +1,4 @@
--- Document 01, "Numbering": cuts are numbered in rising order of plate type and, on one plate type, of item type.
+-- Document 01, "Numbering": cuts are numbered in rising order of plate type and, on one plate type, of item type, each "the unturned first" (request One).
 use Prim.Native.Nat.{ℕ, _≤_, _<_}
 use mathlib.Core.Bool.{Bool, cond}
 use mathlib.Core.List.{List}
@@ -12,7 +12,7 @@ use Rattle.listing.specs.Holds.{cutOfWords}
 pub record Rising (cs : List Cut) : Type 0 where
   pub rises : (c d : ℕ) → c < d → d < length cs → Before (getD cs c noCut) (getD cs d noCut)
 
--- the cut comes before the pair of plate type j and item type i
+-- the cut comes before the pair of plate type j and position i
 unfoldable pub earlier : ℕ → ℕ → Cut → Bool
 earlier j i c = cond (eqb (c .plate) j) (ltb (c .item) i) (ltb (c .plate) j)
 

@@ -1,2 +1,2 @@
-// The cut of a plate type and an item type, found by its pair.
+// The cut of a plate type and an item in a position, found by its pair.
 pub mod search;

@@ -1,4 +1,4 @@
-// The number of the cut of a plate type and an item type: cuts rise with their pairs, so it is found by halving.
+// The number of the cut of a plate type and an item in a position: cuts rise with their pairs, so it is found by halving.
 ghost use mathlib.Core.Path.{_≡_};
 ghost use mathlib.Core.Bool.{_&&_};
 ghost use Prim.Native.Nat.{_-_, _*_, _≤_};
@@ -6,12 +6,12 @@ ghost use lib.ListN.{length};
 ghost use Rattle.job.specs.Sizes.{wordsOfCut};
 ghost use Rattle.listing.specs.Listing.{Listing};
 ghost use Rattle.listing.specs.CutRead.{cutRead, cutsRead};
-ghost use Rattle.plan.specs.Plan.{onPlate, ofItem};
+ghost use Rattle.plan.specs.Plan.{onPlate, ofPosition};
 ghost use Rattle.layouts.specs.Fold.{cutOf};
 ghost use Rattle.listing_find.specs.Rising.{Rising, Narrowed, earlier};
 ghost use Rattle.listing_find.specs.Found.{cutFound, Among};
 use job::counters::CutNumber;
-use job::counters::ItemType;
+use job::counters::ItemPosition;
 use job::counters::PlateType;
 use listing::cut::cut_at;
 
@@ -21,8 +21,8 @@ pub enum Found {
     Nothing,
 }
 
-// Whether a cut comes before the pair of plate type j and item type i.
-fn is_earlier(cuts: &[u16], c: CutNumber, j: PlateType, i: ItemType) -> bool
+// Whether a cut comes before the pair of plate type j and position i.
+fn is_earlier(cuts: &[u16], c: CutNumber, j: PlateType, i: ItemPosition) -> bool
     requires { ⌜ (1 ≤ c .0) × (wordsOfCut * c .0 ≤ length (now cuts)) ⌝ }
     ensures { λ r. ⌜ r ≡ earlier (j .0) (i .0) (cutRead (now (cuts .entry)) (c .0 - 1)) ⌝ }
 {
@@ -33,18 +33,25 @@ fn is_earlier(cuts: &[u16], c: CutNumber, j: PlateType, i: ItemType) -> bool
     cut.item.0 < i.0
 }
 
-// Whether a cut is that of plate type j and item type i.
-fn is_pair(cuts: &[u16], c: CutNumber, j: PlateType, i: ItemType) -> bool
+// Whether a cut is that of plate type j and position i.
+fn is_pair(cuts: &[u16], c: CutNumber, j: PlateType, i: ItemPosition) -> bool
     requires { ⌜ (1 ≤ c .0) × (wordsOfCut * c .0 ≤ length (now cuts)) ⌝ }
-    ensures { λ r. ⌜ r ≡ (onPlate (j .0) (cutRead (now (cuts .entry)) (c .0 - 1)) && ofItem (i .0) (cutRead (now (cuts .entry)) (c .0 - 1))) ⌝ }
+    ensures { λ r. ⌜ r ≡ (onPlate (j .0) (cutRead (now (cuts .entry)) (c .0 - 1)) && ofPosition (i .0) (cutRead (now (cuts .entry)) (c .0 - 1))) ⌝ }
 {
     let cut = cut_at(cuts, c);
     cut.plate.0 == j.0 && cut.item.0 == i.0
 }
 
-// The number of the cut of plate type j and item type i among k cuts in rising order, where the first `from` cuts come before the pair, and those behind
+// The number of the cut of plate type j and position i among k cuts in rising order, where the first `from` cuts come before the pair, and those behind
 // the first `to` do not: both say how many cuts come before one, from 0.
-fn find_between(cuts: &[u16], k: CutNumber, from: u16, to: u16, j: PlateType, i: ItemType) -> Found
+fn find_between(
+    cuts: &[u16],
+    k: CutNumber,
+    from: u16,
+    to: u16,
+    j: PlateType,
+    i: ItemPosition,
+) -> Found
     requires { ⌜ (wordsOfCut * k .0 ≤ length (now cuts)) × ((from ≤ to) × (to ≤ k .0)) ⌝ }
     requires { ⌜ (Rising (cutsRead (k .0) (now cuts)) → Narrowed (cutsRead (k .0) (now cuts)) (j .0) (i .0) from to) ⌝ }
     ensures { λ r. ⌜ ((l : Listing) → l .cuts ≡ cutsRead (k .0) (now (cuts .entry)) → Rising (l .cuts) → cutFound r ≡ cutOf l (j .0) (i .0)) ⌝ }
@@ -68,8 +75,8 @@ fn find_between(cuts: &[u16], k: CutNumber, from: u16, to: u16, j: PlateType, i:
     Found::Nothing
 }
 
-// The number of the cut of plate type j and item type i among k cuts in rising order.
-pub fn find_cut(cuts: &[u16], k: CutNumber, j: PlateType, i: ItemType) -> Found
+// The number of the cut of plate type j and position i among k cuts in rising order.
+pub fn find_cut(cuts: &[u16], k: CutNumber, j: PlateType, i: ItemPosition) -> Found
     requires { ⌜ wordsOfCut * k .0 ≤ length (now cuts) ⌝ }
     ensures { λ r. ⌜ ((l : Listing) → l .cuts ≡ cutsRead (k .0) (now (cuts .entry)) → Rising (l .cuts) → cutFound r ≡ cutOf l (j .0) (i .0)) ⌝ }
     ensures { λ r. ⌜ Among (k .0) r ⌝ }
@@ -93,7 +100,7 @@ pub fn find_cut_near(
     k: CutNumber,
     near: CutNumber,
     j: PlateType,
-    i: ItemType,
+    i: ItemPosition,
 ) -> Found
     requires { ⌜ wordsOfCut * k .0 ≤ length (now cuts) ⌝ }
     ensures { λ r. ⌜ ((l : Listing) → l .cuts ≡ cutsRead (k .0) (now (cuts .entry)) → Rising (l .cuts) → cutFound r ≡ cutOf l (j .0) (i .0)) ⌝ }

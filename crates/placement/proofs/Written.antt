@@ -5,6 +5,7 @@ use mathlib.Core.Path.{_≡_, _∙_}
 use mathlib.Core.List.{List, [], _∷_, _++_, append-assoc}
 use lib.ListN.{length, set, length-append, length-set}
 use Rattle.job.specs.Sizes.{wordsOfPlacement}
+use Rattle.job.specs.Job.{typeOf, turnOf}
 use Rattle.job.proofs.Records.{words-last}
 use Rattle.listing.specs.Holds.{Holds}
 use Rattle.listing.proofs.CodeHolds.{held-put}
@@ -18,17 +19,18 @@ pub held-placement-put :
     → at + wordsOfPlacement ≤ length buffer
     → Holds buffer (placementWords ps)
     → Holds
-    (set (set (set (set (set (set (set buffer at (p .turn .board)) (at + 1) (p .turn .strip)) (at + 2) (p .turn .stack)) (at + 3) (p .turn .place)) (at + 4) (p .item)) (at + 5) (p .x)) (at + 6) (p .y))
+    (set (set (set (set (set (set (set (set buffer at (p .turn .board)) (at + 1) (p .turn .strip)) (at + 2) (p .turn .stack)) (at + 3) (p .turn .place)) (at + 4) (typeOf (p .item))) (at + 5) (p .x)) (at + 6) (p .y)) (at + 7) (turnOf (p .item)))
     (placementWords (ps ++ p ∷ []))
 unfolding placementWords
 held-placement-put {buffer} ps at p e h r =
     let l : length (placementWords ps) ≡ at = words-length ps ∙ e in
     rw words-last
     (simp append-assoc at
+    (held-put (at + 7) (turnOf (p .item)) (simp length-append (omega arith)) (simp length-set (omega arith))
     (held-put (at + 6) (p .y) (simp length-append (omega arith)) (simp length-set (omega arith))
     (held-put (at + 5) (p .x) (simp length-append (omega arith)) (simp length-set (omega arith))
-    (held-put (at + 4) (p .item) (simp length-append (omega arith)) (simp length-set (omega arith))
+    (held-put (at + 4) (typeOf (p .item)) (simp length-append (omega arith)) (simp length-set (omega arith))
     (held-put (at + 3) (p .turn .place) (simp length-append (omega arith)) (simp length-set (omega arith))
     (held-put (at + 2) (p .turn .stack) (simp length-append (omega arith)) (simp length-set (omega arith))
     (held-put (at + 1) (p .turn .strip) (simp length-append (omega arith)) (simp length-set (omega arith))
-    (held-put at (p .turn .board) l (omega arith) r))))))))
+    (held-put at (p .turn .board) l (omega arith) r)))))))))

@@ -9,7 +9,7 @@ use Rattle.plan.specs.Plan.{countOf, ofItem, onPlate, leavesPlate, total
 use Rattle.plan.specs.Prices.{Prices, residualPrice, worth}
 
 -- "A plan is accepted exactly when each item type is cut at least as often as demanded, no residual type is cut more often than it arises and
--- the counts add up to at most 4,000"
+-- the counts add up to at most 4,000"; "both turns count towards a type's demand" (request One)
 pub record Feasible (job : Job) (l : Listing) (ns : List ℕ) : Type 0 where
   pub few : total ns ≤ maxPieces
   pub met : (i : ℕ) → 1 ≤ i → i ≤ length (job .items) → itemAt job i .demand ≤ countOf (ofItem i) (l .cuts) ns

@@ -7,7 +7,7 @@ use lib.ListN.{length, drop}
 use Rattle.job.specs.declared.item.Item.{Item}
 use Rattle.job.specs.Lists.{sumOf}
 use Rattle.job.specs.Verdict.{Verdict, _then_, refuseIf, lowest}
-use Rattle.job.specs.Job.{Job, maxPieces}
+use Rattle.job.specs.Job.{Job, typeOf, maxPieces}
 use Rattle.listing.specs.declared.plate.Plate.{Plate}
 use Rattle.listing.specs.Listing.{Cut, Listing}
 
@@ -17,9 +17,13 @@ countOf test [] ns = 0
 countOf test (c ∷ cs) [] = 0
 countOf test (c ∷ cs) (n ∷ ns) = cond (test c) n 0 + countOf test cs ns
 
--- the cut is of item type i
+-- the cut is of item type i, in either turn: "both turns count towards a type's demand" (request One)
 unfoldable pub ofItem : ℕ → Cut → Bool
-ofItem i c = eqb (c .item) i
+ofItem i c = eqb (typeOf (c .item)) i
+
+-- the cut is of position q: of one type in one turn (request One)
+unfoldable pub ofPosition : ℕ → Cut → Bool
+ofPosition q c = eqb (c .item) q
 
 -- the cut is on plate type j
 unfoldable pub onPlate : ℕ → Cut → Bool

@@ -7,7 +7,7 @@ use lib.ListN.{length, getD, take, drop}
 pub use Rattle.job.specs.Sizes.{maxPrice}
 use Rattle.job.specs.declared.item.Item.{Item}
 use Rattle.job.specs.Verdict.{Verdict, pass, _then_, refuseIf, within, lowest}
-use Rattle.job.specs.Job.{Job}
+use Rattle.job.specs.Job.{Job, typeOf}
 use Rattle.listing.specs.Listing.{Cut, Listing, residualTypes}
 
 -- the denominator D; a price for each item type and each residual type, both in order
@@ -46,9 +46,9 @@ unfoldable pub priceLimit : Prices → ℕ → ℕ
 priceLimit ps zero = ps .denominator
 priceLimit ps (suc j) = residualPrice ps (suc j)
 
--- "the item's price plus the prices of its kept residuals"
+-- "the item's price plus the prices of its kept residuals": a type has one price in both turns (request One)
 unfoldable pub worth : Prices → Cut → ℕ
-worth ps c = itemPrice ps (c .item) + residualPrice ps (c .top) + residualPrice ps (c .right)
+worth ps c = itemPrice ps (typeOf (c .item)) + residualPrice ps (c .top) + residualPrice ps (c .right)
 
 unfoldable pub overLimit : Prices → Cut → Bool
 overLimit ps c = ltb (priceLimit ps (c .plate)) (worth ps c)

@@ -1,23 +1,26 @@
 -- What the code knows once a job is listed: the cuts that it reads are those of the job's listing, and each is in range.
 use mathlib.Core.Path.{_≡_}
-use Prim.Native.Nat.{ℕ, _-_, _≤_}
+use Prim.Native.Nat.{ℕ, suc, _-_, _≤_, _<_}
 use mathlib.Core.List.{List, [], _∷_}
 use native.Mathlib.Omega.{arith}
 use lib.ListN.{length, getD}
 use Rattle.job.specs.Sizes.{cutsSize}
 use Rattle.job.specs.Verdict.{pass}
 use Rattle.job.specs.Buffers.{given, answer}
-use Rattle.job.specs.Job.{Job, jobOf, jobWords, admission}
+use Rattle.job.specs.Job.{Job, jobOf, typeOf, jobWords, admission}
+use Rattle.job.specs.Admitted.{Between}
 use Rattle.job.proofs.CodeItems.{items-length}
 use Rattle.job.proofs.CodeAdmission.{passed-length, passed-few}
+use Rattle.job.proofs.Positions.{permitted-type}
 use Rattle.job.proofs.Verdicts.{then-both}
 use Rattle.job.proofs.Admission.{admitted-words, admitted-job, admitted-sided}
 use Rattle.job.proofs.CodeEnds.{given-pass}
-use Rattle.listing.specs.Listing.{Listing, cutAt, modelRow, listingOf, residualTypes}
-use Rattle.listing.specs.Model.{Model}
+use Rattle.listing.specs.Listing.{Listing, plateAt, cutAt, modelRow, listingOf, residualTypes}
+use Rattle.listing.specs.Model.{Model, itemOf}
 use Rattle.listing.specs.Records.{cutWords}
 use Rattle.listing.specs.Holds.{Holds}
 use Rattle.listing.specs.ListCall.{cutsEnd}
+use Rattle.listing.proofs.Plates.{may-cut}
 use Rattle.listing.proofs.ModelLaws.{numbered-below}
 use Rattle.listing.proofs.WalkModel.{row-model}
 use Rattle.listing.specs.CutRead.{cutsRead, Sound, Lent}
@@ -31,12 +34,18 @@ model-sound job l m =
     record {
       each = λ c h. record {
         on-plate = m .on-plate c h;
-        from-one = m .of-item c h .0;
-        of-item = m .of-item c h .1;
+        from-one = of-type c h .0;
+        of-item = of-type c h .1;
         top-plate = numbered-below job l _ _ (m .some-plate) (m .top-numbered c h);
         right-plate = numbered-below job l _ _ (m .some-plate) (m .right-numbered c h);
       };
     }
+  where
+    -- its position is permitted, and so of an item type of the job
+    of-type : (c : ℕ) → c < length (l .cuts) → Between 1 (length (job .items)) (typeOf (cutAt l (suc c) .item))
+    of-type c h =
+        let k = cutAt l (suc c) in
+        permitted-type job (k .item) (may-cut (job .mode) (itemOf job k) (plateAt l (k .plate)) (m .permitted c h) .allowed)
 
 -- a job of n item types that is admitted and listed, with m plate types and k cuts, the cuts of which the buffer has
 pub record Ready (ws cuts : List ℕ) (n m k : ℕ) : Type 0 where

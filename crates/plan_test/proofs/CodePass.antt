@@ -8,6 +8,7 @@ use native.Mathlib.Numerals.{add-one}
 use lib.ListN.{length, getD, take}
 use lib.Seq.{length-take-le, take-length}
 use Rattle.job.specs.Sizes.{maxTypes, maxPieces, maxPlates}
+use Rattle.job.specs.Job.{typeOf}
 use Rattle.listing.specs.Listing.{Cut}
 use Rattle.plan.specs.Plan.{countOf, ofItem, onPlate, leavesPlate, total}
 use Rattle.listing.specs.CutRead.{cutRead, cutsRead, InRange, Sound}
@@ -32,7 +33,7 @@ module _ (cuts ns items on left : List ℕ) (k c : ℕ) (h : c < k) (l : k ≤ l
   behind = length-take-le c (cutsRead k cuts) (rw length-cutsFrom (omega arith))
 
   -- its four words have room
-  pub turn-fits : total (take k ns) ≤ maxPieces → Sound maxPlates maxTypes (cutsRead k cuts) → SumRoom items on left → (cut : Cut) → cut ≡ cutRead cuts c → (Fit items (cut .item) (getD ns c 0)) × ((Fit on (cut .plate) (getD ns c 0)) × ((Fit left (cut .top) (getD ns c 0)) × (Fit left (cut .right) (getD ns c 0))))
+  pub turn-fits : total (take k ns) ≤ maxPieces → Sound maxPlates maxTypes (cutsRead k cuts) → SumRoom items on left → (cut : Cut) → cut ≡ cutRead cuts c → (Fit items (typeOf (cut .item)) (getD ns c 0)) × ((Fit on (cut .plate) (getD ns c 0)) × ((Fit left (cut .top) (getD ns c 0)) × (Fit left (cut .right) (getD ns c 0))))
   turn-fits t sound r cut e =
       let g : InRange maxPlates maxTypes cut = rw e (cut-sound maxPlates maxTypes k c cuts sound h) in
       let b : length (take c (cutsRead k cuts)) ≡ c = behind in

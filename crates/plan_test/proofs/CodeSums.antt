@@ -10,6 +10,7 @@ use lib.Dec.{eqb}
 use lib.ListN.{length, getD, take, length-set}
 use lib.Seq.{getD-set-same, getD-set-other}
 use Rattle.job.specs.Lists.{sumOf}
+use Rattle.job.specs.Job.{typeOf}
 use Rattle.job.proofs.Sums.{sumOf-take}
 use Rattle.listing.specs.Listing.{Cut}
 use Rattle.plan.specs.Plan.{countOf, ofItem, onPlate, leavesPlate, total}
@@ -95,20 +96,20 @@ or-same true = refl
 or-same false = refl
 
 -- the three sums with one cut more, whose top and right are two types, or one
-module _ (cs : List Cut) (c : Cut) (ns : List ℕ) (n : ℕ) (items on left : List ℕ) (h : length cs < length ns) (v : getD ns (length cs) 0 ≡ n) (i : c .item < length items) (p : c .plate < length on) (t : c .top < length left) (s : Sums cs ns items on left) where
-  sums-more : (left′ : List ℕ) → length left′ ≡ length left → ((j : ℕ) → getD left′ j 0 ≡ getD left j 0 + cond (leavesPlate j c) n 0) → Sums (cs ++ c ∷ []) ns (added items (c .item) n) (added on (c .plate) n) left′
+module _ (cs : List Cut) (c : Cut) (ns : List ℕ) (n : ℕ) (items on left : List ℕ) (h : length cs < length ns) (v : getD ns (length cs) 0 ≡ n) (i : typeOf (c .item) < length items) (p : c .plate < length on) (t : c .top < length left) (s : Sums cs ns items on left) where
+  sums-more : (left′ : List ℕ) → length left′ ≡ length left → ((j : ℕ) → getD left′ j 0 ≡ getD left j 0 + cond (leavesPlate j c) n 0) → Sums (cs ++ c ∷ []) ns (added items (typeOf (c .item)) n) (added on (c .plate) n) left′
   unfolding ofItem onPlate
   sums-more left′ l e =
       record {
-        by-item = sums-next ofItem cs c ns n items (added items (c .item) n) h v (simp length-set) (λ j. added-at items (c .item) n j (ofItem j c) refl i) (s .by-item);
+        by-item = sums-next ofItem cs c ns n items (added items (typeOf (c .item)) n) h v (simp length-set) (λ j. added-at items (typeOf (c .item)) n j (ofItem j c) refl i) (s .by-item);
         by-plate = sums-next onPlate cs c ns n on (added on (c .plate) n) h v (simp length-set) (λ j. added-at on (c .plate) n j (onPlate j c) refl p) (s .by-plate);
         by-residual = sums-next leavesPlate cs c ns n left left′ h v l e (s .by-residual);
       }
 
-  pub sums-one : c .right ≡ c .top → Sums (cs ++ c ∷ []) ns (added items (c .item) n) (added on (c .plate) n) (added left (c .top) n)
+  pub sums-one : c .right ≡ c .top → Sums (cs ++ c ∷ []) ns (added items (typeOf (c .item)) n) (added on (c .plate) n) (added left (c .top) n)
   unfolding leavesPlate
   sums-one e = sums-more (added left (c .top) n) (simp length-set) (λ j. added-at left (c .top) n j (leavesPlate j c) (rw e (or-same (eqb (c .top) j))) t)
 
-  pub sums-two : c .right < length left → (c .right ≡ c .top → ⊥) → Sums (cs ++ c ∷ []) ns (added items (c .item) n) (added on (c .plate) n) (added (added left (c .top) n) (c .right) n)
+  pub sums-two : c .right < length left → (c .right ≡ c .top → ⊥) → Sums (cs ++ c ∷ []) ns (added items (typeOf (c .item)) n) (added on (c .plate) n) (added (added left (c .top) n) (c .right) n)
   unfolding leavesPlate
   sums-two r d = sums-more (added (added left (c .top) n) (c .right) n) (simp length-set) (λ j. left-at left (c .top) (c .right) n j t r d)

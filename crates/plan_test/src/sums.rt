@@ -4,6 +4,7 @@ ghost use mathlib.Core.List.{List, [], _∷_, _++_};
 ghost use Prim.Native.Nat.{ℕ, _*_, _≤_, _<_};
 ghost use lib.ListN.{length, getD, take};
 ghost use Rattle.job.specs.Sizes.{maxTypes, maxPieces, maxPlates, wordsOfCut};
+ghost use Rattle.job.specs.Job.{typeOf};
 ghost use Rattle.listing.specs.Listing.{Cut};
 ghost use Rattle.plan.specs.Plan.{total};
 ghost use Rattle.listing.specs.CutRead.{cutIn, cutsRead, Sound};
@@ -20,16 +21,16 @@ fn add_at(s: &mut [u16], place: usize, n: u16)
     s[place] = s[place] + n;
 }
 
-// Adds the count n of the next cut to the sums of its item type, of its plate type and of the residual types that it leaves.
+// Adds the count n of the next cut to the sums of its item type, in either turn, of its plate type and of the residual types that it leaves.
 fn add_cut(cut: CutRecord, n: u16, items: &mut [u16], on: &mut [u16], left: &mut [u16])
-    requires { ⌜ Fit (now items) (cut .item .0) n ⌝ }
+    requires { ⌜ Fit (now items) (typeOf (cut .item .0)) n ⌝ }
     requires { ⌜ Fit (now on) (cut .plate .0) n ⌝ }
     requires { ⌜ (Fit (now left) (cut .top .0) n) × (Fit (now left) (cut .right .0) n) ⌝ }
     ensures { λ _. ⌜ ((cs : List Cut) (ns : List ℕ) → length cs < length ns → getD ns (length cs) 0 ≡ n → Sums cs ns (now (items .entry)) (now (on .entry)) (now (left .entry)) → Sums (cs ++ cutIn cut ∷ []) ns (now (items .exit)) (now (on .exit)) (now (left .exit))) ⌝ }
 {
     let top = cut.top.0 as usize;
     let right = cut.right.0 as usize;
-    add_at(items, cut.item.0 as usize, n);
+    add_at(items, cut.item.0 as usize / 2, n);
     add_at(on, cut.plate.0 as usize, n);
     add_at(left, top, n);
     if right != top {

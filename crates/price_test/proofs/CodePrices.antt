@@ -13,7 +13,7 @@ use lib.Seq.{getD-take, getD-drop, drop-cons}
 use Rattle.job.specs.declared.item.Item.{Item}
 use Rattle.job.specs.Sizes.{maxPieces, maxPrice, jobSize}
 use Rattle.job.specs.Verdict.{pass, refuse, refuseIf, lowest, within}
-use Rattle.job.specs.Job.{Job, jobOf, itemAt, jobWords}
+use Rattle.job.specs.Job.{Job, jobOf, itemAt, typeOf, jobWords}
 use Rattle.job.proofs.CodeItems.{items-from, items-end}
 use Rattle.job.proofs.Tests.{within-high, within-limits, above-limits, at-most-or-above}
 use Rattle.job.proofs.Verdicts.{then-first, then-second, refuseIf-pass, lowest-good}
@@ -39,7 +39,7 @@ module _ (n : ℕ) (ws : List ℕ) where
   residual-price (suc j) h = let e : 1 + n + j ≡ n + suc j = omega arith in sym (getD-drop (1 + n) ws j 0 ∙ rw e)
 
   -- a cut is over its limit if the limit is below its item's price and those of its residuals
-  pub over-limit : (c : Cut) {item top right limit : ℕ} → item ≡ itemPrice (pricesAt n ws) (c .item) → top ≡ residualPrice (pricesAt n ws) (c .top) → right ≡ residualPrice (pricesAt n ws) (c .right) → limit ≡ priceLimit (pricesAt n ws) (c .plate) → ltb limit (item + top + right) ≡ overLimit (pricesAt n ws) c
+  pub over-limit : (c : Cut) {item top right limit : ℕ} → item ≡ itemPrice (pricesAt n ws) (typeOf (c .item)) → top ≡ residualPrice (pricesAt n ws) (c .top) → right ≡ residualPrice (pricesAt n ws) (c .right) → limit ≡ priceLimit (pricesAt n ws) (c .plate) → ltb limit (item + top + right) ≡ overLimit (pricesAt n ws) c
   unfolding overLimit worth
   over-limit c a b d e = rw (a, b, d, e)
 

@@ -72,12 +72,12 @@ fn price_limit(prices: &[u16], n: ItemType, j: PlateType) -> u32
     residual_price(prices, n, j)
 }
 
-// Whether a cut's item and its kept residuals come to more than the cut may.
+// Whether a cut's item, whose type has one price in both turns, and its kept residuals come to more than the cut may.
 fn over_limit(prices: &[u16], n: ItemType, cut: CutRecord) -> bool
     requires { ⌜ InRange (length (now prices) - n .0) (n .0) (cutIn cut) ⌝ }
     ensures { λ r. ⌜ r ≡ overLimit (pricesAt (n .0) (now (prices .entry))) (cutIn cut) ⌝ }
 {
-    let i = cut.item.0 as usize;
+    let i = cut.item.0 as usize / 2;
     let item = prices[i] as u32;
     let top = residual_price(prices, n, cut.top);
     let right = residual_price(prices, n, cut.right);

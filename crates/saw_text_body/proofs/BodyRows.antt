@@ -7,7 +7,7 @@ use mathlib.Core.List.{List, [], _∷_, _++_}
 use mathlib.Core.Option.{none, some}
 use lib.ListN.{length, getD, drop}
 use borrow.Author.Tests.{eq-eqb, ne-eqb}
-use Rattle.job.specs.Verdict.{Verdict, refuse, refuseIf}
+use Rattle.job.specs.Verdict.{Verdict, refuse, _then_, refuseIf}
 use Rattle.job.specs.Sizes.{maxTypes, maxResiduals, maxPieces, maxPrice}
 use Rattle.texts.specs.Shape.{Shape, jobLine, itemLine, planLine, pricesLine, itemPriceLine, platePriceLine, begins, formed, eachWithin, values, numbersRow}
 use Rattle.texts.specs.Admitted.{InLimits, OfShape}
@@ -28,7 +28,7 @@ module _ (s : Saw) where
   unfolding sawAdmits
   admits-item i e = rw (e, sawAdmits)
 
-  admits-body : s .place ≡ body → sawAdmits s ≡ planLine (typesOf (s .job)) ∷ pricesLine ∷ []
+  admits-body : s .place ≡ body → sawAdmits s ≡ planLine (s .job) ∷ pricesLine ∷ []
   unfolding sawAdmits
   admits-body e = rw (e, sawAdmits)
 
@@ -52,28 +52,33 @@ other-kind s [] h z = refl
 other-kind s (n ∷ ns) h z = rw (ne-eqb (s .kind) n (λ e. h (sym e)))
 
 -- in the body a line of kind 4 is judged as such, and any other as a line 3
-pub row-plan : (s : Saw) (line : ℕ) (ns : List ℕ) → s .place ≡ body → (getD ns 0 0 ≡ 4 → ⊥) → numbersRow line (sawAdmits s) ns ≡ numbersRow line (planLine (typesOf (s .job)) ∷ []) ns
+pub row-plan : (s : Saw) (line : ℕ) (ns : List ℕ) → s .place ≡ body → (getD ns 0 0 ≡ 4 → ⊥) → numbersRow line (sawAdmits s) ns ≡ numbersRow line (planLine (s .job) ∷ []) ns
 unfolding numbersRow
 row-plan s line ns e h =
     rw (admits-body s e)
     (let f = other-kind pricesLine ns h (λ q. omega arith) in
     let tail : numbersRow line (pricesLine ∷ []) ns ≡ refuse 1 line = rw (f, numbersRow) in
-    go (formed (planLine (typesOf (s .job))) ns) tail)
+    go (formed (planLine (s .job)) ns) tail)
   where
     plan : Shape
-    plan = planLine (typesOf (s .job))
+    plan = planLine (s .job)
+
+    here : Verdict
+    here =
+        refuseIf (not (eachWithin (plan .limits) (values plan ns))) 2 line
+        then refuseIf (not (plan .permits (values plan ns))) 19 line
 
     go :
         (t : Bool)
         → numbersRow line (pricesLine ∷ []) ns ≡ refuse 1 line
-        → _≡_ {A = Verdict} (elim t [ true ↦ refuseIf (not (eachWithin (plan .limits) (values plan ns))) 2 line | false ↦ numbersRow line (pricesLine ∷ []) ns ]) (elim t [ true ↦ refuseIf (not (eachWithin (plan .limits) (values plan ns))) 2 line | false ↦ refuse 1 line ])
+        → _≡_ {A = Verdict} (elim t [ true ↦ here | false ↦ numbersRow line (pricesLine ∷ []) ns ]) (elim t [ true ↦ here | false ↦ refuse 1 line ])
     go true q = refl
     go false q = q
 
 pub row-prices : (s : Saw) (line : ℕ) (ns : List ℕ) → s .place ≡ body → getD ns 0 0 ≡ 4 → numbersRow line (sawAdmits s) ns ≡ numbersRow line (pricesLine ∷ []) ns
 unfolding numbersRow
 row-prices s line ns e h =
-    let f = other-kind (planLine (typesOf (s .job))) ns (λ q. omega (arith, h, q)) (λ q. omega arith) in
+    let f = other-kind (planLine (s .job)) ns (λ q. omega (arith, h, q)) (λ q. omega arith) in
     rw (admits-body s e, f, numbersRow)
 
 -- ---- what an admitted line makes of the text
@@ -98,7 +103,7 @@ module _ (s : Saw) (ns : List ℕ) where
   pub after-plan :
       s .place ≡ body
       → getD ns 0 0 ≡ 3
-      → sawAfter s ns ≡ record { place = body; job = s .job; plan = s .plan ++ counted (getD ns 1 0) (getD ns 2 0) (getD ns 3 0) ∷ []; prices = none }
+      → sawAfter s ns ≡ record { place = body; job = s .job; plan = s .plan ++ counted (getD ns 1 0) (getD ns 2 0) (getD ns 4 0) (getD ns 3 0) ∷ []; prices = none }
   unfolding sawAfter bodyRead
   after-plan e h = rw (e, sawAfter, eq-eqb (getD ns 0 0) 3 h, bodyRead)
 
@@ -132,23 +137,26 @@ module _ (s : Saw) (ns : List ℕ) where
 
 -- ---- the numbers of a line that passes
 
--- a line 3 of n item types
-pub record PlanNumbers (n : ℕ) (ns : List ℕ) : Type 0 where
-  pub size : length ns ≡ 4
+-- a line 3 of the job of the words ws
+pub record PlanNumbers (ws ns : List ℕ) : Type 0 where
+  pub size : length ns ≡ 5
   pub kind : getD ns 0 0 ≡ 3
   pub plate : getD ns 1 0 ≤ maxResiduals
-  pub item : getD ns 2 0 ≤ n
+  pub type : getD ns 2 0 ≤ typesOf ws
   pub count : getD ns 3 0 ≤ maxPieces
+  pub turn : getD ns 4 0 ≤ 1
 
-pub plan-numbers : (n : ℕ) (ns : List ℕ) → OfShape (planLine n) ns → PlanNumbers n ns
-plan-numbers n ns o = go (o .others) (o .numbers) (o .limits)
+pub plan-numbers : (ws ns : List ℕ) → OfShape (planLine ws) ns → PlanNumbers ws ns
+plan-numbers ws ns o = go (o .others) (o .numbers) (o .limits)
   where
-    go : (vs : List ℕ) → ns ≡ 3 ∷ vs → InLimits (planLine n .limits) vs → PlanNumbers n ns
+    go : (vs : List ℕ) → ns ≡ 3 ∷ vs → InLimits (planLine ws .limits) vs → PlanNumbers ws ns
     go [] e h = absurd h
     go (a ∷ []) e h = absurd (h .2)
     go (a ∷ b ∷ []) e h = absurd (h .2 .2)
-    go (a ∷ b ∷ c ∷ []) e h = rw e (record { size = refl; kind = refl; plate = h .1; item = h .2 .1; count = h .2 .2 .1 })
-    go (a ∷ b ∷ c ∷ d ∷ vs) e h = absurd (h .2 .2 .2)
+    go (a ∷ b ∷ c ∷ []) e h = absurd (h .2 .2 .2)
+    go (a ∷ b ∷ c ∷ d ∷ []) e h =
+        rw e (record { size = refl; kind = refl; plate = h .1; type = h .2 .1; count = h .2 .2 .1; turn = h .2 .2 .2 .1 })
+    go (a ∷ b ∷ c ∷ d ∷ f ∷ vs) e h = absurd (h .2 .2 .2 .2)
 
 -- a line 4
 pub record PricesNumbers (ns : List ℕ) : Type 0 where
@@ -190,8 +198,8 @@ module _ (r : ℕ) (ns : List ℕ) (none : r ≡ 0) where
   of : (s : Shape) → ((line : ℕ) → lineVerdict r line ≡ numbersRow line (s ∷ []) ns) → OfShape s ns
   of s judged = of-shape 1 s ns (passed 1 none (judged 1))
 
-  pub plan-judged : (n : ℕ) → ((line : ℕ) → lineVerdict r line ≡ numbersRow line (planLine n ∷ []) ns) → PlanNumbers n ns
-  plan-judged n judged = plan-numbers n ns (of (planLine n) judged)
+  pub plan-judged : (ws : List ℕ) → ((line : ℕ) → lineVerdict r line ≡ numbersRow line (planLine ws ∷ []) ns) → PlanNumbers ws ns
+  plan-judged ws judged = plan-numbers ws ns (of (planLine ws) judged)
 
   pub prices-judged : ((line : ℕ) → lineVerdict r line ≡ numbersRow line (pricesLine ∷ []) ns) → PricesNumbers ns
   prices-judged judged = prices-numbers ns (of pricesLine judged)

@@ -10,9 +10,9 @@ use Rattle.listing.specs.Holds.{Holds}
 use Rattle.texts.specs.SawText.{Counted, namedCut, cutsNamed, cutsRising, planCounts}
 use Rattle.saw_text_body.specs.declared.plan_lines.PlanLines.{PlanLines}
 
--- a line 3 of a plate type, an item type and a count
-abbrev pub counted : ℕ → ℕ → ℕ → Counted
-counted j i n = record { plate = j; item = i; count = n }
+-- a line 3 of a plate type, an item type, its turn and a count
+abbrev pub counted : ℕ → ℕ → ℕ → ℕ → Counted
+counted j i t n = record { plate = j; type = i; turn = t; count = n }
 
 -- the first line refused with a number, 0 where there is none
 abbrev pub atLine : ℕ → ℕ → Verdict

@@ -8,10 +8,10 @@ ghost use Rattle.listing.specs.Listing.{Listing};
 ghost use Rattle.layouts.specs.Fold.{cutOf};
 ghost use Rattle.listing.specs.CutRead.{cutsRead};
 ghost use Rattle.listing_find.specs.Rising.{Rising};
-ghost use Rattle.texts.specs.SawText.{Counted, namedCut};
-ghost use Rattle.saw_text_body.specs.PlanRead.{firstLine, counted, PlanKept};
+ghost use Rattle.texts.specs.SawText.{Counted, positionOn, namedCut};
+ghost use Rattle.saw_text_body.specs.PlanRead.{firstLine, PlanKept};
 use job::counters::CutNumber;
-use job::counters::ItemType;
+use job::counters::ItemPosition;
 use job::counters::PlateType;
 use listing_find::search::Found;
 use listing_find::search::find_cut_near;
@@ -36,13 +36,19 @@ fn first_line(known: u32, here: bool, line: u32) -> u32
     0
 }
 
-// The number of the cut of plate type j and item type i, 0 where there is none: looked for behind the last cut named, since the cuts of a plan rise.
-fn cut_named(cuts: &[u16], k: CutNumber, last: CutNumber, j: PlateType, i: ItemType) -> CutNumber
+// The number of the cut of plate type j and position q, 0 where there is none: looked for behind the last cut named, since the cuts of a plan rise.
+fn cut_named(
+    cuts: &[u16],
+    k: CutNumber,
+    last: CutNumber,
+    j: PlateType,
+    q: ItemPosition,
+) -> CutNumber
     requires { ⌜ wordsOfCut * k .0 ≤ length (now cuts) ⌝ }
-    ensures { λ r. ⌜ ((l : Listing) → l .cuts ≡ cutsRead (k .0) (now (cuts .entry)) → Rising (l .cuts) → r .0 ≡ cutOf l (j .0) (i .0)) ⌝ }
+    ensures { λ r. ⌜ ((l : Listing) → l .cuts ≡ cutsRead (k .0) (now (cuts .entry)) → Rising (l .cuts) → r .0 ≡ cutOf l (j .0) (q .0)) ⌝ }
     ensures { λ r. ⌜ r .0 ≤ k .0 ⌝ }
 {
-    let Found::At(c) = find_cut_near(cuts, k, last, j, i) else {
+    let Found::At(c) = find_cut_near(cuts, k, last, j, q) else {
         return CutNumber(0);
     };
     c
@@ -90,22 +96,22 @@ impl PlanLines {
         }
     }
 
-    // One line more: plate, item and count, by the k cuts of a listing.
+    // One line more, by the k cuts of a listing: plate, the position of its type and turn, and count.
     pub fn more(
         self,
         line: u32,
         j: PlateType,
-        i: ItemType,
+        q: ItemPosition,
         count: u16,
         cuts: &[u16],
         k: CutNumber,
         counts: &mut [u16],
     ) -> PlanLines
         requires { ⌜ (0 < line) × ((wordsOfCut * k .0 ≤ length (now cuts)) × (k .0 ≤ length (now counts))) ⌝ }
-        ensures { λ p. ⌜ ((l : Listing) (first : ℕ) (rs : List Counted) → l .cuts ≡ cutsRead (k .0) (now (cuts .entry)) → Rising (l .cuts) → first + length rs ≡ line → PlanKept l first rs self (now (counts .entry)) → PlanKept l first (rs ++ counted (j .0) (i .0) count ∷ []) p (now (counts .exit))) ⌝ }
+        ensures { λ p. ⌜ ((l : Listing) (first : ℕ) (rs : List Counted) (r : Counted) → l .cuts ≡ cutsRead (k .0) (now (cuts .entry)) → Rising (l .cuts) → first + length rs ≡ line → r .plate ≡ j .0 → positionOn r ≡ q .0 → r .count ≡ count → PlanKept l first rs self (now (counts .entry)) → PlanKept l first (rs ++ r ∷ []) p (now (counts .exit))) ⌝ }
     {
         let last = self.last;
-        let c = cut_named(cuts, k, last, j, i);
+        let c = cut_named(cuts, k, last, j, q);
         self.named(line, c, count, counts)
     }
 }

@@ -5,9 +5,10 @@ use native.Mathlib.Omega.{arith}
 use mathlib.Core.Path.{_≡_, refl, sym, ap, _∙_}
 use mathlib.Core.List.{List, [], _∷_, _++_}
 use mathlib.Core.Option.{Option, none}
-use lib.ListN.{length, getD, drop, length-append, length-drop, List·getD-append}
+use lib.ListN.{length, getD, take, drop, length-append, length-drop, List·getD-append}
+use lib.Seq.{length-take-le, getD-take}
 use Rattle.job.specs.declared.counters.ItemType.{ItemType}
-use Rattle.job.specs.Sizes.{jobSize, cutsSize, countsSize}
+use Rattle.job.specs.Sizes.{maxTypes, wordsOfHead, jobSize, cutsSize, countsSize}
 use Rattle.job.specs.Job.{jobOf}
 use Rattle.listing.specs.Listing.{listingOf}
 use Rattle.listing.specs.Holds.{Holds}
@@ -25,6 +26,7 @@ use Rattle.texts_reading.specs.Judged.{lineVerdict}
 use Rattle.texts_reading.specs.JobRead.{FirstRead, ItemRead}
 use Rattle.texts_reading.specs.Standing.{placeOf}
 use Rattle.texts_reading.proofs.CodeJobLines.{passed, of-shape}
+use Rattle.texts_reading.proofs.JobKept.{held-take}
 use Rattle.saw_text_body.specs.declared.plan_lines.PlanLines.{PlanLines}
 use Rattle.saw_text_body.specs.declared.price_lines.PriceLines.{PriceLines as CodePrices}
 use Rattle.saw_text_body.specs.PlanRead.{counted}
@@ -33,7 +35,7 @@ use Rattle.saw_text_body.proofs.PlanSteps.{no-lines}
 use Rattle.saw_text_body.proofs.ModelLaws.{modelled}
 use Rattle.saw_text_body.proofs.BodyRows.{admits-first, admits-item, row-plan, after-first, after-some, after-all, after-plan, PlanNumbers}
 use Rattle.saw_text_lines.specs.declared.held.SawHeld.{SawHeld}
-use Rattle.saw_text_lines.specs.SawKept.{Lent, lent, JobTo, NoPlan, Unlisted, PlanHeld, ListedJob, NoPrices, HeldAs, TakenAs}
+use Rattle.saw_text_lines.specs.SawKept.{Lent, lent, WholeJob, JobTo, NoPlan, Unlisted, PlanHeld, ListedJob, NoPrices, HeldAs, TakenAs}
 
 -- ---- a line that is refused, and one that is admitted
 
@@ -128,8 +130,8 @@ module _ (s : Saw) (lines r : ℕ) (i : ItemType) (ns job job′ plates cuts cou
     types-read : typesOf job′ ≡ typesOf (s .job)
     types-read = held-word (s .job ++ drop 2 ns) words 4 ∙ types-stay
 
-    three : length (s .job ++ drop 2 ns) ≡ jobSize (i .0)
-    three =
+    sized : length (s .job ++ drop 2 ns) ≡ jobSize (i .0)
+    sized =
         let o = of-shape 1 (itemLine (i .0)) ns (passed 1 z (read .row 1)) in
         simp (length-append, length-drop) (omega (arith, to .from, to .size, shape-groups (itemLine (i .0)) ns o))
 
@@ -149,7 +151,7 @@ module _ (s : Saw) (lines r : ℕ) (i : ItemType) (ns job job′ plates cuts cou
               from = omega arith;
               to = omega (arith, types-stay, to .to, more);
               few-types = omega (arith, types-stay, to .few-types);
-              size = omega (arith, three);
+              size = omega (arith, sized);
             },
             unlisted-again h (s .plan) job job′ plates cuts counts prices unlisted,
           );
@@ -168,7 +170,7 @@ module _ (s : Saw) (lines r : ℕ) (i : ItemType) (ns job job′ plates cuts cou
     item-all a plates′ cuts′ n read-n same c k model =
         let all : i .0 ≡ typesOf (s .job) = same ∙ read-n ∙ types-read in
         let ws : List ℕ = s .job ++ drop 2 ns in
-        let kept-model : ModelKept ws a plates′ cuts′ = model ws (omega (arith, three, same)) words in
+        let kept-model : ModelKept ws a plates′ cuts′ = model ws (omega (arith, sized, same)) words in
         let h′ : SawHeld = record { model = a; plan = h .plan; prices = h .prices } in
         taken-admitted s lines r ns Body h′ (lent job′ plates′ cuts′ counts prices) row z (rw (after-all s ns (i .0) e all))
         (rw (after-all s ns (i .0) e all)
@@ -178,7 +180,7 @@ module _ (s : Saw) (lines r : ℕ) (i : ItemType) (ns job job′ plates cuts cou
             whole = record {
               some-type = omega (arith, types-stay, all, to .from);
               few-types = omega (arith, types-stay, to .few-types);
-              size = omega (arith, three, types-stay, all);
+              size = omega (arith, sized, types-stay, all);
             };
             model = kept-model;
             plan = plan-none ws plates′ cuts′ counts a (h .plan) c k kept-model (unlisted .no-plan) (unlisted .counts);
@@ -187,11 +189,31 @@ module _ (s : Saw) (lines r : ℕ) (i : ItemType) (ns job job′ plates cuts cou
           of-lines = omega (arith, types-stay, all, rw e at (kept .of-lines));
         }))
 
+-- ---- the job's words in the body
+
+module _ (s : Saw) (lines : ℕ) (h : SawHeld) (b : Lent) (n : ℕ) (types-are : n ≡ typesOf (b .job)) (e : s .place ≡ body) (kept : HeldAs s lines h b) where
+  whole : WholeJob (s .job)
+  whole = (rw e at (kept .of-job)) .whole
+
+  types-kept : n ≡ typesOf (s .job)
+  types-kept = types-are ∙ held-word (s .job) (kept .words) 4
+
+  pub body-few : n ≤ maxTypes
+  body-few = omega (arith, types-kept, whole .few-types)
+
+  -- they are the first of the buffer
+  pub body-words : take (jobSize n) (b .job) ≡ s .job
+  body-words = held-take (jobSize n) (whole .size ∙ ap jobSize (sym types-kept)) (kept .words)
+
+-- the first words of a buffer have its head
+pub part-head : (n : ℕ) (job : List ℕ) → jobSize n ≤ length job → (wordsOfHead ≤ length (take (jobSize n) job)) × (typesOf (take (jobSize n) job) ≡ typesOf job)
+part-head n job h = (rw (length-take-le (jobSize n) job h) (omega arith), getD-take (jobSize n) job 4 0 (omega arith))
+
 -- ---- a line 3
 
-module _ (s : Saw) (lines r n : ℕ) (ns job plates cuts counts prices : List ℕ) (h : SawHeld) (e : s .place ≡ body) (not4 : getD ns 0 0 ≡ 4 → ⊥) (types-are : typesOf (s .job) ≡ n) (judged : (line : ℕ) → lineVerdict r line ≡ numbersRow line (planLine n ∷ []) ns) (kept : HeldAs s lines h (lent job plates cuts counts prices)) where
+module _ (s : Saw) (lines r : ℕ) (ws ns job plates cuts counts prices : List ℕ) (h : SawHeld) (e : s .place ≡ body) (not4 : getD ns 0 0 ≡ 4 → ⊥) (words-are : ws ≡ s .job) (judged : (line : ℕ) → lineVerdict r line ≡ numbersRow line (planLine ws ∷ []) ns) (kept : HeldAs s lines h (lent job plates cuts counts prices)) where
   plan-row : lineVerdict r (suc lines) ≡ numbersRow (suc lines) (sawAdmits s) ns
-  plan-row = rw (row-plan s (suc lines) ns e not4, types-are) (judged (suc lines))
+  plan-row = rw (row-plan s (suc lines) ns e not4, ← words-are) (judged (suc lines))
 
   pub plan-refused : (r ≡ 0 → ⊥) → TakenAs s lines ns (record { refusal = r; place = Body; held = h }) (lent job plates cuts counts prices)
   plan-refused m = taken-refused s lines r ns Body h (lent job plates cuts counts prices) plan-row m kept
@@ -199,8 +221,8 @@ module _ (s : Saw) (lines r n : ℕ) (ns job plates cuts counts prices : List �
   pub plan-taken :
       (p : PlanLines) (counts′ : List ℕ)
       → r ≡ 0
-      → PlanNumbers n ns
-      → ((ws plates : List ℕ) (rs : List Counted) → ModelKept ws (h .model) plates cuts → bodyLine ws + length rs ≡ suc lines → PlanHeld ws (h .model) rs (h .plan) counts → PlanHeld ws (h .model) (rs ++ counted (getD ns 1 0) (getD ns 2 0) (getD ns 3 0) ∷ []) p counts′)
+      → PlanNumbers ws ns
+      → ((ws plates : List ℕ) (rs : List Counted) → ModelKept ws (h .model) plates cuts → bodyLine ws + length rs ≡ suc lines → PlanHeld ws (h .model) rs (h .plan) counts → PlanHeld ws (h .model) (rs ++ counted (getD ns 1 0) (getD ns 2 0) (getD ns 4 0) (getD ns 3 0) ∷ []) p counts′)
       → TakenAs s lines ns (record { refusal = 0; place = Body; held = record { model = h .model; plan = p; prices = h .prices } }) (lent job plates cuts counts′ prices)
   plan-taken p counts′ z numbers more =
       let h′ : SawHeld = record { model = h .model; plan = p; prices = h .prices } in

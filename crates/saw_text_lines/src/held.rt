@@ -1,14 +1,14 @@
 // What is kept of a saw text beside where it stands, and what each line makes of it.
 ghost use mathlib.Core.Path.{_≡_};
 ghost use mathlib.Core.List.{List, [], _∷_, _++_};
-ghost use Prim.Native.Nat.{ℕ, suc, _+_, _≤_, _<_};
+ghost use Prim.Native.Nat.{ℕ, suc, _+_, _*_, _≤_, _<_};
 ghost use lib.ListN.{length, getD};
 ghost use Rattle.job.specs.Sizes.{maxTypes, maxResiduals, wordsOfHead, jobSize, cutsSize, countsSize, pricesSize};
 ghost use Rattle.texts.specs.JobLines.{first, types, body, itemPrices, platePrices, typesOf, bodyLine};
-ghost use Rattle.texts.specs.SawText.{Counted, Saw};
-ghost use Rattle.saw_text_body.specs.PlanRead.{counted};
+ghost use Rattle.texts.specs.SawText.{Counted, Saw, positionOn};
 ghost use Rattle.saw_text_body.specs.ModelRead.{ModelKept};
 ghost use Rattle.saw_text_lines.specs.SawKept.{lent, Room, PlanHeld, HeldAs, TakenAs};
+use job::counters::ItemPosition;
 use job::counters::ItemType;
 use job::counters::PlateType;
 use job::head::head_of;
@@ -97,19 +97,19 @@ pub fn take_item(
     }
 }
 
-// A line 3 of plate type j, item type i and a count, by the model: passed over where the job is refused.
+// A line 3 of plate type j, position q and a count, by the model: passed over where the job is refused.
 fn count_line(
     model: Listed,
     plan: PlanLines,
     line: u32,
     j: PlateType,
-    i: ItemType,
+    q: ItemPosition,
     count: u16,
     cuts: &[u16],
     counts: &mut [u16],
 ) -> PlanLines
     requires { ⌜ (0 < line) × ((cutsSize ≤ length (now cuts)) × (countsSize ≤ length (now counts))) ⌝ }
-    ensures { λ p. ⌜ ((ws plates : List ℕ) (rs : List Counted) → ModelKept ws model plates (now (cuts .entry)) → bodyLine ws + length rs ≡ line → PlanHeld ws model rs plan (now (counts .entry)) → PlanHeld ws model (rs ++ counted (j .0) (i .0) count ∷ []) p (now (counts .exit))) ⌝ }
+    ensures { λ p. ⌜ ((ws plates : List ℕ) (rs : List Counted) (r : Counted) → ModelKept ws model plates (now (cuts .entry)) → bodyLine ws + length rs ≡ line → r .plate ≡ j .0 → positionOn r ≡ q .0 → r .count ≡ count → PlanHeld ws model rs plan (now (counts .entry)) → PlanHeld ws model (rs ++ r ∷ []) p (now (counts .exit))) ⌝ }
 {
     match model {
         Listed::Refused(_, _) => plan,
@@ -117,24 +117,34 @@ fn count_line(
             if MAX_CUTS < k.0 {
                 return plan;
             }
-            plan.more(line, j, i, count, cuts, k, counts)
+            plan.more(line, j, q, count, cuts, k, counts)
         }
     }
 }
 
-// A line of the body that is not of kind 4: a line 3, of a job of n types.
+// The position that a line 3 names: twice the type plus the turn, its last number.
+fn position_on(numbers: &[u32]) -> ItemPosition
+    requires { ⌜ length (now numbers) ≡ 5 ⌝ }
+    requires { ⌜ (getD (now numbers) 2 0 ≤ maxTypes) × (getD (now numbers) 4 0 ≤ 1) ⌝ }
+    ensures { λ q. ⌜ q .0 ≡ 2 * getD (now (numbers .entry)) 2 0 + getD (now (numbers .entry)) 4 0 ⌝ }
+{
+    ItemPosition((2 * numbers[2] + numbers[4]) as u16)
+}
+
+// A line of the body that is not of kind 4: a line 3, of the job of these words.
 pub fn take_plan(
     held: SawHeld,
     line: u32,
     numbers: &[u32],
-    n: ItemType,
+    job: &[u16],
     cuts: &[u16],
     counts: &mut [u16],
 ) -> Taken
     requires { ⌜ (0 < line) × ((cutsSize ≤ length (now cuts)) × (countsSize ≤ length (now counts))) ⌝ }
-    ensures { λ t. ⌜ ((s : Saw) (lines : ℕ) (job plates prices : List ℕ) → s .place ≡ body → (getD (now (numbers .entry)) 0 0 ≡ 4 → ⊥) → suc lines ≡ line → typesOf (s .job) ≡ n .0 → HeldAs s lines held (lent job plates (now (cuts .entry)) (now (counts .entry)) prices) → TakenAs s lines (now (numbers .entry)) t (lent job plates (now (cuts .entry)) (now (counts .exit)) prices)) ⌝ }
+    requires { ⌜ (wordsOfHead ≤ length (now job)) × (typesOf (now job) ≤ maxTypes) ⌝ }
+    ensures { λ t. ⌜ ((s : Saw) (lines : ℕ) (buffer plates prices : List ℕ) → s .place ≡ body → (getD (now (numbers .entry)) 0 0 ≡ 4 → ⊥) → suc lines ≡ line → now (job .entry) ≡ s .job → HeldAs s lines held (lent buffer plates (now (cuts .entry)) (now (counts .entry)) prices) → TakenAs s lines (now (numbers .entry)) t (lent buffer plates (now (cuts .entry)) (now (counts .exit)) prices)) ⌝ }
 {
-    let refusal = plan_line(numbers, n);
+    let refusal = plan_line(numbers, job);
     if refusal != 0 {
         return Taken {
             refusal,
@@ -146,9 +156,9 @@ pub fn take_plan(
     let before = held.plan;
     let prices = held.prices;
     let j = PlateType(numbers[1] as u16);
-    let i = ItemType(numbers[2] as u16);
+    let q = position_on(numbers);
     let count = numbers[3] as u16;
-    let plan = count_line(model, before, line, j, i, count, cuts, counts);
+    let plan = count_line(model, before, line, j, q, count, cuts, counts);
     Taken {
         refusal: 0,
         place: Place::Body,

@@ -5,8 +5,8 @@ ghost use mathlib.Core.List.{List};
 ghost use Prim.Native.Nat.{ℕ, suc, _≤_, _<_};
 ghost use lib.Dec.{eqb};
 ghost use lib.ListN.{length, getD};
-ghost use Rattle.job.specs.Sizes.{cutsSize, countsSize, pricesSize};
-ghost use Rattle.texts.specs.JobLines.{body, typesOf};
+ghost use Rattle.job.specs.Sizes.{longestJob, cutsSize, countsSize, pricesSize};
+ghost use Rattle.texts.specs.JobLines.{body};
 ghost use Rattle.texts.specs.SawText.{Saw};
 ghost use Rattle.texts_reading.specs.Standing.{placeOf};
 ghost use Rattle.saw_text_lines.specs.SawKept.{lent, Room, HeldAs, placeSound, TakenAs};
@@ -21,6 +21,8 @@ use crate::held::take_prices;
 use job::admit::within;
 use job::counters::ItemType;
 use job::head::head_of;
+use job::sizes::HEAD_WORDS;
+use job::sizes::ITEM_WORDS;
 use job::sizes::MAX_RESIDUALS;
 use job::sizes::MAX_TYPES;
 use texts_reading::text::Place;
@@ -35,23 +37,35 @@ fn begins_prices(numbers: &[u32]) -> bool
     numbers[0] == 4
 }
 
-// A line of the body, of a job of n types: a line 4, or else a line 3.
+// A line of the body: a line 4, or else a line 3, judged by the words of its job. The words that are kept of a text have at most 40 types; others, which no text
+// has, are refused.
 fn take_body(
     held: SawHeld,
     line: u32,
     numbers: &[u32],
-    n: ItemType,
+    job: &[u16],
     cuts: &[u16],
     counts: &mut [u16],
     prices: &mut [u16],
 ) -> Taken
     requires { ⌜ (0 < line) × ((cutsSize ≤ length (now cuts)) × ((countsSize ≤ length (now counts)) × (pricesSize ≤ length (now prices)))) ⌝ }
-    ensures { λ t. ⌜ ((s : Saw) (lines : ℕ) (job plates : List ℕ) → s .place ≡ body → suc lines ≡ line → typesOf (s .job) ≡ n .0 → HeldAs s lines held (lent job plates (now (cuts .entry)) (now (counts .entry)) (now (prices .entry))) → TakenAs s lines (now (numbers .entry)) t (lent job plates (now (cuts .entry)) (now (counts .exit)) (now (prices .exit)))) ⌝ }
+    requires { ⌜ longestJob ≤ length (now job) ⌝ }
+    ensures { λ t. ⌜ ((s : Saw) (lines : ℕ) (plates : List ℕ) → s .place ≡ body → suc lines ≡ line → HeldAs s lines held (lent (now (job .entry)) plates (now (cuts .entry)) (now (counts .entry)) (now (prices .entry))) → TakenAs s lines (now (numbers .entry)) t (lent (now (job .entry)) plates (now (cuts .entry)) (now (counts .exit)) (now (prices .exit)))) ⌝ }
 {
     if begins_prices(numbers) {
         return take_prices(held, numbers, prices);
     }
-    take_plan(held, line, numbers, n, cuts, counts)
+    let head = head_of(job);
+    let n = head.types;
+    if MAX_TYPES < n.0 {
+        return Taken {
+            refusal: 2,
+            place: Place::Body,
+            held,
+        };
+    }
+    let words = HEAD_WORDS + ITEM_WORDS * (n.0 as usize);
+    take_plan(held, line, numbers, &job[..words], cuts, counts)
 }
 
 // Whether the running number of what comes next is within its limits, where line 4's n is `types`.
@@ -87,10 +101,7 @@ pub fn take_numbers(
     match place {
         Place::First => take_first(held, numbers, job),
         Place::Types(i) => take_item(held, i, numbers, job, plates, cuts),
-        Place::Body => {
-            let head = head_of(job);
-            take_body(held, line, numbers, head.types, cuts, counts, prices)
-        }
+        Place::Body => take_body(held, line, numbers, job, cuts, counts, prices),
         Place::ItemPrices(i) => take_item_price(held, i, numbers, prices),
         Place::PlatePrices(j) => take_plate_price(held, j, numbers, prices),
         Place::Done => Taken {

@@ -1,12 +1,10 @@
 -- Conjunctions, limits, verdicts and checks over lists, by their parts.
 use Prim.Native.Nat.{ℕ, suc, _+_, _≤_}
-use mathlib.Core.Path.{_≡_, refl, sym, _∙_}
+use mathlib.Core.Path.{_≡_, refl, _∙_}
 use mathlib.Core.Bool.{Bool, true, false, not, _&&_}
 use mathlib.Core.List.{List, [], _∷_, _++_}
 use lib.ListN.{length}
-use Rattle.job.specs.Lists.{all}
 use Rattle.job.specs.Verdict.{pass, refuse, refuseIf, within, lowest}
-use Rattle.job.proofs.Lists.{all-cons}
 use Rattle.job.proofs.Tests.{and-left, and-right, within-low, within-high}
 use Rattle.job.proofs.Verdicts.{pass-not-refuse, then-both, lowest-append}
 
@@ -58,14 +56,3 @@ module _ {A : Type 0} (number : ℕ) (bad : ℕ → A → Bool) where
           → (t ≡ false) × (lowest number bad (suc k) as′ ≡ pass)
       go true h = absurd (pass-not-refuse h refl)
       go false h = (refl, h)
-
--- where all pass a test, the first does and those after it do
-module _ {A : Type 0} (test : A → Bool) where
-  pub all-parts : (a : A) (as′ : List A) → all test (a ∷ as′) ≡ true → (test a ≡ true) × (all test as′ ≡ true)
-  all-parts a as′ h = and-parts (test a) (all test as′) (sym (all-cons test a as′) ∙ h)
-
-  -- and a check for those that do not finds nothing
-  pub all-lowest : (number k : ℕ) (as′ : List A) → all test as′ ≡ true → lowest number (λ _ a. not (test a)) k as′ ≡ pass
-  unfolding lowest
-  all-lowest number k [] h = refl
-  all-lowest number k (a ∷ as′) h = let p = all-parts a as′ h in rw (p .0, lowest) (all-lowest number (suc k) as′ (p .1))

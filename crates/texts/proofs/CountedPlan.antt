@@ -13,11 +13,14 @@ use borrow.Author.Tests.{eqb-true, eqb-false, eq-eqb, ne-eqb, leb-false, lt-leb}
 use Rattle.job.specs.Sizes.{maxPieces, maxResiduals}
 use Rattle.job.specs.Lists.{sumOf}
 use Rattle.job.specs.Verdict.{pass, refuse, lowest}
+use Rattle.job.specs.Job.{typeOf, turnOf, permitted, jobOf}
+use Rattle.job.proofs.Positions.{type-turn, turn-small, type-of, turn-of}
 use Rattle.job.proofs.Verdicts.{pass-not-refuse}
 use Rattle.listing.specs.Listing.{Cut, Listing, noCut, cutAt}
-use Rattle.plan.specs.Plan.{onPlate, ofItem, total}
+use Rattle.plan.specs.Plan.{onPlate, ofPosition, total}
 use Rattle.layouts.specs.Fold.{cutFrom, cutOf}
-use Rattle.texts.specs.SawText.{Counted, namedCut, cutsNamed, cutsRising, countFor, countsFrom, planCounts}
+use Rattle.texts.specs.JobLines.{typesOf}
+use Rattle.texts.specs.SawText.{Counted, positionOn, namedCut, cutsNamed, cutsRising, countFor, countsFrom, planCounts}
 use Rattle.texts.specs.Held.{PlanLimits}
 use Rattle.texts.specs.Printed.{countedOf}
 use Rattle.texts.proofs.Basics.{and-parts}
@@ -44,7 +47,7 @@ each-cut P l f = from 0 (l .cuts) refl
 
 -- line 3 of a cut
 abbrev counted : Cut → ℕ → Counted
-counted c n = record { plate = c .plate; item = c .item; count = n }
+counted c n = record { plate = c .plate; type = typeOf (c .item); turn = turnOf (c .item); count = n }
 
 -- a cut that is counted has a line, one that is not has none
 counted-by :
@@ -68,24 +71,37 @@ counted-length (c ∷ cs) (n ∷ ns) =
     let h = counted-length cs ns in
     counted-by (λ rs. length rs ≤ suc (length cs)) c cs n ns (λ e. omega arith) (λ e. omega arith)
 
--- a cut within the limits of lines 3, of n item types
-pub record CutLimits (n : ℕ) (c : Cut) : Type 0 where
+-- a cut within the limits of lines 3, of the job words ws
+pub record CutLimits (ws : List ℕ) (c : Cut) : Type 0 where
   pub plate : c .plate ≤ maxResiduals
-  pub low : 1 ≤ c .item
-  pub high : c .item ≤ n
+  pub low : 1 ≤ typeOf (c .item)
+  pub high : typeOf (c .item) ≤ typesOf ws
+  pub lies : permitted (jobOf ws) (c .item) ≡ true
 
 -- lines 3 of such cuts, with at most 4,000 pieces, are within their limits
 pub counted-limits :
-    (n k : ℕ) (cs : List Cut) (ns : List ℕ)
-    → Each (λ _ c. CutLimits n c) k cs
+    (ws : List ℕ) (k : ℕ) (cs : List Cut) (ns : List ℕ)
+    → Each (λ _ c. CutLimits ws c) k cs
     → total ns ≤ maxPieces
-    → PlanLimits n (countedOf cs ns)
+    → PlanLimits ws (countedOf cs ns)
 unfolding countedOf total sumOf
-counted-limits n k [] ns h t = tt
-counted-limits n k (c ∷ cs) [] h t = tt
-counted-limits n k (c ∷ cs) (m ∷ ns) h t =
-    let rest = counted-limits n (suc k) cs ns (h .1) (omega arith) in
-    counted-by (PlanLimits n) c cs m ns (λ e. rest) (λ e. (omega arith, rest))
+counted-limits ws k [] ns h t = tt
+counted-limits ws k (c ∷ cs) [] h t = tt
+counted-limits ws k (c ∷ cs) (m ∷ ns) h t =
+    let rest = counted-limits ws (suc k) cs ns (h .1) (omega arith) in
+    counted-by (PlanLimits ws) c cs m ns (λ e. rest)
+    (λ e. (
+      record {
+        plate = h .0 .plate;
+        low = h .0 .low;
+        high = h .0 .high;
+        counted = omega arith;
+        few = omega arith;
+        turned = turn-small (c .item);
+        lies = rw (type-turn (c .item)) (h .0 .lies);
+      },
+      rest,
+    ))
 
 module _ (l : Listing) where
   -- ---- what a line gives to a cut
@@ -152,20 +168,25 @@ module _ (l : Listing) where
 
   -- ---- from counts to lines 3
 
-  -- each of these cuts is the one of its pair; they are numbered from k
+  -- each of these cuts is the one of its plate and its position; they are numbered from k
   abbrev pub InRow : ℕ → List Cut → Type 0
   InRow k cs = Each (λ i c. cutOf l (c .plate) (c .item) ≡ i) k cs
 
+  -- the line of a cut names it
+  counted-cut : (c : Cut) (n : ℕ) → namedCut l (counted c n) ≡ cutOf l (c .plate) (c .item)
+  unfolding namedCut
+  counted-cut c n = ap (cutOf l (c .plate)) (type-turn (c .item))
+
   -- their lines rise
   counted-rises : (k : ℕ) (cs : List Cut) (ns : List ℕ) → InRow k cs → Rises k (countedOf cs ns)
-  unfolding countedOf namedCut
+  unfolding countedOf
   counted-rises k [] ns h = tt
   counted-rises k (c ∷ cs) [] h = tt
   counted-rises k (c ∷ cs) (n ∷ ns) h =
       let rest = counted-rises (suc k) cs ns (h .1) in
       counted-by (Rises k) c cs n ns
       (λ e. rises-lower k (suc k) (countedOf cs ns) (omega arith) rest)
-      (λ e. (omega arith, rises-lower (suc (namedCut l (counted c n))) (suc k) (countedOf cs ns) (omega arith) rest))
+      (λ e. (omega (arith, counted-cut c n), rises-lower (suc (namedCut l (counted c n))) (suc k) (countedOf cs ns) (omega (arith, counted-cut c n)) rest))
 
   -- so they pass 8 and 9
   pub counted-named : (line : ℕ) (cs : List Cut) (ns : List ℕ) → InRow 1 cs → cutsNamed l line (countedOf cs ns) ≡ pass
@@ -176,7 +197,7 @@ module _ (l : Listing) where
 
   -- and count what was counted
   from-counted : (k : ℕ) (cs : List Cut) (ns : List ℕ) → InRow k cs → length ns ≡ length cs → countsFrom l (countedOf cs ns) k (length cs) ≡ ns
-  unfolding countedOf countsFrom namedCut
+  unfolding countedOf countsFrom
   from-counted k [] [] h e = refl
   from-counted k [] (n ∷ ns) h e = absurd (omega arith)
   from-counted k (c ∷ cs) [] h e = absurd (omega arith)
@@ -186,8 +207,8 @@ module _ (l : Listing) where
       counted-by (λ rs. countFor l rs k ∷ countsFrom l rs (suc k) (length cs) ≡ n ∷ ns) c cs n ns
       (λ z. ap₂ (λ (m : ℕ) (ms : List ℕ). m ∷ ms) (none ∙ sym z) rest)
       (λ z.
-      let own : countFor l (counted c n ∷ countedOf cs ns) k ≡ n = count-own k (counted c n) (countedOf cs ns) (h .0) ∙ omega arith in
-      ap₂ (λ (m : ℕ) (ms : List ℕ). m ∷ ms) own (from-other (counted c n) (countedOf cs ns) (suc k) (length cs) (omega arith) ∙ rest))
+      let own : countFor l (counted c n ∷ countedOf cs ns) k ≡ n = count-own k (counted c n) (countedOf cs ns) (counted-cut c n ∙ h .0) ∙ omega arith in
+      ap₂ (λ (m : ℕ) (ms : List ℕ). m ∷ ms) own (from-other (counted c n) (countedOf cs ns) (suc k) (length cs) (omega (arith, counted-cut c n)) ∙ rest))
 
   pub counted-counts : (ns : List ℕ) → InRow 1 (l .cuts) → length ns ≡ length (l .cuts) → planCounts l (countedOf (l .cuts) ns) ≡ ns
   unfolding planCounts
@@ -198,13 +219,13 @@ module _ (l : Listing) where
   -- the cut that each line names is found among these cuts, which are numbered from k
   abbrev Found : ℕ → List Cut → List Counted → Type 0
   Found k cs [] = Unit {0}
-  Found k cs (r ∷ rs) = (cutFrom (r .plate) (r .item) k cs ≡ namedCut l r) × Found k cs rs
+  Found k cs (r ∷ rs) = (cutFrom (r .plate) (positionOn r) k cs ≡ namedCut l r) × Found k cs rs
 
   -- a cut that is found has one of their numbers
   found-from : (j i k : ℕ) (cs : List Cut) → (cutFrom j i k cs ≡ 0) ⊎ (k ≤ cutFrom j i k cs)
   unfolding cutFrom
   found-from j i k [] = inl refl
-  found-from j i k (c ∷ cs) = go (onPlate j c && ofItem i c) (found-from j i (suc k) cs)
+  found-from j i k (c ∷ cs) = go (onPlate j c && ofPosition i c) (found-from j i (suc k) cs)
     where
       from : Bool → ℕ
       from t = elim t [ true ↦ k | false ↦ cutFrom j i (suc k) cs ]
@@ -214,9 +235,9 @@ module _ (l : Listing) where
       go false (inl e) = inl e
       go false (inr e) = inr (omega arith)
 
-  -- where it is the first of them, that cut is of the line's pair; else it is found among the others
+  -- where it is the first of them, that cut is of the line's plate and position; else it is found among the others
   found-here : (j i k : ℕ) (c : Cut) (cs : List Cut) → 1 ≤ k → cutFrom j i k (c ∷ cs) ≡ k → (c .plate ≡ j) × (c .item ≡ i)
-  unfolding cutFrom onPlate ofItem
+  unfolding cutFrom onPlate ofPosition
   found-here j i k c cs low h = go (eqb (c .plate) j && eqb (c .item) i) refl h (found-from j i (suc k) cs)
     where
       go :
@@ -231,7 +252,7 @@ module _ (l : Listing) where
 
   found-later : (j i k m : ℕ) (c : Cut) (cs : List Cut) → k < m → cutFrom j i k (c ∷ cs) ≡ m → cutFrom j i (suc k) cs ≡ m
   unfolding cutFrom
-  found-later j i k m c cs p h = go (onPlate j c && ofItem i c) h
+  found-later j i k m c cs p h = go (onPlate j c && ofPosition i c) h
     where
       go : (t : Bool) → elim t [ true ↦ k | false ↦ cutFrom j i (suc k) cs ] ≡ m → cutFrom j i (suc k) cs ≡ m
       go true h = absurd (omega arith)
@@ -240,42 +261,45 @@ module _ (l : Listing) where
   found-rest : (k : ℕ) (c : Cut) (cs : List Cut) (rs : List Counted) → Rises (suc k) rs → Found k (c ∷ cs) rs → Found (suc k) cs rs
   found-rest k c cs [] h f = tt
   found-rest k c cs (r ∷ rs) h f = (
-    found-later (r .plate) (r .item) k (namedCut l r) c cs (omega arith) (f .0),
+    found-later (r .plate) (positionOn r) k (namedCut l r) c cs (omega arith) (f .0),
     found-rest k c cs rs (rises-lower (suc k) (suc (namedCut l r)) rs (omega arith) (h .1)) (f .1),
   )
 
   -- where a line names the first of these cuts, that cut's line is this one; `rest` are the lines of the others
   line-own :
-      (k n : ℕ) (c : Cut) (cs : List Cut) (r : Counted) (rs rest : List Counted)
+      (k : ℕ) (c : Cut) (cs : List Cut) (r : Counted) (rs rest : List Counted)
       → 1 ≤ k
       → namedCut l r ≡ k
       → Rises k (r ∷ rs)
       → Found k (c ∷ cs) (r ∷ rs)
       → 1 ≤ r .count
+      → r .turn ≤ 1
       → rest ≡ rs
       → counted c (countFor l (r ∷ rs) k) ∷ rest ≡ r ∷ rs
-  line-own k n c cs r rs rest low e h f some q =
+  line-own k c cs r rs rest low e h f some turned q =
       let none = rises-none k (suc (namedCut l r)) rs (omega arith) (h .1) in
       let m : countFor l (r ∷ rs) k ≡ r .count = count-own k r rs e ∙ omega arith in
-      let pair = found-here (r .plate) (r .item) k c cs low (f .0 ∙ e) in
-      ap₂ (λ (a : Counted) (as′ : List Counted). a ∷ as′) (λ i. record { plate = pair .0 i; item = pair .1 i; count = m i }) q
+      let pair = found-here (r .plate) (positionOn r) k c cs low (f .0 ∙ e) in
+      let i : typeOf (c .item) ≡ r .type = ap typeOf (pair .1) ∙ type-of (r .type) (r .turn) turned in
+      let t : turnOf (c .item) ≡ r .turn = ap turnOf (pair .1) ∙ turn-of (r .type) (r .turn) turned in
+      ap₂ (λ (a : Counted) (as′ : List Counted). a ∷ as′) (λ d. record { plate = pair .0 d; type = i d; turn = t d; count = m d }) q
 
   -- a line for each cut that lines count is the lines themselves
   counts-counted :
-      (k n : ℕ) (cs : List Cut) (rs : List Counted)
+      (k : ℕ) (ws : List ℕ) (cs : List Cut) (rs : List Counted)
       → 1 ≤ k
       → Rises k rs
       → Found k cs rs
-      → PlanLimits n rs
+      → PlanLimits ws rs
       → countedOf cs (countsFrom l rs k (length cs)) ≡ rs
   unfolding countedOf countsFrom cutFrom
-  counts-counted k n [] [] low h f p = refl
-  counts-counted k n [] (r ∷ rs) low h f p = absurd (omega arith)
-  counts-counted k n (c ∷ cs) [] low h f p =
+  counts-counted k ws [] [] low h f p = refl
+  counts-counted k ws [] (r ∷ rs) low h f p = absurd (omega arith)
+  counts-counted k ws (c ∷ cs) [] low h f p =
       counted-by (λ qs. qs ≡ []) c cs (countFor l [] k) (countsFrom l [] (suc k) (length cs))
-      (λ z. counts-counted (suc k) n cs [] (omega arith) tt tt tt)
+      (λ z. counts-counted (suc k) ws cs [] (omega arith) tt tt tt)
       (λ z. absurd (z (rises-none k (suc k) [] (omega arith) tt)))
-  counts-counted k n (c ∷ cs) (r ∷ rs) low h f p = go (ℕ-discrete (namedCut l r) k) (λ qs. counts-counted (suc k) n cs qs (omega arith))
+  counts-counted k ws (c ∷ cs) (r ∷ rs) low h f p = go (ℕ-discrete (namedCut l r) k) (λ qs. counts-counted (suc k) ws cs qs (omega arith))
     where
       m : ℕ
       m = countFor l (r ∷ rs) k
@@ -285,7 +309,7 @@ module _ (l : Listing) where
 
       go :
           Dec (namedCut l r ≡ k)
-          → ((qs : List Counted) → Rises (suc k) qs → Found (suc k) cs qs → PlanLimits n qs → countedOf cs (countsFrom l qs (suc k) (length cs)) ≡ qs)
+          → ((qs : List Counted) → Rises (suc k) qs → Found (suc k) cs qs → PlanLimits ws qs → countedOf cs (countsFrom l qs (suc k) (length cs)) ≡ qs)
           → countedOf (c ∷ cs) (m ∷ ms) ≡ r ∷ rs
       go (yes e) ih =
           let up = rises-lower (suc k) (suc (namedCut l r)) rs (omega arith) (h .1) in
@@ -293,7 +317,7 @@ module _ (l : Listing) where
           let rest = ap (countedOf cs) (from-other r rs (suc k) (length cs) (omega arith)) ∙ ih rs up (found-rest k c cs rs up (f .1)) (p .1) in
           counted-by (λ qs. qs ≡ r ∷ rs) c cs m ms
           (λ z. absurd (omega (arith, count-own k r rs e)))
-          (λ z. line-own k n c cs r rs (countedOf cs ms) low e h f (p .0 .counted) rest)
+          (λ z. line-own k c cs r rs (countedOf cs ms) low e h f (p .0 .counted) (p .0 .turned) rest)
       go (no e) ih =
           let up : Rises (suc k) (r ∷ rs) = (omega arith, h .1) in
           counted-by (λ qs. qs ≡ r ∷ rs) c cs m ms
@@ -306,6 +330,6 @@ module _ (l : Listing) where
   found-all (r ∷ rs) = (refl, found-all rs)
 
   -- lines 3 that pass 9 are the lines of the cuts that they count
-  pub plan-counted : (line n : ℕ) (rs : List Counted) → cutsRising l 0 line rs ≡ pass → PlanLimits n rs → countedOf (l .cuts) (planCounts l rs) ≡ rs
+  pub plan-counted : (line : ℕ) (ws : List ℕ) (rs : List Counted) → cutsRising l 0 line rs ≡ pass → PlanLimits ws rs → countedOf (l .cuts) (planCounts l rs) ≡ rs
   unfolding planCounts
-  plan-counted line n rs h p = counts-counted 1 n (l .cuts) rs (omega arith) (rising-rises 0 line rs h) (found-all rs) p
+  plan-counted line ws rs h p = counts-counted 1 ws (l .cuts) rs (omega arith) (rising-rises 0 line rs h) (found-all rs) p

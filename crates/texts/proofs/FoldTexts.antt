@@ -1,18 +1,19 @@
 -- What a fold text holds, both ways: its lines are those of its job words and layout words, and from these lines they are read back.
-use Prim.Native.Nat.{ℕ, suc, _*_}
+use Prim.Native.Nat.{ℕ, suc, _+_, _*_}
 use native.Mathlib.Omega.{arith}
 use mathlib.Core.Path.{_≡_, refl, sym, ap, _∙_, subst}
 use mathlib.Core.Logic.{inl, inr}
 use mathlib.Core.Bool.{true}
 use mathlib.Core.List.{List, [], _∷_, _++_, map, append-assoc, append-nil}
-use lib.ListN.{length, drop, length-append}
-use borrow.Author.Tests.{not-false}
-use Rattle.job.specs.Sizes.{wordsOfPlacement}
+use lib.ListN.{length, drop}
 use Rattle.job.specs.Verdict.{pass, lowest}
-use Rattle.job.specs.Job.{jobOf}
+use Rattle.job.specs.Job.{permitted, jobOf}
+use Rattle.job.proofs.Positions.{type-of, turn-of}
 use Rattle.job.proofs.Tests.{not-both}
 use Rattle.layouts.specs.Placement.{Placement, placementWords, placementOf}
-use Rattle.layouts.specs.Lines.{rowsOf, rowRight}
+use Rattle.layouts.specs.Lines.{linesIn, rowsOf, layoutWords}
+use Rattle.layouts.specs.Rules.{Every}
+use Rattle.layouts.proofs.row.RowWords.{RowOk}
 use Rattle.columns.specs.Widths.{mostNumbers}
 use Rattle.texts.specs.Shape.{layoutLine}
 use Rattle.texts.specs.JobLines.{Place, first, types, body, itemPrices, platePrices, done, typesOf, afterType}
@@ -20,7 +21,6 @@ use Rattle.texts.specs.FoldText.{Fold, foldAdmits, foldAfter, foldComple
 use Rattle.texts.specs.Admitted.{InLimits, OfShape, Admitted, Runs}
 use Rattle.texts.specs.TextOf.{jobRows, placementRow, foldRowsOf}
 use Rattle.texts.specs.Held.{FoldWhole, FoldBothWays}
-use Rattle.texts.proofs.Basics.{lowest-more, lowest-parts}
 use Rattle.texts.proofs.Lists.{map-append}
 use Rattle.texts.proofs.ShapeLaws.{narrow-layout, shape-fits, Kinds, Shorter}
 use Rattle.texts.proofs.Running.{Plain, runs-append, runs-keep}
@@ -28,17 +28,15 @@ use Rattle.texts.proofs.WholeTexts.{both-ways}
 use Rattle.texts.proofs.JobLaws.{JobWhole, job-passes, passes-job, job-types, board-types}
 use Rattle.texts.proofs.JobText.{AtTypes, JobAt, first-read, types-read}
 use Rattle.texts.proofs.JobRuns.{Opens, job-runs}
-use Rattle.texts.proofs.WordGroups.{sevens}
-use Rattle.texts.proofs.LayoutRows.{badRow, rows-append, words-rows, row-right, right-row, layouts-pass, pass-layouts, seven-words}
+use Rattle.texts.proofs.WordGroups.{eights}
+use Rattle.texts.proofs.LayoutRows.{rows-append, eight-words, words-again, rows-ok, words-more, ok-row}
 
 -- ---- from lines to what they give
 
--- the layout words so far, seven a line and each line within its limits, and the lines of what is held
+-- the layout words so far pass their own row, and the lines are those of what is held
 pub record LaidOut (rows : List (List ℕ)) (f : Fold) : Type 0 where
   pub job : JobWhole (f .job)
-  pub count : ℕ
-  pub size : length (f .layouts) ≡ wordsOfPlacement * count
-  pub right : lowest 2 (badRow (jobOf (f .job))) 1 (rowsOf (f .layouts)) ≡ pass
+  pub words : layoutWords (jobOf (f .job)) (f .layouts) ≡ pass
   pub lines : rows ≡ foldRowsOf f
 
 -- by the place
@@ -56,55 +54,60 @@ FoldAt rows f = FoldForm (f .place) rows f
 
 -- the job's lines bring a fold text to its body, with no layouts yet
 from-job : (p : Place) (rows : List (List ℕ)) (ws : List ℕ) → JobAt p rows ws → FoldForm p rows (foldOf p ws [])
-unfolding foldRowsOf rowsOf lowest
+unfolding foldRowsOf rowsOf linesIn layoutWords lowest
 from-job first rows ws j = j
 from-job (types i) rows ws j = j
-from-job body rows ws j = record { job = j .0; count = 0; size = refl; right = refl; lines = j .1 ∙ sym (append-nil (jobRows ws)) }
+from-job body rows ws j = record { job = j .0; words = refl; lines = j .1 ∙ sym (append-nil (jobRows ws)) }
 from-job (itemPrices i) rows ws j = absurd j
 from-job (platePrices i) rows ws j = absurd j
 from-job done rows ws j = absurd j
 
 -- one line 7 more
 layout-more :
-    (rows : List (List ℕ)) (ws us : List ℕ) (b s k p i x y : ℕ)
+    (rows : List (List ℕ)) (ws us : List ℕ) (b s k p i x y t : ℕ)
     → LaidOut rows (foldOf body ws us)
-    → InLimits (layoutLine (typesOf ws) .limits) (b ∷ s ∷ k ∷ p ∷ i ∷ x ∷ y ∷ [])
-    → LaidOut (rows ++ ((7 ∷ b ∷ s ∷ k ∷ p ∷ i ∷ x ∷ y ∷ []) ∷ [])) (foldOf body ws (us ++ (b ∷ s ∷ k ∷ p ∷ i ∷ x ∷ y ∷ [])))
-unfolding foldRowsOf rowsOf placementRow
-layout-more rows ws us b s k p i x y l h =
-    let q : Placement = placementOf b s k p i x y in
-    let vs : List ℕ = b ∷ s ∷ k ∷ p ∷ i ∷ x ∷ y ∷ [] in
-    let size = l .size in
-    let e : rowsOf (us ++ vs) ≡ rowsOf us ++ (q ∷ []) = rows-append (sevens (l .count) us size) vs in
-    let r = row-right (jobOf ws) (typesOf ws) b s k p i x y (job-types ws (l .job)) h in
+    → InLimits (layoutLine ws .limits) (b ∷ s ∷ k ∷ p ∷ i ∷ x ∷ y ∷ t ∷ [])
+    → permitted (jobOf ws) (2 * i + t) ≡ true
+    → LaidOut (rows ++ ((7 ∷ b ∷ s ∷ k ∷ p ∷ i ∷ x ∷ y ∷ t ∷ []) ∷ [])) (foldOf body ws (us ++ (b ∷ s ∷ k ∷ p ∷ i ∷ x ∷ y ∷ t ∷ [])))
+unfolding foldRowsOf rowsOf linesIn placementRow
+layout-more rows ws us b s k p i x y t l h m =
+    let q : Placement = placementOf b s k p (2 * i + t) x y in
+    let vs : List ℕ = b ∷ s ∷ k ∷ p ∷ i ∷ x ∷ y ∷ t ∷ [] in
+    let size = eight-words (jobOf ws) us (l .words) in
+    let e : rowsOf (us ++ vs) ≡ rowsOf us ++ (q ∷ []) = rows-append (eights (length (rowsOf us)) us size) vs in
+    let row : placementRow q ≡ 7 ∷ vs = rw (type-of i t (omega arith), turn-of i t (omega arith)) in
     record {
       job = l .job;
-      count = suc (l .count);
-      size = length-append us vs ∙ omega arith;
-      right = rw e (lowest-more 2 (badRow (jobOf ws)) 1 (rowsOf us) q (l .right) (rw r));
+      words = words-more ws (job-types ws (l .job)) us b s k p i x y t (l .words) h m;
       lines =
-          ap (λ (t : List (List ℕ)). t ++ (placementRow q ∷ [])) (l .lines)
-          ∙ append-assoc (jobRows ws) (map placementRow (rowsOf us)) (placementRow q ∷ [])
-          ∙ ap (λ (t : List (List ℕ)). jobRows ws ++ t) (sym (map-append placementRow (rowsOf us) (q ∷ [])) ∙ ap (map placementRow) (sym e));
+          ap (λ (r : List (List ℕ)). r ++ ((7 ∷ vs) ∷ [])) (l .lines)
+          ∙ append-assoc (jobRows ws) (map placementRow (rowsOf us)) ((7 ∷ vs) ∷ [])
+          ∙ ap (λ (ns : List ℕ). jobRows ws ++ (map placementRow (rowsOf us) ++ (ns ∷ []))) (sym row)
+          ∙ ap (λ (r : List (List ℕ)). jobRows ws ++ r) (sym (map-append placementRow (rowsOf us) (q ∷ [])) ∙ ap (map placementRow) (sym e));
     }
 
 layout-read :
     (rows : List (List ℕ)) (ws us ns : List ℕ)
     → LaidOut rows (foldOf body ws us)
-    → OfShape (layoutLine (typesOf ws)) ns
+    → OfShape (layoutLine ws) ns
     → LaidOut (rows ++ (ns ∷ [])) (foldOf body ws (us ++ drop 1 ns))
-layout-read rows ws us ns l o = rw (o .numbers) (seven (o .others) (o .limits))
+layout-read rows ws us ns l o = rw (o .numbers) (eight (o .others) (o .limits) (o .turned))
   where
-    seven : (vs : List ℕ) → InLimits (layoutLine (typesOf ws) .limits) vs → LaidOut (rows ++ ((7 ∷ vs) ∷ [])) (foldOf body ws (us ++ vs))
-    seven [] h = absurd h
-    seven (a ∷ []) h = absurd (h .2)
-    seven (a ∷ b ∷ []) h = absurd (h .2 .2)
-    seven (a ∷ b ∷ c ∷ []) h = absurd (h .2 .2 .2)
-    seven (a ∷ b ∷ c ∷ d ∷ []) h = absurd (h .2 .2 .2 .2)
-    seven (a ∷ b ∷ c ∷ d ∷ e ∷ []) h = absurd (h .2 .2 .2 .2 .2)
-    seven (a ∷ b ∷ c ∷ d ∷ e ∷ f ∷ []) h = absurd (h .2 .2 .2 .2 .2 .2)
-    seven (a ∷ b ∷ c ∷ d ∷ e ∷ f ∷ g ∷ []) h = layout-more rows ws us a b c d e f g l h
-    seven (a ∷ b ∷ c ∷ d ∷ e ∷ f ∷ g ∷ v ∷ vs) h = absurd (h .2 .2 .2 .2 .2 .2 .2)
+    eight :
+        (vs : List ℕ)
+        → InLimits (layoutLine ws .limits) vs
+        → layoutLine ws .permits vs ≡ true
+        → LaidOut (rows ++ ((7 ∷ vs) ∷ [])) (foldOf body ws (us ++ vs))
+    eight [] h m = absurd h
+    eight (a ∷ []) h m = absurd (h .2)
+    eight (a ∷ b ∷ []) h m = absurd (h .2 .2)
+    eight (a ∷ b ∷ c ∷ []) h m = absurd (h .2 .2 .2)
+    eight (a ∷ b ∷ c ∷ d ∷ []) h m = absurd (h .2 .2 .2 .2)
+    eight (a ∷ b ∷ c ∷ d ∷ e ∷ []) h m = absurd (h .2 .2 .2 .2 .2)
+    eight (a ∷ b ∷ c ∷ d ∷ e ∷ f ∷ []) h m = absurd (h .2 .2 .2 .2 .2 .2)
+    eight (a ∷ b ∷ c ∷ d ∷ e ∷ f ∷ g ∷ []) h m = absurd (h .2 .2 .2 .2 .2 .2 .2)
+    eight (a ∷ b ∷ c ∷ d ∷ e ∷ f ∷ g ∷ t ∷ []) h m = layout-more rows ws us a b c d e f g t l h m
+    eight (a ∷ b ∷ c ∷ d ∷ e ∷ f ∷ g ∷ t ∷ v ∷ vs) h m = absurd (h .2 .2 .2 .2 .2 .2 .2 .2)
 
 fold-step :
     (p : Place) (ws us : List ℕ) (rows : List (List ℕ)) (ns : List ℕ)
@@ -139,7 +142,7 @@ shapes (itemPrices i) ws us = (tt, tt)
 shapes (platePrices j) ws us = (tt, tt)
 shapes done ws us = (tt, tt)
 
--- each kind stands once among the lines admitted, and none has more than eight numbers
+-- each kind stands once among the lines admitted, and none has more than nine numbers
 pub fold-plain : Plain foldGrammar
 fold-plain = record { kinds = λ f. shapes (f .place) (f .job) (f .layouts) .0; short = λ f. shapes (f .place) (f .job) (f .layouts) .1 }
 
@@ -150,19 +153,18 @@ fold-opens = record { start = refl; admits-first = refl; admits-types = λ i ws.
 
 -- lines 7, each within its limits
 pub layouts-run :
-    (ws us : List ℕ) (k : ℕ) (ps : List Placement)
+    (ws us : List ℕ) (ps : List Placement)
     → JobWhole ws
-    → lowest 2 (badRow (jobOf ws)) k ps ≡ pass
+    → Every (RowOk (jobOf ws)) ps
     → Runs foldGrammar (foldOf body ws us) (map placementRow ps) (foldOf body ws (us ++ placementWords ps))
 unfolding foldAdmits foldAfter placementWords mathlib.Core.List.flatMap placementRow
-layouts-run ws us k [] j h = ap (foldOf body ws) (sym (append-nil us))
-layouts-run ws us k (p ∷ ps) j h =
-    let q = lowest-parts 2 (badRow (jobOf ws)) k p ps h in
+layouts-run ws us [] j h = ap (foldOf body ws) (sym (append-nil us))
+layouts-run ws us (p ∷ ps) j h =
     let n = board-types ws (j .board) in
-    let shape = right-row (jobOf ws) (typesOf ws) p (job-types ws j) (not-false (rowRight (jobOf ws) p) (q .0)) in (
+    let shape = ok-row ws (job-types ws j) p (h .0) in (
       inl shape,
-      shape-fits (layoutLine (typesOf ws)) (placementRow p) (narrow-layout (typesOf ws) (omega arith)) shape,
-      rw append-assoc at (layouts-run ws (us ++ drop 1 (placementRow p)) (suc k) ps j (q .1)),
+      shape-fits (layoutLine ws) (placementRow p) (narrow-layout ws (omega arith)) shape,
+      rw append-assoc at (layouts-run ws (us ++ drop 1 (placementRow p)) ps j (h .1)),
     )
 
 -- all that a fold text holds
@@ -170,9 +172,8 @@ pub fold-runs : (f : Fold) → FoldWhole f → Runs foldGrammar (foldGrammar .st
 unfolding foldRowsOf
 fold-runs f h =
     let j = passes-job (f .job) (h .job) in
-    let size = seven-words (jobOf (f .job)) (f .layouts) (h .layouts) in
-    let words = words-rows (sevens (length (rowsOf (f .layouts))) (f .layouts) size) in
-    let r = layouts-run (f .job) [] 1 (rowsOf (f .layouts)) j (pass-layouts (jobOf (f .job)) (f .layouts) (h .layouts)) in
+    let words = words-again (jobOf (f .job)) (f .layouts) (h .layouts) in
+    let r = layouts-run (f .job) [] (rowsOf (f .layouts)) j (rows-ok (jobOf (f .job)) (rowsOf (f .layouts)) (ap (layoutWords (jobOf (f .job))) words ∙ h .layouts)) in
     let e : foldOf body (f .job) (placementWords (rowsOf (f .layouts))) ≡ f = λ i. foldOf (sym (h .place) i) (f .job) (words i) in
     runs-append foldGrammar (foldGrammar .start) (foldOf body (f .job) []) f (jobRows (f .job)) (map placementRow (rowsOf (f .layouts)))
     (job-runs foldGrammar (λ p ws. foldOf p ws []) fold-opens (f .job) j)
@@ -189,7 +190,7 @@ unfolding foldComplete
 complete-held first ws us rows h c = absurd (not-both c refl)
 complete-held (types i) ws us rows h c = absurd (not-both c refl)
 complete-held body ws us rows h c = (
-  record { place = refl; job = job-passes ws (h .job); layouts = layouts-pass (jobOf ws) (h .count) us (h .size) (h .right) },
+  record { place = refl; job = job-passes ws (h .job); layouts = h .words },
   h .lines,
 )
 complete-held (itemPrices i) ws us rows h c = absurd h

@@ -2,16 +2,19 @@
 use Prim.Native.Nat.{ℕ, suc, _≤_}
 use native.Mathlib.Omega.{arith}
 use mathlib.Core.Path.{_≡_, refl, sym, ap, _∙_}
+use mathlib.Core.Bool.{true}
 use mathlib.Core.List.{List, [], _∷_, _++_, append-nil}
 use mathlib.Core.Option.{none}
 use lib.ListN.{length, length-append}
 use Rattle.job.specs.Sizes.{maxTypes}
 use Rattle.job.specs.Verdict.{pass}
-use Rattle.job.specs.Job.{Job}
+use Rattle.job.specs.Job.{Job, permitted}
+use Rattle.job.proofs.Positions.{permitted-type}
 use Rattle.job.proofs.Verdicts.{then-first, then-second, then-both}
 use Rattle.job.proofs.Records.{words-append}
-use Rattle.listing.specs.Listing.{Listing}
-use Rattle.listing.specs.Model.{Model}
+use Rattle.listing.specs.Listing.{Cut, Listing, cutAt, plateAt}
+use Rattle.listing.specs.Model.{itemOf, Model}
+use Rattle.listing.proofs.Plates.{may-cut}
 use Rattle.listing.proofs.WalkModel.{row-model}
 use Rattle.layouts.specs.Demand3.{J, L}
 use Rattle.layouts.proofs.fold.FoldCuts.{cutOf-is}
@@ -38,12 +41,12 @@ use Rattle.texts.proofs.CountedPlan.{InRow, CutLimits, each-cut, counte
 use Rattle.texts.proofs.FoldDemand.{FoldAccepted, fold-accepted, fold-length, fold-plan, fold-few}
 
 -- lines 3 within their limits fit nine columns
-plan-fits : (n : ℕ) (rs : List Counted) → n ≤ maxTypes → PlanLimits n rs → AllFit (planRows rs)
+plan-fits : (ws : List ℕ) (rs : List Counted) → typesOf ws ≤ maxTypes → PlanLimits ws rs → AllFit (planRows rs)
 unfolding planRows Fit
-plan-fits n [] h p = tt
-plan-fits n (r ∷ rs) h p = (omega arith, plan-fits n rs h (p .1))
+plan-fits ws [] h p = tt
+plan-fits ws (r ∷ rs) h p = (omega arith, plan-fits ws rs h (p .1))
 
--- the cuts of a model are those of their pairs
+-- the cuts of a model are those of their plates and positions
 cuts-in-row : (job : Job) (l : Listing) → Model job l → InRow l 1 (l .cuts)
 cuts-in-row job l m = each-cut _ l (λ d h. cutOf-is job l m (suc d) _ _ (omega arith) refl refl)
 
@@ -58,15 +61,19 @@ module _ (f : Fold) (held : FoldWhole f) (a : FoldAccepted f) where
   j = passes-job (f .job) (held .job)
 
   -- its lines 3 are within their limits
-  limits : PlanLimits (typesOf (f .job)) (foldPlan f)
+  limits : PlanLimits (f .job) (foldPlan f)
   limits =
-      counted-limits (typesOf (f .job)) 1 (L (f .job) .cuts) (foldCounts f)
-      (each-cut (λ _ c. CutLimits (typesOf (f .job)) c) (L (f .job))
+      counted-limits (f .job) 1 (L (f .job) .cuts) (foldCounts f)
+      (each-cut (λ _ c. CutLimits (f .job) c) (L (f .job))
       (λ d h.
+      let c : Cut = cutAt (L (f .job)) (suc d) in
+      let lies : permitted (J (f .job)) (c .item) ≡ true = may-cut (J (f .job) .mode) (itemOf (J (f .job)) c) (plateAt (L (f .job)) (c .plate)) (m .permitted d h) .allowed in
+      let range = permitted-type (J (f .job)) (c .item) lies in
       record {
         plate = omega (arith, m .on-plate d h, m .few-plates);
-        low = m .of-item d h .0;
-        high = omega (arith, m .of-item d h .1, job-types (f .job) j);
+        low = range .0;
+        high = omega (arith, range .1, job-types (f .job) j);
+        lies = lies;
       }))
       (fold-few f held a)
 
@@ -116,7 +123,7 @@ module _ (f : Fold) (held : FoldWhole f) (a : FoldAccepted f) where
       let holds : sawHolds (jobText (f .job) ++ out) ≡ s = ap sawHolds text ∙ ap (λ (r : Reader Saw). r .state) (w .0) in
       let row = ap (λ (bs : List ℕ). textRow sawGrammar (fed sawGrammar (started sawGrammar) bs)) text ∙ w .1 in
       record {
-        read = ap linesIn e ∙ lines-both-ways .written (planRows (foldPlan f)) (plan-fits (typesOf (f .job)) (foldPlan f) (board-types (f .job) (j .board) .1) limits);
+        read = ap linesIn e ∙ lines-both-ways .written (planRows (foldPlan f)) (plan-fits (f .job) (foldPlan f) (board-types (f .job) (j .board) .1) limits);
         holds = holds;
         accepted = then-both _ _ row (ap sawRows holds ∙ rows);
         counts = ap sawCounts holds ∙ same-counts;

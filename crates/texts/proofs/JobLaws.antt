@@ -17,7 +17,7 @@ use Rattle.job.proofs.CodeEnds.{then-pass}
 use Rattle.texts.specs.Shape.{jobLine, itemLine}
 use Rattle.texts.specs.JobLines.{typesOf}
 use Rattle.texts.specs.Admitted.{InLimits}
-use Rattle.texts.proofs.WordGroups.{Threes, no-type, one-type, threes}
+use Rattle.texts.proofs.WordGroups.{Fours, no-type, one-type, fours}
 use Rattle.texts.proofs.Basics.{and-parts, within-parts, unless-passed, lowest-more}
 
 -- a type with a word outside its limits
@@ -58,13 +58,13 @@ passes-job ws h =
 -- ---- line by line
 
 -- one part of the types' words after another
-items-append : {ws : List ℕ} {k : ℕ} → Threes ws k → (us : List ℕ) → itemsOf (ws ++ us) ≡ itemsOf ws ++ itemsOf us
+items-append : {ws : List ℕ} {k : ℕ} → Fours ws k → (us : List ℕ) → itemsOf (ws ++ us) ≡ itemsOf ws ++ itemsOf us
 unfolding itemsOf
 items-append no-type us = refl
-items-append (one-type {a = a} {b = b} {c = c} t) us = ap (λ (l : List Item). item a b c ∷ l) (items-append t us)
+items-append (one-type {a = a} {b = b} {c = c} {d = d} t) us = ap (λ (l : List Item). item a b c d ∷ l) (items-append t us)
 
--- a type for each three words
-items-length : {ws : List ℕ} {k : ℕ} → Threes ws k → length (itemsOf ws) ≡ k
+-- a type for each four words
+items-length : {ws : List ℕ} {k : ℕ} → Fours ws k → length (itemsOf ws) ≡ k
 unfolding itemsOf
 items-length no-type = refl
 items-length (one-type t) = ap suc (items-length t)
@@ -103,26 +103,28 @@ unfolding itemsOf itemRight
 job-next i k ws [] j h = absurd h
 job-next i k ws (a ∷ []) j h = absurd (h .2)
 job-next i k ws (a ∷ b ∷ []) j h = absurd (h .2 .2)
-job-next i k ws (a ∷ b ∷ d ∷ []) j h =
+job-next i k ws (a ∷ b ∷ d ∷ []) j h = absurd (h .2 .2 .2)
+job-next i k ws (a ∷ b ∷ d ∷ v ∷ []) j h =
     let size = j .size in
     let l : length (drop wordsOfHead ws) ≡ wordsOfItem * k = length-drop wordsOfHead ws ∙ omega arith in
-    let vs : List ℕ = a ∷ b ∷ d ∷ [] in
-    let e = ap itemsOf (drop-append-le wordsOfHead ws vs (omega arith)) ∙ items-append (threes k (drop wordsOfHead ws) l) vs in
+    let vs : List ℕ = a ∷ b ∷ d ∷ v ∷ [] in
+    let e = ap itemsOf (drop-append-le wordsOfHead ws vs (omega arith)) ∙ items-append (fours k (drop wordsOfHead ws) l) vs in
     let p = within-limits 1 maxSide a (omega arith) (omega arith) in
     let q = within-limits 1 maxSide b (omega arith) (omega arith) in
     let r = within-limits 1 maxPieces d (omega arith) (omega arith) in
-    let good : not (itemRight (item a b d)) ≡ false = rw (p, q, r) in
+    let s = within-limits 0 1 v (omega arith) (omega arith) in
+    let good : not (itemRight (item a b d v)) ≡ false = rw (p, q, r, s) in
     record {
       size = rw (length-append ws vs) (omega arith);
       board = board-append ws vs (omega arith) ∙ j .board;
-      items = rw e (lowest-more 2 badItem 1 (itemsOf (drop wordsOfHead ws)) (item a b d) (j .items) good);
+      items = rw e (lowest-more 2 badItem 1 (itemsOf (drop wordsOfHead ws)) (item a b d v) (j .items) good);
     }
-job-next i k ws (a ∷ b ∷ d ∷ v ∷ vs) j h = absurd (h .2 .2 .2)
+job-next i k ws (a ∷ b ∷ d ∷ v ∷ u ∷ vs) j h = absurd (h .2 .2 .2 .2)
 
 -- the words hold as many types as they say, 1 to 40
 pub job-types : (ws : List ℕ) → JobWhole ws → length (jobOf ws .items) ≡ typesOf ws
 unfolding jobOf
-job-types ws j = let size = j .size in items-length (threes (typesOf ws) (drop wordsOfHead ws) (length-drop wordsOfHead ws ∙ omega arith))
+job-types ws j = let size = j .size in items-length (fours (typesOf ws) (drop wordsOfHead ws) (length-drop wordsOfHead ws ∙ omega arith))
 
 -- 1 to 40 types
 pub board-types : (ws : List ℕ) → boardRight ws ≡ true → (1 ≤ typesOf ws) × (typesOf ws ≤ maxTypes)

@@ -17,7 +17,7 @@ use Rattle.texts.specs.Reader.{Grammar}
 use Rattle.texts.specs.JobLines.{Place, first, types, body, typesOf, afterType}
 use Rattle.texts.specs.Admitted.{OfShape, Runs}
 use Rattle.texts.specs.TextOf.{itemRows, jobRows}
-use Rattle.texts.proofs.WordGroups.{Threes, no-type, one-type, threes}
+use Rattle.texts.proofs.WordGroups.{Fours, no-type, one-type, fours}
 use Rattle.texts.proofs.Basics.{and-parts, within-parts, lowest-parts}
 use Rattle.texts.proofs.ShapeLaws.{narrow-job, narrow-item, shape-fits}
 use Rattle.texts.proofs.JobLaws.{badItem, JobWhole, board-append, board-types, types-append}
@@ -48,37 +48,39 @@ board-shape (a ∷ b ∷ c ∷ d ∷ n ∷ []) e h =
     let C = within-parts 1 maxSide c (r .1) in
     let D = within-parts 1 maxSide d (q .1) in
     let N = within-parts 1 maxTypes n (p .1) in
-    record { others = a ∷ b ∷ c ∷ d ∷ n ∷ []; numbers = refl; limits = omega arith }
+    record { others = a ∷ b ∷ c ∷ d ∷ n ∷ []; numbers = refl; limits = omega arith; turned = refl }
 board-shape (a ∷ b ∷ c ∷ d ∷ n ∷ v ∷ vs) e h = absurd (omega arith)
 
--- the three words of a type as a line 2
-item-shape : (i w h d : ℕ) → itemRight (item w h d) ≡ true → OfShape (itemLine i) (2 ∷ i ∷ w ∷ h ∷ d ∷ [])
+-- the four words of a type as a line 2
+item-shape : (i w h d v : ℕ) → itemRight (item w h d v) ≡ true → OfShape (itemLine i) (2 ∷ i ∷ w ∷ h ∷ d ∷ v ∷ [])
 unfolding itemRight
-item-shape i w h d e =
-    let p = and-parts (within 1 maxSide w && within 1 maxSide h) (within 1 maxPieces d) e in
+item-shape i w h d v e =
+    let o = and-parts (within 1 maxSide w && within 1 maxSide h && within 1 maxPieces d) (within 0 1 v) e in
+    let p = and-parts (within 1 maxSide w && within 1 maxSide h) (within 1 maxPieces d) (o .0) in
     let q = and-parts (within 1 maxSide w) (within 1 maxSide h) (p .0) in
     let W = within-parts 1 maxSide w (q .0) in
     let H = within-parts 1 maxSide h (q .1) in
     let D = within-parts 1 maxPieces d (p .1) in
-    record { others = w ∷ h ∷ d ∷ []; numbers = refl; limits = omega arith }
+    let L = within-parts 0 1 v (o .1) in
+    record { others = w ∷ h ∷ d ∷ v ∷ []; numbers = refl; limits = omega arith; turned = refl }
 
 module _ {S : Type 0} (g : Grammar S) (at : Place → List ℕ → S) (o : Opens g at) where
   -- one line 2
   item-runs :
-      (i : ℕ) (ws : List ℕ) (w h d : ℕ) (rows : List (List ℕ)) (t : S)
-      → itemRight (item w h d) ≡ true
+      (i : ℕ) (ws : List ℕ) (w h d v : ℕ) (rows : List (List ℕ)) (t : S)
+      → itemRight (item w h d v) ≡ true
       → i ≤ maxTypes
-      → Runs g (at (afterType (typesOf ws) i) (ws ++ (w ∷ h ∷ d ∷ []))) rows t
-      → Runs g (at (types i) ws) ((2 ∷ i ∷ w ∷ h ∷ d ∷ []) ∷ rows) t
-  item-runs i ws w h d rows t e l r =
-      let ns : List ℕ = 2 ∷ i ∷ w ∷ h ∷ d ∷ [] in
-      let shape = item-shape i w h d e in
+      → Runs g (at (afterType (typesOf ws) i) (ws ++ (w ∷ h ∷ d ∷ v ∷ []))) rows t
+      → Runs g (at (types i) ws) ((2 ∷ i ∷ w ∷ h ∷ d ∷ v ∷ []) ∷ rows) t
+  item-runs i ws w h d v rows t e l r =
+      let ns : List ℕ = 2 ∷ i ∷ w ∷ h ∷ d ∷ v ∷ [] in
+      let shape = item-shape i w h d v e in
       (rw (o .admits-types i ws) (inl shape), shape-fits (itemLine i) ns (narrow-item i (omega arith)) shape, rw (o .after-types i ws ns) r)
 
   -- the lines 2 of the m types after type k; `ws` are the words before them, `us` theirs
   items-run :
       (k : ℕ) (ws : List ℕ) {us : List ℕ} {m : ℕ}
-      → Threes us m
+      → Fours us m
       → 1 ≤ m
       → wordsOfHead ≤ length ws
       → typesOf ws ≡ k + m
@@ -87,20 +89,20 @@ module _ {S : Type 0} (g : Grammar S) (at : Place → List ℕ → S) (o : Opens
       → Runs g (at (types (suc k)) ws) (itemRows (suc k) us) (at body (ws ++ us))
   unfolding itemRows itemsOf afterType
   items-run k ws no-type u l t n h = absurd (omega arith)
-  items-run k ws (one-type {a = a} {b = b} {c = c} no-type) u l t n h =
-      let p = lowest-parts 2 badItem (suc k) (item a b c) [] h in
+  items-run k ws (one-type {a = a} {b = b} {c = c} {d = d} no-type) u l t n h =
+      let p = lowest-parts 2 badItem (suc k) (item a b c d) [] h in
       let last : eqb (suc k) (typesOf ws) ≡ true = eq-eqb (suc k) (typesOf ws) (omega arith) in
-      let right = not-false (itemRight (item a b c)) (p .0) in
-      item-runs (suc k) ws a b c [] (at body (ws ++ (a ∷ b ∷ c ∷ []))) right (omega arith) (rw last)
-  items-run k ws (one-type {a = a} {b = b} {c = c} {ws = us} (one-type s)) u l t n h =
-      let p = lowest-parts 2 badItem (suc k) (item a b c) (itemsOf us) h in
+      let right = not-false (itemRight (item a b c d)) (p .0) in
+      item-runs (suc k) ws a b c d [] (at body (ws ++ (a ∷ b ∷ c ∷ d ∷ []))) right (omega arith) (rw last)
+  items-run k ws (one-type {a = a} {b = b} {c = c} {d = d} {ws = us} (one-type s)) u l t n h =
+      let p = lowest-parts 2 badItem (suc k) (item a b c d) (itemsOf us) h in
       let more : eqb (suc k) (typesOf ws) ≡ false = ne-eqb (suc k) (typesOf ws) (λ q. omega arith) in
-      let ws′ : List ℕ = ws ++ (a ∷ b ∷ c ∷ []) in
-      let same : typesOf ws′ ≡ typesOf ws = types-append ws (a ∷ b ∷ c ∷ []) l in
-      let size : length ws′ ≡ length ws + wordsOfItem = length-append ws (a ∷ b ∷ c ∷ []) in
+      let ws′ : List ℕ = ws ++ (a ∷ b ∷ c ∷ d ∷ []) in
+      let same : typesOf ws′ ≡ typesOf ws = types-append ws (a ∷ b ∷ c ∷ d ∷ []) l in
+      let size : length ws′ ≡ length ws + wordsOfItem = length-append ws (a ∷ b ∷ c ∷ d ∷ []) in
       let r = items-run (suc k) ws′ (one-type s) (omega arith) (omega arith) (omega arith) (omega arith) (p .1) in
-      let right = not-false (itemRight (item a b c)) (p .0) in
-      item-runs (suc k) ws a b c (itemRows (suc (suc k)) us) (at body (ws ++ (a ∷ b ∷ c ∷ us))) right (omega arith)
+      let right = not-false (itemRight (item a b c d)) (p .0) in
+      item-runs (suc k) ws a b c d (itemRows (suc (suc k)) us) (at body (ws ++ (a ∷ b ∷ c ∷ d ∷ us))) right (omega arith)
       (rw more (rw append-assoc at r))
 
   -- job words with all their types
@@ -114,7 +116,7 @@ module _ {S : Type 0} (g : Grammar S) (at : Place → List ℕ → S) (o : Opens
       let whole = take-append-drop wordsOfHead ws in
       let board : boardRight (take wordsOfHead ws) ≡ true = sym (board-append (take wordsOfHead ws) (drop wordsOfHead ws) (omega arith)) ∙ ap boardRight whole ∙ j .board in
       let shape = board-shape (take wordsOfHead ws) five board in
-      let rest = threes (typesOf ws) (drop wordsOfHead ws) (length-drop wordsOfHead ws ∙ omega arith) in
+      let rest = fours (typesOf ws) (drop wordsOfHead ws) (length-drop wordsOfHead ws ∙ omega arith) in
       let r = items-run 0 (take wordsOfHead ws) rest (n .0) (omega arith) (omega arith) (omega arith) (j .items) in
       rw (o .start) (
         rw (o .admits-first) (inl shape),

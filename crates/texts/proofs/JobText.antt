@@ -52,33 +52,34 @@ pub types-read :
     → OfShape (itemLine i) ns
     → JobAt (afterType (typesOf ws) i) (rows ++ (ns ∷ [])) (ws ++ drop 2 ns)
 unfolding afterType
-types-read i rows ws ns a o = rw (o .numbers) (three (o .others) (o .limits))
+types-read i rows ws ns a o = rw (o .numbers) (four (o .others) (o .limits))
   where
     size : length ws ≡ jobSize (a .before)
     size = a .words .size
 
-    three :
+    four :
         (vs : List ℕ)
         → InLimits (itemLine i .limits) vs
         → JobAt (cond (eqb i (typesOf ws)) body (types (suc i))) (rows ++ ((2 ∷ i ∷ vs) ∷ [])) (ws ++ vs)
-    three [] h = absurd h
-    three (w ∷ []) h = absurd (h .2)
-    three (w ∷ t ∷ []) h = absurd (h .2 .2)
-    three (w ∷ t ∷ d ∷ []) h = go (eqb i (typesOf ws)) refl
+    four [] h = absurd h
+    four (w ∷ []) h = absurd (h .2)
+    four (w ∷ t ∷ []) h = absurd (h .2 .2)
+    four (w ∷ t ∷ d ∷ []) h = absurd (h .2 .2 .2)
+    four (w ∷ t ∷ d ∷ v ∷ []) h = go (eqb i (typesOf ws)) refl
       where
         us : List ℕ
-        us = ws ++ (w ∷ t ∷ d ∷ [])
+        us = ws ++ (w ∷ t ∷ d ∷ v ∷ [])
 
         next : JobSoFar (suc (a .before)) us
-        next = job-next i (a .before) ws (w ∷ t ∷ d ∷ []) (a .words) h
+        next = job-next i (a .before) ws (w ∷ t ∷ d ∷ v ∷ []) (a .words) h
 
         same : typesOf us ≡ typesOf ws
-        same = types-append ws (w ∷ t ∷ d ∷ []) (omega arith)
+        same = types-append ws (w ∷ t ∷ d ∷ v ∷ []) (omega arith)
 
-        lines : rows ++ ((2 ∷ i ∷ w ∷ t ∷ d ∷ []) ∷ []) ≡ jobRows us
-        lines = sym (jobRows-more (a .before) ws w t d size ∙ rw (a .lines, a .next) refl)
+        lines : rows ++ ((2 ∷ i ∷ w ∷ t ∷ d ∷ v ∷ []) ∷ []) ≡ jobRows us
+        lines = sym (jobRows-more (a .before) ws w t d v size ∙ rw (a .lines, a .next) refl)
 
-        go : (b : Bool) → eqb i (typesOf ws) ≡ b → JobAt (cond b body (types (suc i))) (rows ++ ((2 ∷ i ∷ w ∷ t ∷ d ∷ []) ∷ [])) us
+        go : (b : Bool) → eqb i (typesOf ws) ≡ b → JobAt (cond b body (types (suc i))) (rows ++ ((2 ∷ i ∷ w ∷ t ∷ d ∷ v ∷ []) ∷ [])) us
         go true e =
             let n : suc (a .before) ≡ typesOf us = omega (arith, eqb-true i (typesOf ws) e, a .next, same) in
             (subst (λ (k : ℕ). JobSoFar k us) n next, lines)
@@ -90,4 +91,4 @@ types-read i rows ws ns a o = rw (o .numbers) (three (o .others) (o .limits))
               words = next;
               lines = lines;
             }
-    three (w ∷ t ∷ d ∷ v ∷ vs) h = absurd (h .2 .2 .2)
+    four (w ∷ t ∷ d ∷ v ∷ u ∷ vs) h = absurd (h .2 .2 .2 .2)

@@ -1,52 +1,50 @@
 -- The lines 7 of layout words: one more of them, how many they are, how many bytes, and their limits as those of layout words.
-use Prim.Native.Nat.{ℕ, suc, _*_, _/_, _%_}
+use Prim.Native.Nat.{ℕ, suc, _+_, _*_, _/_}
 use native.Mathlib.Omega.{arith}
 use mathlib.Core.Path.{_≡_, refl, ap, _∙_}
-use mathlib.Core.Bool.{Bool, true, not, _&&_}
+use mathlib.Core.Bool.{true}
 use mathlib.Core.List.{List, [], _∷_, _++_, map}
-use lib.Dec.{eqb}
-use lib.ListN.{length}
-use borrow.Author.Tests.{eqb-true, eq-eqb}
+use lib.ListN.{length, length-append}
 use Rattle.job.specs.Sizes.{wordsOfPlacement}
-use Rattle.job.specs.Verdict.{pass, refuseIf, within, lowest}
-use Rattle.job.specs.Job.{Job, maxSide, maxPieces}
-use Rattle.job.proofs.Tests.{within-limits}
-use Rattle.job.proofs.CodeEnds.{then-pass}
+use Rattle.job.specs.Verdict.{pass}
+use Rattle.job.specs.Job.{Job, typeOf, turnOf, permitted, jobOf}
+use Rattle.job.proofs.Positions.{type-turn, permitted-lies, lies-permitted}
 use Rattle.layouts.specs.Placement.{Placement, placementWords, placementOf}
-use Rattle.layouts.specs.Lines.{rowsOf, rowRight, layoutWords}
+use Rattle.layouts.specs.Lines.{Line, linesIn, rowsOf, layoutWords}
+use Rattle.layouts.specs.Rules.{Every, OfJob}
+use Rattle.layouts.proofs.lists.Every.{every-append, every-both, every-map, map-every}
+use Rattle.layouts.proofs.row.RowLines.{lineOf, words-lines, words-rows, rows-words}
+use Rattle.layouts.proofs.row.RowWords.{LineOk, RowOk, words-exact}
 use Rattle.texts.specs.Widths.{placementLineBytes}
 use Rattle.texts.specs.Shape.{layoutLine}
+use Rattle.texts.specs.JobLines.{typesOf}
 use Rattle.texts.specs.Admitted.{InLimits, OfShape}
 use Rattle.texts.specs.TextOf.{placementRow}
-use Rattle.texts.proofs.WordGroups.{Sevens, no-line, one-line, sevens}
-use Rattle.texts.proofs.Basics.{and-parts, within-parts, unless-passed}
-use Rattle.texts.proofs.Lists.{bytesOf, bytes-cons}
+use Rattle.texts.proofs.WordGroups.{Eights, no-line, one-line, eights}
+use Rattle.texts.proofs.Lists.{bytesOf, bytes-cons, map-append}
 
--- a line with a number outside its limits
-abbrev pub badRow : Job → ℕ → Placement → Bool
-badRow job k r = not (rowRight job r)
+-- the placement of a line
+abbrev placed : Line → Placement
+placed r = r .placement
 
 -- one part of the words after another
-pub rows-append : {ws : List ℕ} {k : ℕ} → Sevens ws k → (us : List ℕ) → rowsOf (ws ++ us) ≡ rowsOf ws ++ rowsOf us
-unfolding rowsOf
-rows-append no-line us = refl
-rows-append (one-line {a = a} {b = b} {c = c} {d = d} {e = e} {f = f} {g = g} s) us =
-    ap (λ (l : List Placement). placementOf a b c d e f g ∷ l) (rows-append s us)
+lines-append : {ws : List ℕ} {k : ℕ} → Eights ws k → (us : List ℕ) → linesIn (ws ++ us) ≡ linesIn ws ++ linesIn us
+unfolding linesIn
+lines-append no-line us = refl
+lines-append (one-line {a = a} {b = b} {c = c} {d = d} {e = e} {f = f} {g = g} {h = h} s) us =
+    ap (λ (l : List Line). record { type = e; turned = h; placement = placementOf a b c d (2 * e + h) f g } ∷ l) (lines-append s us)
 
--- a line for each seven words
-pub rows-length : {ws : List ℕ} {k : ℕ} → Sevens ws k → length (rowsOf ws) ≡ k
+pub rows-append : {ws : List ℕ} {k : ℕ} → Eights ws k → (us : List ℕ) → rowsOf (ws ++ us) ≡ rowsOf ws ++ rowsOf us
 unfolding rowsOf
+rows-append {ws} s us = ap (map placed) (lines-append s us) ∙ map-append placed (linesIn ws) (linesIn us)
+
+-- a line for each eight words
+pub rows-length : {ws : List ℕ} {k : ℕ} → Eights ws k → length (rowsOf ws) ≡ k
+unfolding rowsOf linesIn
 rows-length no-line = refl
 rows-length (one-line s) = ap suc (rows-length s)
 
--- the words of these lines again
-pub words-rows : {ws : List ℕ} {k : ℕ} → Sevens ws k → placementWords (rowsOf ws) ≡ ws
-unfolding rowsOf placementWords mathlib.Core.List.flatMap
-words-rows no-line = refl
-words-rows (one-line {a = a} {b = b} {c = c} {d = d} {e = e} {f = f} {g = g} s) =
-    ap (λ (l : List ℕ). a ∷ b ∷ c ∷ d ∷ e ∷ f ∷ g ∷ l) (words-rows s)
-
--- as many lines as placements, of 73 bytes each
+-- as many lines as placements, of 82 bytes each
 pub placementRows-size :
     (ps : List Placement)
     → (length (map placementRow ps) ≡ length ps) × (length (bytesOf (map placementRow ps)) ≡ placementLineBytes * length ps)
@@ -56,73 +54,72 @@ placementRows-size (p ∷ ps) =
     let q = placementRows-size ps in
     (ap suc (q .0), bytes-cons (placementRow p) (map placementRow ps) ∙ omega arith)
 
--- the seven numbers of a line are within its limits just where the words are
-pub row-right :
-    (job : Job) (n : ℕ) (b s k p i x y : ℕ)
-    → length (job .items) ≡ n
-    → InLimits (layoutLine n .limits) (b ∷ s ∷ k ∷ p ∷ i ∷ x ∷ y ∷ [])
-    → rowRight job (placementOf b s k p i x y) ≡ true
-unfolding rowRight
-row-right job n b s k p i x y e h =
-    let B = within-limits 1 maxPieces b (omega arith) (omega arith) in
-    let S = within-limits 1 maxPieces s (omega arith) (omega arith) in
-    let K = within-limits 1 maxPieces k (omega arith) (omega arith) in
-    let P = within-limits 1 maxPieces p (omega arith) (omega arith) in
-    let I = within-limits 1 n i (omega arith) (omega arith) in
-    let X = within-limits 0 maxSide x (omega arith) (omega arith) in
-    let Y = within-limits 0 maxSide y (omega arith) (omega arith) in
-    rw (e, B, S, K, P, I, X, Y)
+-- ---- words that pass
 
--- and the other way round
-pub right-row : (job : Job) (n : ℕ) (q : Placement) → length (job .items) ≡ n → rowRight job q ≡ true → OfShape (layoutLine n) (placementRow q)
-unfolding rowRight placementRow
-right-row job n q e h =
-    let b : Bool = within 1 maxPieces (q .turn .board) in
-    let s : Bool = within 1 maxPieces (q .turn .strip) in
-    let k : Bool = within 1 maxPieces (q .turn .stack) in
-    let p : Bool = within 1 maxPieces (q .turn .place) in
-    let i : Bool = within 1 n (q .item) in
-    let x : Bool = within 0 maxSide (q .x) in
-    let y : Bool = within 0 maxSide (q .y) in
-    let h1 = and-parts (b && s && k && p && i && x) y (rw e at h) in
-    let h2 = and-parts (b && s && k && p && i) x (h1 .0) in
-    let h3 = and-parts (b && s && k && p) i (h2 .0) in
-    let h4 = and-parts (b && s && k) p (h3 .0) in
-    let h5 = and-parts (b && s) k (h4 .0) in
-    let h6 = and-parts b s (h5 .0) in
-    let B = within-parts 1 maxPieces (q .turn .board) (h6 .0) in
-    let S = within-parts 1 maxPieces (q .turn .strip) (h6 .1) in
-    let K = within-parts 1 maxPieces (q .turn .stack) (h5 .1) in
-    let P = within-parts 1 maxPieces (q .turn .place) (h4 .1) in
-    let I = within-parts 1 n (q .item) (h3 .1) in
-    let X = within-parts 0 maxSide (q .x) (h2 .1) in
-    let Y = within-parts 0 maxSide (q .y) (h1 .1) in
-    record {
-      others = q .turn .board ∷ q .turn .strip ∷ q .turn .stack ∷ q .turn .place ∷ q .item ∷ q .x ∷ q .y ∷ [];
-      numbers = refl;
-      limits = omega arith;
-    }
+module _ (job : Job) (ws : List ℕ) (h : layoutWords job ws ≡ pass) where
+  -- eight words a line
+  pub eight-words : length ws ≡ wordsOfPlacement * length (rowsOf ws)
+  eight-words =
+      let e = words-exact job ws .0 h .0 in
+      omega (arith, rows-length (eights (length ws / wordsOfPlacement) ws (omega arith)))
 
--- the words' own row, by lines
-pub layouts-pass :
-    (job : Job) (k : ℕ) (ws : List ℕ)
-    → length ws ≡ wordsOfPlacement * k
-    → lowest 2 (badRow job) 1 (rowsOf ws) ≡ pass
-    → layoutWords job ws ≡ pass
-unfolding layoutWords
-layouts-pass job k ws e h = rw (eq-eqb (length ws % wordsOfPlacement) 0 (omega arith)) h
+  -- the words of their lines again
+  pub words-again : placementWords (rowsOf ws) ≡ ws
+  words-again =
+      let e = words-exact job ws .0 h in
+      rows-words ws (e .0) (every-map (λ r (o : LineOk job r). o .turned) (linesIn ws) (e .1 .0))
 
--- and each line of words that pass is within its limits
-pub pass-layouts : (job : Job) (ws : List ℕ) → layoutWords job ws ≡ pass → lowest 2 (badRow job) 1 (rowsOf ws) ≡ pass
-unfolding layoutWords
-pass-layouts job ws h =
-    then-pass (refuseIf (not (eqb (length ws % wordsOfPlacement) 0)) 1 (suc (length ws / wordsOfPlacement))) (lowest 2 (badRow job) 1 (rowsOf ws)) h .1
+-- placements whose words pass are within their limits
+pub rows-ok : (job : Job) (ps : List Placement) → layoutWords job (placementWords ps) ≡ pass → Every (RowOk job) ps
+rows-ok job ps h =
+    let e = words-exact job (placementWords ps) .0 h in
+    every-map (λ p (o : LineOk job (lineOf p) × OfJob job (p .item)). record { turned = o .0 .numbers; type = o .1; across = o .0 .across; up = o .0 .up }) ps
+    (every-both (λ p. LineOk job (lineOf p)) (λ p. OfJob job (p .item)) ps
+    (map-every (LineOk job) lineOf ps (rw (words-lines ps) at (e .1 .0)))
+    (rw (words-rows ps) at (e .1 .1)))
 
--- seven words a line
-pub seven-words : (job : Job) (ws : List ℕ) → layoutWords job ws ≡ pass → length ws ≡ wordsOfPlacement * length (rowsOf ws)
-unfolding layoutWords
-seven-words job ws h =
-    let p = then-pass (refuseIf (not (eqb (length ws % wordsOfPlacement) 0)) 1 (suc (length ws / wordsOfPlacement))) (lowest 2 (badRow job) 1 (rowsOf ws)) h in
-    let e : length ws % wordsOfPlacement ≡ 0 = eqb-true (length ws % wordsOfPlacement) 0 (unless-passed (eqb (length ws % wordsOfPlacement) 0) 1 (suc (length ws / wordsOfPlacement)) (p .0)) in
-    let k = rows-length (sevens (length ws / wordsOfPlacement) ws (omega arith)) in
-    omega arith
+module _ (ws : List ℕ) (n : length (jobOf ws .items) ≡ typesOf ws) where
+  -- a line more whose numbers are within their limits, in a permitted position
+  pub words-more :
+      (us : List ℕ) (b s k p i x y t : ℕ)
+      → layoutWords (jobOf ws) us ≡ pass
+      → InLimits (layoutLine ws .limits) (b ∷ s ∷ k ∷ p ∷ i ∷ x ∷ y ∷ t ∷ [])
+      → permitted (jobOf ws) (2 * i + t) ≡ true
+      → layoutWords (jobOf ws) (us ++ (b ∷ s ∷ k ∷ p ∷ i ∷ x ∷ y ∷ t ∷ [])) ≡ pass
+  unfolding linesIn rowsOf
+  words-more us b s k p i x y t h l q =
+      let job : Job = jobOf ws in
+      let vs : List ℕ = b ∷ s ∷ k ∷ p ∷ i ∷ x ∷ y ∷ t ∷ [] in
+      let e = words-exact job us .0 h in
+      let whole = eights (length us / wordsOfPlacement) us (omega (arith, e .0)) in
+      let line : Line = record { type = i; turned = t; placement = placementOf b s k p (2 * i + t) x y } in
+      let right : LineOk job line = record { numbers = omega arith; type = omega arith; across = omega arith; up = omega arith; turned = omega arith } in
+      words-exact job (us ++ vs) .1 (
+        rw length-append (omega (arith, e .0)),
+        (
+          rw (lines-append whole vs) (every-append (LineOk job) (linesIn us) (line ∷ []) (e .1 .0) (right, tt)),
+          rw (rows-append whole vs) (every-append (λ r. OfJob job (r .item)) (rowsOf us) (line .placement ∷ []) (e .1 .1) (permitted-lies job (2 * i + t) q, tt)),
+        ),
+      )
+
+  -- a placement within its limits is a line 7
+  pub ok-row : (q : Placement) → RowOk (jobOf ws) q → OfShape (layoutLine ws) (placementRow q)
+  unfolding placementRow
+  ok-row q h =
+      let u = h .turned in
+      let m = h .type in
+      record {
+        others =
+            q .turn .board
+            ∷ q .turn .strip
+            ∷ q .turn .stack
+            ∷ q .turn .place
+            ∷ typeOf (q .item)
+            ∷ q .x
+            ∷ q .y
+            ∷ turnOf (q .item)
+            ∷ [];
+        numbers = refl;
+        limits = omega (arith, u .board, u .strip, u .stack, u .place, m .type, m .turn, h .across, h .up);
+        turned = rw (type-turn (q .item)) (lies-permitted (jobOf ws) (q .item) m);
+      }

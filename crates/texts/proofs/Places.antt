@@ -109,7 +109,7 @@ near-job ws h = near-then (admission (jobOf ws)) (modelRow (jobOf ws)) (near-adm
 pub near-named : (l : Listing) (k : ℕ) (rs : List Counted) → 1 ≤ k → k + length rs ≤ suc (suc maxLines) → Near (cutsNamed l k rs)
 unfolding cutsNamed
 near-named l k rs low h =
-    near-lowest 8 (λ _ r. eqb (namedCut l r) 0) (record { plate = 0; item = 0; count = 0 }) k rs (λ p a b. omega arith)
+    near-lowest 8 (λ _ r. eqb (namedCut l r) 0) (record { plate = 0; type = 0; turn = 0; count = 0 }) k rs (λ p a b. omega arith)
 
 -- 9
 pub near-rising : (l : Listing) (c k : ℕ) (rs : List Counted) → 1 ≤ k → k + length rs ≤ suc (suc maxLines) → Near (cutsRising l c k rs)

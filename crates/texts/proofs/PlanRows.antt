@@ -23,27 +23,27 @@ use Rattle.texts.proofs.Lists.{bytesOf, bytes-cons}
 -- ---- lines 3
 
 -- one line 3 more
-pub planRows-more : (rs : List Counted) (r : Counted) → planRows (rs ++ (r ∷ [])) ≡ planRows rs ++ ((3 ∷ r .plate ∷ r .item ∷ r .count ∷ []) ∷ [])
+pub planRows-more : (rs : List Counted) (r : Counted) → planRows (rs ++ (r ∷ [])) ≡ planRows rs ++ ((3 ∷ r .plate ∷ r .type ∷ r .count ∷ r .turn ∷ []) ∷ [])
 unfolding planRows
 planRows-more [] r = refl
-planRows-more (s ∷ rs) r = ap (λ (l : List (List ℕ)). (3 ∷ s .plate ∷ s .item ∷ s .count ∷ []) ∷ l) (planRows-more rs r)
+planRows-more (s ∷ rs) r = ap (λ (l : List (List ℕ)). (3 ∷ s .plate ∷ s .type ∷ s .count ∷ s .turn ∷ []) ∷ l) (planRows-more rs r)
 
--- a line for each, of 37 bytes
+-- a line for each, of 46 bytes
 pub planRows-size : (rs : List Counted) → (length (planRows rs) ≡ length rs) × (length (bytesOf (planRows rs)) ≡ planLineBytes * length rs)
 unfolding planRows mathlib.Core.List.flatMap
 planRows-size [] = (refl, refl)
 planRows-size (r ∷ rs) =
     let p = planRows-size rs in
-    (ap suc (p .0), bytes-cons (3 ∷ r .plate ∷ r .item ∷ r .count ∷ []) (planRows rs) ∙ omega arith)
+    (ap suc (p .0), bytes-cons (3 ∷ r .plate ∷ r .type ∷ r .count ∷ r .turn ∷ []) (planRows rs) ∙ omega arith)
 
 -- within their limits with one more
 pub plan-limits-more :
-    (n : ℕ) (rs : List Counted) (r : Counted)
-    → PlanLimits n rs
-    → InPlan n r
-    → PlanLimits n (rs ++ (r ∷ []))
-plan-limits-more n [] r p q = (q, tt)
-plan-limits-more n (s ∷ rs) r p q = (p .0, plan-limits-more n rs r (p .1) q)
+    (ws : List ℕ) (rs : List Counted) (r : Counted)
+    → PlanLimits ws rs
+    → InPlan ws r
+    → PlanLimits ws (rs ++ (r ∷ []))
+plan-limits-more ws [] r p q = (q, tt)
+plan-limits-more ws (s ∷ rs) r p q = (p .0, plan-limits-more ws rs r (p .1) q)
 
 -- ---- lines 4, 5 and 6
 

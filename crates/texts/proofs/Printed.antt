@@ -10,15 +10,17 @@ use lib.Dec.{ltb, eqb}
 use lib.ListN.{length, getD, take, drop, length-append}
 use borrow.Author.Tests.{ltb-false, not-false}
 use Rattle.job.specs.declared.item.Item.{Item}
-use Rattle.job.specs.Lists.{all, sumOf}
+use Rattle.job.specs.Lists.{sumOf}
 use Rattle.job.specs.Verdict.{pass, refuseIf, within, lowest}
-use Rattle.job.specs.Job.{Job, maxPieces, jobOf, jobWords, larger, demanded, admission}
+use Rattle.job.specs.Job.{Job, maxPieces, typeOf, turnOf, jobOf, jobWords, larger, demanded, admission}
 use Rattle.job.proofs.Verdicts.{refuseIf-pass}
 use Rattle.job.proofs.CodeEnds.{then-pass}
 use Rattle.job.proofs.Records.{words-append}
 use Rattle.plan.specs.Prices.{maxPrice, pricesOf, priceWords, priced, priceSum, fewest}
 use Rattle.layouts.specs.Placement.{Placement, placementWords}
-use Rattle.layouts.specs.Lines.{rowRight}
+use Rattle.layouts.specs.Lines.{layoutWords}
+use Rattle.layouts.specs.Rules.{Every}
+use Rattle.layouts.proofs.row.RowWords.{RowOk}
 use Rattle.listing.specs.Listing.{Cut, listingOf}
 use Rattle.columns.specs.Group.{limit}
 use Rattle.columns.specs.Line.{Fit, lineOf}
@@ -32,13 +34,13 @@ use Rattle.texts.specs.TextOf.{jobRows, planRows, placementRow}
 use Rattle.texts.specs.Held.{PricesHeld, SawWhole}
 use Rattle.texts.specs.Printed.{linesIn, AllFit, resultRow, sawHolds, sawRun, printedRows, countedOf, foldCounts, foldPlan, PrintedBack}
 use Rattle.texts.proofs.SawDemand.{saw-placed, saw-boards}
-use Rattle.texts.proofs.Basics.{within-parts, lowest-parts, all-parts, all-lowest}
+use Rattle.texts.proofs.Basics.{within-parts, lowest-parts}
 use Rattle.texts.proofs.Lists.{bytesOf, bytes-more}
 use Rattle.texts.proofs.ReaderLaws.{standing}
 use Rattle.texts.proofs.LinesIn.{lines-both-ways}
 use Rattle.texts.proofs.ShapeLaws.{narrow-layout, shape-fits}
 use Rattle.texts.proofs.JobLaws.{JobWhole, passes-job, job-types, board-types}
-use Rattle.texts.proofs.LayoutRows.{right-row, placementRows-size}
+use Rattle.texts.proofs.LayoutRows.{ok-row, rows-ok, placementRows-size}
 use Rattle.texts.proofs.JobRows.{jobRows-size}
 use Rattle.texts.proofs.JobRuns.{job-runs}
 use Rattle.texts.proofs.Running.{runs-append}
@@ -77,15 +79,15 @@ count-lines (c ∷ cs) [] = refl
 count-lines (c ∷ cs) (n ∷ ns) = go (eqb n 0) (count-lines cs ns)
   where
     row : Counted
-    row = record { plate = c .plate; item = c .item; count = n }
+    row = record { plate = c .plate; type = typeOf (c .item); turn = turnOf (c .item); count = n }
 
     go :
         (t : Bool)
         → countLines cs ns ≡ bytesOf (planRows (countedOf cs ns))
-        → elim t [ true ↦ countLines cs ns | false ↦ lineOf (3 ∷ c .plate ∷ c .item ∷ n ∷ []) ++ countLines cs ns ]
+        → elim t [ true ↦ countLines cs ns | false ↦ lineOf (3 ∷ c .plate ∷ typeOf (c .item) ∷ n ∷ turnOf (c .item) ∷ []) ++ countLines cs ns ]
         ≡ bytesOf (planRows (elim t [ true ↦ countedOf cs ns | false ↦ row ∷ countedOf cs ns ]))
     go true ih = ih
-    go false ih = ap (λ (l : List ℕ). lineOf (3 ∷ c .plate ∷ c .item ∷ n ∷ []) ++ l) ih
+    go false ih = ap (λ (l : List ℕ). lineOf (3 ∷ c .plate ∷ typeOf (c .item) ∷ n ∷ turnOf (c .item) ∷ []) ++ l) ih
 
 fold-lines : (f : Fold) → foldLines f ≡ bytesOf (planRows (foldPlan f))
 unfolding foldLines
@@ -161,13 +163,12 @@ fit-result job n p (some ps) a h l =
     few true = omega arith
     few false = omega arith
 
-fit-placements : (ws : List ℕ) → JobWhole ws → (ps : List Placement) → all (rowRight (jobOf ws)) ps ≡ true → AllFit (map placementRow ps)
+fit-placements : (ws : List ℕ) → JobWhole ws → (ps : List Placement) → Every (RowOk (jobOf ws)) ps → AllFit (map placementRow ps)
 fit-placements ws j [] h = tt
 fit-placements ws j (p ∷ ps) h =
-    let a = all-parts (rowRight (jobOf ws)) p ps h in
     let n = board-types ws (j .board) in
-    let shape = right-row (jobOf ws) (typesOf ws) p (job-types ws j) (a .0) in
-    (shape-fits (layoutLine (typesOf ws)) (placementRow p) (narrow-layout (typesOf ws) (omega arith)) shape, fit-placements ws j ps (a .1))
+    let shape = ok-row ws (job-types ws j) p (h .0) in
+    (shape-fits (layoutLine ws) (placementRow p) (narrow-layout ws (omega arith)) shape, fit-placements ws j ps (h .1))
 
 fit-append : (mss nss : List (List ℕ)) → AllFit mss → AllFit nss → AllFit (mss ++ nss)
 fit-append [] nss f g = g
@@ -183,7 +184,7 @@ printed-back :
     (s : Saw)
     → SawWhole s
     → sawRows s ≡ pass
-    → all (rowRight (jobOf (s .job))) (sawRun s .placements) ≡ true
+    → layoutWords (jobOf (s .job)) (placementWords (sawRun s .placements)) ≡ pass
     → sawRun s .last .turn .board ≤ maxPieces
     → linesIn (sawLines s) ≡ some (printedRows s)
 unfolding printedRows
@@ -191,7 +192,7 @@ printed-back s h r a b =
     let j = passes-job (s .job) (h .job) in
     let n : ℕ = sawRun s .last .turn .board in
     let rows : List (List ℕ) = map placementRow (sawRun s .placements) in
-    let ps = fit-placements (s .job) j (sawRun s .placements) a in
+    let ps = fit-placements (s .job) j (sawRun s .placements) (rows-ok (jobOf (s .job)) (sawRun s .placements) a) in
     let last = fit-result (jobOf (s .job)) n (s .place) (s .prices) (rows-admission s r) (h .prices) b in
     ap linesIn (printed-lines s)
     ∙ lines-both-ways .written (printedRows s) (fit-append rows (resultRow (jobOf (s .job)) n (s .prices) ∷ []) ps (last, tt))
@@ -214,7 +215,7 @@ fold-count ws ps j =
 fold-text :
     (ws : List ℕ) (ps : List Placement)
     → jobWords ws ≡ pass
-    → all (rowRight (jobOf ws)) ps ≡ true
+    → layoutWords (jobOf ws) (placementWords ps) ≡ pass
     → length ps ≤ maxPieces
     → Text foldGrammar (bytesOf (jobRows ws) ++ flatMap placementLine ps) (foldOf body ws (placementWords ps))
 unfolding foldComplete
@@ -229,7 +230,7 @@ fold-text ws ps h a l =
       runs =
           runs-append foldGrammar (foldGrammar .start) (foldOf body ws []) (foldOf body ws (placementWords ps)) (jobRows ws) (map placementRow ps)
           (job-runs foldGrammar (λ p us. foldOf p us []) fold-opens ws j)
-          (layouts-run ws [] 1 ps j (all-lowest (rowRight (jobOf ws)) 2 1 ps a));
+          (layouts-run ws [] ps j (rows-ok (jobOf ws) ps a));
       whole = refl;
     }
 

@@ -2,7 +2,7 @@
 use Prim.Native.Nat.{ℕ, suc, _≤_, _<_}
 use native.Mathlib.Omega.{arith}
 use mathlib.Core.Path.{_≡_, refl, sym, ap, _∙_, subst}
-use mathlib.Core.Logic.{_⊎_, inl}
+use mathlib.Core.Logic.{inl}
 use mathlib.Core.Bool.{Bool, true, false}
 use mathlib.Core.List.{List, [], _∷_, _++_, append-assoc, append-nil}
 use mathlib.Core.Option.{Option, none, some}
@@ -17,7 +17,7 @@ use Rattle.texts.specs.Shape.{numbersRow, lineRow}
 use Rattle.texts.specs.Reader.{Grammar, Reader, maxLines, longestLine, started, refusedAs, lineRead, byteRead, fed}
 use Rattle.texts.specs.Admitted.{Admitted, Runs}
 use Rattle.texts.proofs.Lists.{bytesOf, bytes-more}
-use Rattle.texts.proofs.ShapeLaws.{row-admitted, row-refuses}
+use Rattle.texts.proofs.ShapeLaws.{OfLineRow, row-admitted, row-refuses}
 use Rattle.texts.proofs.ReaderLaws.{standing, Open, holding, byte-refused, byte-over, byte-end, byte-kept, byte-long}
 use Rattle.texts.proofs.Running.{runs-append}
 
@@ -28,11 +28,11 @@ module _ {S : Type 0} (g : Grammar S) where
     pub few : r .lines ≤ maxLines
     -- a line has begun only where the text is not refused and may go on
     pub begun : 0 < length (r .pending) → Open g r
-    -- the line that has begun is at most 72 bytes, none of them 10
+    -- the line that has begun is at most 81 bytes, none of them 10
     pub short : length (r .pending) < longestLine
     pub inner : Inner (r .pending)
-    -- a refusal of the line row is 1 or 2, and names the line after those admitted
-    pub named : (n p : ℕ) → r .verdict ≡ refuse n p → ((n ≡ 1) ⊎ (n ≡ 2)) × (p ≡ suc (r .lines))
+    -- a refusal of the line row is 1, 2 or 19, and names the line after those admitted
+    pub named : (n p : ℕ) → r .verdict ≡ refuse n p → OfLineRow n × (p ≡ suc (r .lines))
 
   -- what has been read of bs: the numbers of the lines admitted, which run from the start to where the text stands, and the bytes after them
   pub record Read (r : Reader S) (bs : List ℕ) : Type 0 where
@@ -61,14 +61,14 @@ module _ {S : Type 0} (g : Grammar S) where
   started-read = record { rows = []; rest = []; bytes = refl; count = refl; runs = refl; left = λ h. refl }
 
   -- where a line was refused
-  refused-sound : (r : Reader S) (n : ℕ) → (n ≡ 1) ⊎ (n ≡ 2) → Sound r → Sound (refusedAs g r (refuse n (suc (r .lines))))
+  refused-sound : (r : Reader S) (n : ℕ) → OfLineRow n → Sound r → Sound (refusedAs g r (refuse n (suc (r .lines))))
   refused-sound r n h s =
       record {
         few = s .few;
         begun = λ h. absurd (omega arith);
         short = omega arith;
         inner = tt;
-        named = λ m p e. let a : n ≡ m = cc in let b : p ≡ suc (r .lines) = cc in (subst (λ (k : ℕ). (k ≡ 1) ⊎ (k ≡ 2)) a h, b);
+        named = λ m p e. let a : n ≡ m = cc in let b : p ≡ suc (r .lines) = cc in (subst OfLineRow a h, b);
       }
 
   -- one byte more, which ends no line
@@ -94,10 +94,10 @@ module _ {S : Type 0} (g : Grammar S) where
 
   -- ---- a line that is whole
 
-  -- what a whole line makes of a text, in one place: it goes on, or it is refused with 1 or 2
+  -- what a whole line makes of a text, in one place: it goes on, or it is refused with 1, 2 or 19
   line-cases :
       (P : Reader S → Type 0) (r : Reader S) (o : Option (List ℕ))
-      → ((n : ℕ) → (n ≡ 1) ⊎ (n ≡ 2) → P (refusedAs g r (refuse n (suc (r .lines)))))
+      → ((n : ℕ) → OfLineRow n → P (refusedAs g r (refuse n (suc (r .lines)))))
       → ((ns : List ℕ) → o ≡ some ns → Admitted (g .admits (r .state)) ns → P (standing g (g .after (r .state) ns) (suc (r .lines))))
       → P (lineRead g r o)
   unfolding lineRead lineRow
@@ -119,7 +119,7 @@ module _ {S : Type 0} (g : Grammar S) where
   byte-cases :
       (P : Reader S → Type 0) (r : Reader S) (b : ℕ)
       → ((n p : ℕ) → r .verdict ≡ refuse n p → P r)
-      → ((n : ℕ) → (n ≡ 1) ⊎ (n ≡ 2) → P (refusedAs g r (refuse n (suc (r .lines)))))
+      → ((n : ℕ) → OfLineRow n → P (refusedAs g r (refuse n (suc (r .lines)))))
       → (Open g r → (b ≡ 10 → ⊥) → suc (length (r .pending)) < longestLine → P (holding g r (r .pending ++ (b ∷ []))))
       → (Open g r
       → b ≡ 10

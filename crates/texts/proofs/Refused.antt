@@ -2,7 +2,7 @@
 use Prim.Native.Nat.{ℕ, suc, _+_, _≤_}
 use native.Mathlib.Omega.{arith}
 use mathlib.Core.Path.{_≡_, refl, sym, ap, _∙_}
-use mathlib.Core.Logic.{_⊎_, inl, inr}
+use mathlib.Core.Logic.{inl, inr}
 use mathlib.Core.Bool.{not}
 use mathlib.Core.List.{List, [], _∷_, _++_, flatMap, append-nil}
 use mathlib.Core.Option.{some}
@@ -25,6 +25,7 @@ use Rattle.texts.specs.Held.{SawWhole, FoldWhole}
 use Rattle.texts.specs.Printed.{linesIn, sawHolds}
 use Rattle.texts.specs.Refused.{foldHolds, verdictOnSaw, verdictOnFold, InTable, RefusedBack}
 use Rattle.texts.proofs.LinesIn.{lines-both-ways}
+use Rattle.texts.proofs.ShapeLaws.{OfLineRow}
 use Rattle.texts.proofs.ReadSoFar.{sound}
 use Rattle.texts.proofs.JobLaws.{passes-job}
 use Rattle.texts.proofs.JobRows.{jobRows-size}
@@ -45,10 +46,11 @@ line-back n p t =
 
 -- ---- the line row
 
--- 1 or 2, naming the line after those admitted
-row-table : (n p lines : ℕ) → lines ≤ maxLines → (n ≡ 1) ⊎ (n ≡ 2) → p ≡ suc lines → InTable n p
+-- 1, 2 or 19, naming the line after those admitted
+row-table : (n p lines : ℕ) → lines ≤ maxLines → OfLineRow n → p ≡ suc lines → InTable n p
 row-table n p lines h (inl e) f = rw (e, f) (omega arith)
-row-table n p lines h (inr e) f = rw (e, f) (omega arith)
+row-table n p lines h (inr (inl e)) f = rw (e, f) (omega arith)
+row-table n p lines h (inr (inr e)) f = rw (e, f) (omega arith)
 
 module _ {S : Type 0} (g : Grammar S) (bs : List ℕ) where
   abbrev reader : Reader S

@@ -2,10 +2,8 @@
 use Prim.Native.Nat.{ℕ, _-_, _≤_}
 use native.Mathlib.Omega.{arith}
 use mathlib.Core.Path.{_≡_, sym, ap, _∙_}
-use mathlib.Core.Bool.{true}
 use mathlib.Core.List.{List, append-nil}
 use lib.ListN.{length, List·getD-eq-default}
-use Rattle.job.specs.Lists.{all}
 use Rattle.job.specs.Verdict.{pass}
 use Rattle.job.specs.Buffers.{filled}
 use Rattle.job.specs.Job.{Job, jobOf, maxPieces}
@@ -15,17 +13,15 @@ use Rattle.listing.specs.Listing.{Listing, listingOf}
 use Rattle.plan.specs.Plan.{onPlate, boards, total, countsRow, planRow}
 use Rattle.plan.proofs.PlanExact.{plan-exact, counts-exact, countOf-total}
 use Rattle.layouts.specs.Layout.{Board}
-use Rattle.layouts.specs.Placement.{placementWords, linesOf}
-use Rattle.layouts.specs.Lines.{rowRight, setOf}
+use Rattle.layouts.specs.Placement.{placementWords}
+use Rattle.layouts.specs.Lines.{layoutWords, setOf}
 use Rattle.layouts.specs.LayoutsRow.{layoutsRow}
 use Rattle.layouts.specs.Fold.{setCuts, folded}
 use Rattle.layouts.specs.Demand3.{Accepted, Named, Unfolds, Demand3Of}
-use Rattle.layouts.proofs.lists.Every.{every-all}
-use Rattle.layouts.proofs.row.RowWords.{RowOk, right-exact, lines-right}
 use Rattle.texts.specs.SawText.{Saw, planCounts, sawRows}
 use Rattle.texts.specs.Held.{SawWhole}
 use Rattle.texts.specs.Printed.{sawRun}
-use Rattle.texts.proofs.Modelled.{admitted, demands}
+use Rattle.texts.proofs.Modelled.{demands}
 use Rattle.texts.proofs.CallRows.{accepted-rows, counts-length}
 
 -- a buffer that its words fill
@@ -72,14 +68,9 @@ module _ (s : Saw) (held : SawWhole s) (rows : sawRows s ≡ pass) where
   named : Named job l (saw-unfolds .set)
   named = saw-unfolds .unfolds-to .named
 
-  -- every number of its lines 7 is within its limits
-  pub saw-placed : all (rowRight job) (sawRun s .placements) ≡ true
-  saw-placed =
-      let u = saw-unfolds in
-      let a = admitted (s .job) (held .job) (accepted-rows s rows .admitted) in
-      rw (u .lines)
-      (every-all (rowRight job) (RowOk job) (λ r (h : RowOk job r). right-exact job r .1 h) (linesOf job (u .set))
-      (lines-right job (u .set) (a .width-limits .1) (a .height-limits .1) (named .rules) (named .pieces)))
+  -- the words of its lines 7 pass the line row
+  pub saw-placed : layoutWords job (placementWords (sawRun s .placements)) ≡ pass
+  saw-placed = rw (saw-unfolds .lines) (demand .folds (saw-unfolds .set) named .words)
 
   -- its placements pass the layouts row
   pub saw-laid : layoutsRow 1 job (sawRun s .placements) ≡ pass

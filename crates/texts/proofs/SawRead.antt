@@ -13,12 +13,12 @@ use Rattle.job.specs.Sizes.{maxResiduals}
 use Rattle.job.specs.Verdict.{pass}
 use Rattle.job.specs.Job.{maxTypes}
 use Rattle.plan.specs.Prices.{maxPrice, priceWords}
-use Rattle.texts.specs.Shape.{planLine, pricesLine}
+use Rattle.texts.specs.Shape.{_to_, shape, planLine, pricesLine}
 use Rattle.texts.specs.JobLines.{Place, first, types, body, itemPrices, platePrices, done, typesOf, afterType}
 use Rattle.texts.specs.SawText.{Counted, PriceLines, Saw, sawAdmits, afterItemPrice, afterPlatePrice, withPrice, bodyRead, sawAfter, sawGrammar, sawOf}
 use Rattle.texts.specs.Admitted.{InLimits, OfShape, Admitted, Runs}
 use Rattle.texts.specs.TextOf.{jobRows, planRows, priceRowsFrom, priceRows, sawRowsOf}
-use Rattle.texts.specs.Held.{PlanLimits}
+use Rattle.texts.specs.Held.{InPlan, PlanLimits}
 use Rattle.texts.proofs.Running.{runs-keep}
 use Rattle.texts.proofs.JobLaws.{JobWhole}
 use Rattle.texts.proofs.JobText.{AtTypes, JobAt, first-read, types-read}
@@ -27,7 +27,7 @@ use Rattle.texts.proofs.PlanRows.{planRows-more, plan-limits-more, pric
 -- past the job's lines: the job is whole, the plan is within its limits, and the lines are those of what is held
 pub record Past (rows : List (List ℕ)) (s : Saw) : Type 0 where
   pub job : JobWhole (s .job)
-  pub plan : PlanLimits (typesOf (s .job)) (s .plan)
+  pub plan : PlanLimits (s .job) (s .plan)
   pub lines : rows ≡ sawRowsOf s
 
 -- among the prices, k words of them read
@@ -84,10 +84,10 @@ no-prices ws rs p = ap (λ (l : List (List ℕ)). jobRows ws ++ l) (append-nil (
 -- a line 3 more
 more-plan :
     (ws : List ℕ) (rs : List Counted) (r : Counted) (p q : Place)
-    → sawRowsOf (sawOf p ws rs none) ++ ((3 ∷ r .plate ∷ r .item ∷ r .count ∷ []) ∷ []) ≡ sawRowsOf (sawOf q ws (rs ++ (r ∷ [])) none)
+    → sawRowsOf (sawOf p ws rs none) ++ ((3 ∷ r .plate ∷ r .type ∷ r .count ∷ r .turn ∷ []) ∷ []) ≡ sawRowsOf (sawOf q ws (rs ++ (r ∷ [])) none)
 more-plan ws rs r p q =
     rw (no-prices ws rs p, no-prices ws (rs ++ (r ∷ [])) q, planRows-more rs r)
-    (append-assoc (jobRows ws) (planRows rs) ((3 ∷ r .plate ∷ r .item ∷ r .count ∷ []) ∷ []))
+    (append-assoc (jobRows ws) (planRows rs) ((3 ∷ r .plate ∷ r .type ∷ r .count ∷ r .turn ∷ []) ∷ []))
 
 -- line 4
 first-price :
@@ -116,25 +116,40 @@ more-price ws rs ps x k p q e =
 plan-read :
     (rows : List (List ℕ)) (ws : List ℕ) (rs : List Counted) (ns : List ℕ)
     → Past rows (sawOf body ws rs none)
-    → OfShape (planLine (typesOf ws)) ns
+    → OfShape (planLine ws) ns
     → SawAt (rows ++ (ns ∷ [])) (bodyRead (sawOf body ws rs none) ns)
 unfolding bodyRead
-plan-read rows ws rs ns p o = rw (o .numbers) (three (o .others) (o .limits))
+plan-read rows ws rs ns p o = rw (o .numbers) (four (o .others) (o .limits) (o .turned))
   where
-    three : (vs : List ℕ) → InLimits (planLine (typesOf ws) .limits) vs → SawAt (rows ++ ((3 ∷ vs) ∷ [])) (bodyRead (sawOf body ws rs none) (3 ∷ vs))
-    three [] h = absurd h
-    three (a ∷ []) h = absurd (h .2)
-    three (a ∷ b ∷ []) h = absurd (h .2 .2)
-    three (a ∷ b ∷ c ∷ []) h =
-        let r : Counted = record { plate = a; item = b; count = c } in (
+    four :
+        (vs : List ℕ)
+        → InLimits (planLine ws .limits) vs
+        → planLine ws .permits vs ≡ true
+        → SawAt (rows ++ ((3 ∷ vs) ∷ [])) (bodyRead (sawOf body ws rs none) (3 ∷ vs))
+    four [] h t = absurd h
+    four (a ∷ []) h t = absurd (h .2)
+    four (a ∷ b ∷ []) h t = absurd (h .2 .2)
+    four (a ∷ b ∷ c ∷ []) h t = absurd (h .2 .2 .2)
+    four (a ∷ b ∷ c ∷ d ∷ []) h t =
+        let r : Counted = record { plate = a; type = b; turn = d; count = c } in
+        let limits : InPlan ws r =
+        record {
+          plate = omega arith;
+          low = omega arith;
+          high = omega arith;
+          counted = omega arith;
+          few = omega arith;
+          turned = omega arith;
+          lies = t;
+        } in (
           record {
             job = p .job;
-            plan = plan-limits-more (typesOf ws) rs r (p .plan) (omega arith);
+            plan = plan-limits-more ws rs r (p .plan) limits;
             lines = rw (p .lines) (more-plan ws rs r body body);
           },
           tt,
         )
-    three (a ∷ b ∷ c ∷ v ∷ vs) h = absurd (h .2 .2 .2)
+    four (a ∷ b ∷ c ∷ d ∷ v ∷ vs) h t = absurd (h .2 .2 .2 .2)
 
 -- line 4
 prices-read :
@@ -192,12 +207,12 @@ price-more (suc k) rows p q ws rs ps x h w l e =
 -- a price as the only number after the running one
 price-only :
     (k i : ℕ) (ns : List ℕ) (P : List ℕ → Type 0)
-    → (o : OfShape (record { kind = k; running = i ∷ []; limits = record { low = 0; high = maxPrice } ∷ [] }) ns)
+    → (o : OfShape (shape k (i ∷ []) (0 to maxPrice ∷ [])) ns)
     → ((x : ℕ) → x ≤ maxPrice → P (k ∷ i ∷ x ∷ []))
     → P ns
 price-only k i ns P o f = rw (o .numbers) (one (o .others) (o .limits))
   where
-    one : (vs : List ℕ) → InLimits (record { low = 0; high = maxPrice } ∷ []) vs → P (k ∷ i ∷ vs)
+    one : (vs : List ℕ) → InLimits (0 to maxPrice ∷ []) vs → P (k ∷ i ∷ vs)
     one [] h = absurd h
     one (x ∷ []) h = f x (h .1)
     one (x ∷ v ∷ vs) h = absurd (h .2)

@@ -17,7 +17,7 @@ use Rattle.job.proofs.CodeEnds.{then-pass}
 use Rattle.plan.specs.Prices.{maxPrice, priceWords}
 use Rattle.columns.specs.Widths.{mostNumbers}
 use Rattle.columns.specs.Line.{Fit}
-use Rattle.texts.specs.Shape.{planLine, pricesLine}
+use Rattle.texts.specs.Shape.{_to_, shape, planLine, pricesLine}
 use Rattle.texts.specs.JobLines.{Place, first, types, body, itemPrices, platePrices, done, typesOf}
 use Rattle.texts.specs.SawText.{Counted, PriceLines, Saw, sawAdmits, afterItemPrice, afterPlatePrice, bodyRead, sawAfter, sawGrammar, sawOf}
 use Rattle.texts.specs.Admitted.{OfShape, Runs}
@@ -43,7 +43,7 @@ shapes (itemPrices i) ws rs o = omega arith
 shapes (platePrices j) ws rs o = omega arith
 shapes done ws rs o = (tt, tt)
 
--- each kind stands once among the lines admitted, and none has more than eight numbers
+-- each kind stands once among the lines admitted, and none has more than nine numbers
 pub saw-plain : Plain sawGrammar
 saw-plain =
     record {
@@ -61,15 +61,15 @@ saw-opens = record { start = refl; admits-first = refl; admits-types = λ i ws. 
 plan-runs :
     (ws : List ℕ) (before rs : List Counted)
     → typesOf ws ≤ maxTypes
-    → PlanLimits (typesOf ws) rs
+    → PlanLimits ws rs
     → Runs sawGrammar (sawOf body ws before none) (planRows rs) (sawOf body ws (before ++ rs) none)
 unfolding planRows sawAdmits sawAfter bodyRead
 plan-runs ws before [] n h = ap (λ (l : List Counted). sawOf body ws l none) (sym (append-nil before))
 plan-runs ws before (r ∷ rs) n h =
-    let vs : List ℕ = r .plate ∷ r .item ∷ r .count ∷ [] in
-    let shape : OfShape (planLine (typesOf ws)) (3 ∷ vs) = record { others = vs; numbers = refl; limits = omega arith } in (
-      inl shape,
-      shape-fits (planLine (typesOf ws)) (3 ∷ vs) (narrow-plan (typesOf ws) (omega arith)) shape,
+    let vs : List ℕ = r .plate ∷ r .type ∷ r .count ∷ r .turn ∷ [] in
+    let line : OfShape (planLine ws) (3 ∷ vs) = record { others = vs; numbers = refl; limits = omega arith; turned = h .0 .lies } in (
+      inl line,
+      shape-fits (planLine ws) (3 ∷ vs) (narrow-plan ws (omega arith)) line,
       rw append-assoc at (plan-runs ws (before ++ (r ∷ [])) rs n (h .1)),
     )
 
@@ -117,8 +117,8 @@ after-plate n m k l h = go (eqb (k - n) m) refl
 price-shape :
     (kind i x : ℕ)
     → x ≤ maxPrice
-    → OfShape (record { kind = kind; running = i ∷ []; limits = record { low = 0; high = maxPrice } ∷ [] }) (kind ∷ i ∷ x ∷ [])
-price-shape kind i x h = record { others = x ∷ []; numbers = refl; limits = omega arith }
+    → OfShape (shape kind (i ∷ []) (0 to maxPrice ∷ [])) (kind ∷ i ∷ x ∷ [])
+price-shape kind i x h = record { others = x ∷ []; numbers = refl; limits = omega arith; turned = refl }
 
 module _ (ws : List ℕ) (rs : List Counted) (n m : ℕ) (nh : n ≤ maxTypes) (mh : m ≤ maxResiduals) where
   held : List ℕ → Option PriceLines
@@ -175,11 +175,11 @@ line-4-runs ws rs n m (d ∷ xs) w =
     let out = not (within 1 maxPrice d) in
     let p = then-pass (refuseIf out 2 1) (lowest 2 (λ _ y. ltb maxPrice y) 2 xs) (w .words) in
     let b = within-parts 1 maxPrice d (not-false (within 1 maxPrice d) (refuseIf-pass out 2 1 (p .0))) in
-    let shape : OfShape pricesLine (4 ∷ d ∷ n ∷ m ∷ []) = record { others = d ∷ n ∷ m ∷ []; numbers = refl; limits = omega arith } in
+    let line : OfShape pricesLine (4 ∷ d ∷ n ∷ m ∷ []) = record { others = d ∷ n ∷ m ∷ []; numbers = refl; limits = omega arith; turned = refl } in
     let e = w .size in
     let first : leb 1 n ≡ true = le-leb 1 n (w .low) in
     let r = prices-run ws rs n m (w .high) (w .residuals) 1 (d ∷ []) xs (omega arith) refl (omega arith) (p .1) in
-    (inr (inl shape), shape-fits pricesLine (4 ∷ d ∷ n ∷ m ∷ []) narrow-prices shape, rw first at r)
+    (inr (inl line), shape-fits pricesLine (4 ∷ d ∷ n ∷ m ∷ []) narrow-prices line, rw first at r)
 
 -- no prices, or all of them
 pub prices-runs :

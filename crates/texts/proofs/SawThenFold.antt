@@ -9,7 +9,7 @@ use Rattle.job.proofs.Verdicts.{then-first, then-second, then-both}
 use Rattle.layouts.specs.Placement.{Placement, placementWords}
 use Rattle.layouts.specs.Demand3.{J, L}
 use Rattle.layouts.proofs.row.RowLines.{words-rows}
-use Rattle.texts.specs.JobLines.{body, typesOf, bodyLine}
+use Rattle.texts.specs.JobLines.{body, bodyLine}
 use Rattle.texts.specs.Reader.{Reader, started, fed, textRow}
 use Rattle.texts.specs.SawText.{Counted, PriceLines, Saw, sawGrammar, placementLine, sawRows, sawText}
 use Rattle.texts.specs.FoldText.{Fold, foldGrammar, foldRows, foldOf}
@@ -78,7 +78,7 @@ module _ (s : Saw) (held : SawWhole s) (rows : sawRows s ≡ pass) where
 
   same-lines : countedOf (L (s .job) .cuts) (foldCounts f) ≡ s .plan
   same-lines =
-      ap (countedOf (L (s .job) .cuts)) same-counts ∙ plan-counted (L (s .job)) (bodyLine (s .job)) (typesOf (s .job)) (s .plan) (a .rising) (held .plan)
+      ap (countedOf (L (s .job) .cuts)) same-counts ∙ plan-counted (L (s .job)) (bodyLine (s .job)) (s .job) (s .plan) (a .rising) (held .plan)
 
   saw-then-fold : (out : List ℕ) → linesIn out ≡ some (printedRows s) → SawThenFold s out
   saw-then-fold out e =

@@ -10,13 +10,15 @@ use lib.Dec.{eqb}
 use lib.ListN.{length, length-append}
 use lib.Seq.{drop-append-seam}
 use borrow.Author.Tests.{eqb-true, eq-eqb}
-use Rattle.job.specs.Verdict.{pass, refuse, refuseIf, within}
+use Rattle.job.specs.Verdict.{pass, refuse, _then_, refuseIf, within}
 use Rattle.job.proofs.Tests.{not-both, and-both, within-limits}
 use Rattle.job.proofs.Verdicts.{pass-not-refuse}
+use Rattle.job.proofs.CodeEnds.{then-pass}
 use Rattle.columns.specs.Group.{limit}
 use Rattle.columns.specs.Line.{Fit, lineOf, readLine}
 use Rattle.columns.proofs.ReadLaws.{read-written, written-read}
 use Rattle.texts.specs.Shape.{Limit, Shape, jobLine, itemLine, planLine, pricesLine, layoutLine, begins, formed, eachWithin, values, numbersRow, lineRow}
+use Rattle.texts.specs.JobLines.{typesOf}
 use Rattle.texts.specs.Admitted.{InLimits, OfShape, Admitted}
 use Rattle.texts.proofs.Basics.{and-parts, within-parts, unless-passed}
 
@@ -102,15 +104,22 @@ module _ (s : Shape) where
   shape-passes line ss ns o =
       let v : values s ns ≡ o .others = ap (values s) (o .numbers) ∙ values-are (o .others) in
       let l : eachWithin (s .limits) (values s ns) ≡ true = rw v (in-each-within (s .limits) (o .others) (o .limits)) in
-      rw (shape-formed ns o, numbersRow, l)
+      let t : s .permits (values s ns) ≡ true = rw v (o .turned) in
+      rw (shape-formed ns o, numbersRow, l, t)
 
   -- what is of the form and passes is of the shape
-  formed-passes : (line : ℕ) (ns : List ℕ) → formed s ns ≡ true → refuseIf (not (eachWithin (s .limits) (values s ns))) 2 line ≡ pass → OfShape s ns
+  formed-passes :
+      (line : ℕ) (ns : List ℕ)
+      → formed s ns ≡ true
+      → (refuseIf (not (eachWithin (s .limits) (values s ns))) 2 line then refuseIf (not (s .permits (values s ns))) 19 line) ≡ pass
+      → OfShape s ns
   formed-passes line ns h p =
       let (vs, e, size) = is-formed ns h in
       let v : values s ns ≡ vs = ap (values s) e ∙ values-are vs in
-      let l : eachWithin (s .limits) (values s ns) ≡ true = unless-passed (eachWithin (s .limits) (values s ns)) 2 line p in
-      record { others = vs; numbers = e; limits = each-within-in (s .limits) vs size (rw v at l) }
+      let q = then-pass (refuseIf (not (eachWithin (s .limits) (values s ns))) 2 line) (refuseIf (not (s .permits (values s ns))) 19 line) p in
+      let l : eachWithin (s .limits) (values s ns) ≡ true = unless-passed (eachWithin (s .limits) (values s ns)) 2 line (q .0) in
+      let t : s .permits (values s ns) ≡ true = unless-passed (s .permits (values s ns)) 19 line (q .1) in
+      record { others = vs; numbers = e; limits = each-within-in (s .limits) vs size (rw v at l); turned = rw v at t }
 
 -- numbers that pass are of an admitted shape
 pub row-admitted : (line : ℕ) (ss : List Shape) (ns : List ℕ) → numbersRow line ss ns ≡ pass → Admitted ss ns
@@ -122,7 +131,11 @@ row-admitted line (s ∷ ss) ns h = go (formed s ns) refl (row-admitted line ss 
         (t : Bool)
         → formed s ns ≡ t
         → (numbersRow line ss ns ≡ pass → Admitted ss ns)
-        → elim t [ true ↦ refuseIf (not (eachWithin (s .limits) (values s ns))) 2 line | false ↦ numbersRow line ss ns ] ≡ pass
+        → elim t [
+          | true ↦ refuseIf (not (eachWithin (s .limits) (values s ns))) 2 line then refuseIf (not (s .permits (values s ns))) 19 line
+          | false ↦ numbersRow line ss ns
+        ]
+        ≡ pass
         → OfShape s ns ⊎ Admitted ss ns
     go true e ih p = inl (formed-passes s line ns e p)
     go false e ih p = inr (ih p)
@@ -153,17 +166,26 @@ admitted-row line [] ns k a = absurd a
 admitted-row line (s ∷ ss) ns k (inl o) = shape-passes s line ss ns o
 admitted-row line (s ∷ ss) ns k (inr a) = rw (other-unformed s ss ns (k .0) a, numbersRow) (admitted-row line ss ns (k .1) a)
 
--- a refusal of the line row is 1 or 2 and names the line
-pub row-refuses : (line : ℕ) (ss : List Shape) (ns : List ℕ) (n p : ℕ) → numbersRow line ss ns ≡ refuse n p → ((n ≡ 1) ⊎ (n ≡ 2)) × (p ≡ line)
+-- the numbers of the line row
+abbrev pub OfLineRow : ℕ → Type 0
+OfLineRow n = (n ≡ 1) ⊎ ((n ≡ 2) ⊎ (n ≡ 19))
+
+-- a refusal of the line row is one of them and names the line
+pub row-refuses : (line : ℕ) (ss : List Shape) (ns : List ℕ) (n p : ℕ) → numbersRow line ss ns ≡ refuse n p → OfLineRow n × (p ≡ line)
 unfolding numbersRow
 row-refuses line [] ns n p h = (inl (cc), cc)
-row-refuses line (s ∷ ss) ns n p h = go (formed s ns) (eachWithin (s .limits) (values s ns)) (row-refuses line ss ns n p) h
+row-refuses line (s ∷ ss) ns n p h =
+    go (formed s ns) (eachWithin (s .limits) (values s ns)) (s .permits (values s ns)) (row-refuses line ss ns n p) h
   where
-    go : (t u : Bool) → (numbersRow line ss ns ≡ refuse n p → ((n ≡ 1) ⊎ (n ≡ 2)) × (p ≡ line))
-        → elim t [ true ↦ refuseIf (not u) 2 line | false ↦ numbersRow line ss ns ] ≡ refuse n p → ((n ≡ 1) ⊎ (n ≡ 2)) × (p ≡ line)
-    go true true ih q = absurd (pass-not-refuse refl q)
-    go true false ih q = (inr (cc), cc)
-    go false u ih q = ih q
+    go :
+        (t u v : Bool)
+        → (numbersRow line ss ns ≡ refuse n p → OfLineRow n × (p ≡ line))
+        → elim t [ true ↦ refuseIf (not u) 2 line then refuseIf (not v) 19 line | false ↦ numbersRow line ss ns ] ≡ refuse n p
+        → OfLineRow n × (p ≡ line)
+    go true true true ih q = absurd (pass-not-refuse refl q)
+    go true true false ih q = (inr (inr (cc)), cc)
+    go true false v ih q = (inr (inl (cc)), cc)
+    go false u v ih q = ih q
 
 -- ---- bytes
 
@@ -217,7 +239,7 @@ pub shape-read-back :
 unfolding lineRow
 shape-read-back line s ss ns o f = rw (read-written ns f) (shape-passes s line ss ns o)
 
--- the kinds with a running number i or of n item types, and those without
+-- the kinds with a running number i or of the job words ws, and those without
 pub narrow-job : Narrow jobLine
 unfolding Fit
 narrow-job = omega arith
@@ -226,17 +248,17 @@ pub narrow-item : (i : ℕ) → i < limit → Narrow (itemLine i)
 unfolding Fit
 narrow-item i h = omega arith
 
-pub narrow-plan : (n : ℕ) → n < limit → Narrow (planLine n)
+pub narrow-plan : (ws : List ℕ) → typesOf ws < limit → Narrow (planLine ws)
 unfolding Fit
-narrow-plan n h = omega arith
+narrow-plan ws h = omega arith
 
 pub narrow-prices : Narrow pricesLine
 unfolding Fit
 narrow-prices = omega arith
 
-pub narrow-layout : (n : ℕ) → n < limit → Narrow (layoutLine n)
+pub narrow-layout : (ws : List ℕ) → typesOf ws < limit → Narrow (layoutLine ws)
 unfolding Fit
-narrow-layout n h = omega arith
+narrow-layout ws h = omega arith
 
 -- the groups of a line of a shape
 abbrev pub groupsOf : Shape → ℕ

@@ -16,11 +16,12 @@ InLimits [] (v ∷ vs) = ⊥
 InLimits (l ∷ ls) [] = ⊥
 InLimits (l ∷ ls) (v ∷ vs) = (l .low ≤ v) × (v ≤ l .high) × InLimits ls vs
 
--- the numbers of a line: the kind, the running number where the kind has one, and the others within their limits
+-- the numbers of a line: the kind, the running number where the kind has one, and the others within their limits, which turn what may be turned alone
 pub record OfShape (s : Shape) (ns : List ℕ) : Type 0 where
   pub others : List ℕ
   pub numbers : ns ≡ s .kind ∷ (s .running ++ others)
   pub limits : InLimits (s .limits) others
+  pub turned : s .permits others ≡ true
 
 -- the numbers are of one of the shapes
 abbrev pub Admitted : List Shape → List ℕ → Type 0

@@ -5,7 +5,7 @@ use mathlib.Core.List.{List, [], _∷_, _++_}
 use lib.Dec.{eqb}
 use lib.ListN.{drop}
 use Rattle.job.specs.Verdict.{Verdict, _then_}
-use Rattle.job.specs.Job.{jobOf, admission}
+use Rattle.job.specs.Job.{typeOf, turnOf, jobOf, admission}
 use Rattle.listing.specs.Listing.{Cut, modelRow, listingOf}
 use Rattle.layouts.specs.Lines.{rowsOf, setOf}
 use Rattle.layouts.specs.LayoutsRow.{layoutsRow}
@@ -31,7 +31,7 @@ foldAdmits f =
     elim (f .place) [
       | first ↦ jobLine ∷ []
       | types i ↦ itemLine i ∷ []
-      | body ↦ layoutLine (typesOf (f .job)) ∷ []
+      | body ↦ layoutLine (f .job) ∷ []
       | itemPrices i ↦ []
       | platePrices j ↦ []
       | done ↦ []
@@ -85,7 +85,7 @@ countLines (c ∷ cs) [] = []
 countLines (c ∷ cs) (n ∷ ns) =
     elim (eqb n 0) [
       | true ↦ countLines cs ns
-      | false ↦ lineOf (3 ∷ c .plate ∷ c .item ∷ n ∷ []) ++ countLines cs ns
+      | false ↦ lineOf (3 ∷ c .plate ∷ typeOf (c .item) ∷ n ∷ turnOf (c .item) ∷ []) ++ countLines cs ns
     ]
 
 -- what the fold program writes of layouts that fold

@@ -1,33 +1,36 @@
 -- Document 01, "Texts" and "Where each number is given": what a text that passes the line row holds, as words and limits of the calls.
 use Prim.Native.Nat.{ℕ, _+_, _≤_}
 use mathlib.Core.Path.{_≡_}
+use mathlib.Core.Bool.{true}
 use mathlib.Core.List.{List, [], _∷_, flatMap}
 use mathlib.Core.Option.{Option, none, some}
 use lib.ListN.{length}
 use Rattle.job.specs.Sizes.{maxResiduals}
 use Rattle.job.specs.Verdict.{pass}
-use Rattle.job.specs.Job.{maxTypes, maxPieces, jobOf, jobWords}
+use Rattle.job.specs.Job.{maxTypes, maxPieces, permitted, jobOf, jobWords}
 use Rattle.plan.specs.Prices.{priceWords}
 use Rattle.layouts.specs.Lines.{layoutWords}
 use Rattle.columns.specs.Line.{lineOf}
 use Rattle.texts.specs.Reader.{Grammar, maxLines, started, fed, textRow}
 use Rattle.texts.specs.JobLines.{Place, body, done, typesOf}
-use Rattle.texts.specs.SawText.{Counted, PriceLines, Saw, sawGrammar}
+use Rattle.texts.specs.SawText.{Counted, PriceLines, Saw, sawGrammar, positionOn}
 use Rattle.texts.specs.FoldText.{Fold, foldGrammar}
 use Rattle.texts.specs.TextOf.{sawRowsOf, foldRowsOf}
 
--- a line 3 within its limits, of n item types
-pub record InPlan (n : ℕ) (r : Counted) : Type 0 where
+-- a line 3 within its limits, in a position that the job of the words ws permits
+pub record InPlan (ws : List ℕ) (r : Counted) : Type 0 where
   pub plate : r .plate ≤ maxResiduals
-  pub low : 1 ≤ r .item
-  pub high : r .item ≤ n
+  pub low : 1 ≤ r .type
+  pub high : r .type ≤ typesOf ws
   pub counted : 1 ≤ r .count
   pub few : r .count ≤ maxPieces
+  pub turned : r .turn ≤ 1
+  pub lies : permitted (jobOf ws) (positionOn r) ≡ true
 
 -- and each of some lines 3
-abbrev pub PlanLimits : ℕ → List Counted → Type 0
-PlanLimits n [] = Unit {0}
-PlanLimits n (r ∷ rs) = InPlan n r × PlanLimits n rs
+abbrev pub PlanLimits : List ℕ → List Counted → Type 0
+PlanLimits ws [] = Unit {0}
+PlanLimits ws (r ∷ rs) = InPlan ws r × PlanLimits ws rs
 
 -- lines 4, 5 and 6, all of them: the n and the m of line 4 are within their limits, there are 1 + n + m price words, and they pass their own row
 pub record PricesWhole (ps : PriceLines) : Type 0 where
@@ -45,7 +48,7 @@ PricesHeld p (some ps) = (p ≡ done) × PricesWhole ps
 -- a saw text holds job words that pass their own row, lines 3 within their limits, and no prices or whole ones
 pub record SawWhole (s : Saw) : Type 0 where
   pub job : jobWords (s .job) ≡ pass
-  pub plan : PlanLimits (typesOf (s .job)) (s .plan)
+  pub plan : PlanLimits (s .job) (s .plan)
   pub prices : PricesHeld (s .place) (s .prices)
 
 -- a fold text holds job words and layout words that pass their own rows

@@ -6,13 +6,12 @@ use mathlib.Core.List.{List, [], _∷_, _++_, map, flatMap}
 use mathlib.Core.Option.{Option, none, some}
 use lib.Dec.{eqb}
 use lib.ListN.{length}
-use Rattle.job.specs.Lists.{all}
 use Rattle.job.specs.Verdict.{pass}
-use Rattle.job.specs.Job.{Job, maxPieces, jobOf, jobWords}
+use Rattle.job.specs.Job.{Job, maxPieces, typeOf, turnOf, jobOf, jobWords}
 use Rattle.listing.specs.Listing.{Cut, listingOf}
 use Rattle.plan.specs.Prices.{pricesOf, priceSum, fewest}
 use Rattle.layouts.specs.Placement.{Placement, placementWords}
-use Rattle.layouts.specs.Lines.{rowRight, setOf}
+use Rattle.layouts.specs.Lines.{layoutWords, setOf}
 use Rattle.layouts.specs.Unfold.{Run, unfolded}
 use Rattle.layouts.specs.Fold.{folded}
 use Rattle.columns.specs.Line.{Fit, lineOf, readLine}
@@ -80,7 +79,7 @@ countedOf (c ∷ cs) [] = []
 countedOf (c ∷ cs) (n ∷ ns) =
     elim (eqb n 0) [
       | true ↦ countedOf cs ns
-      | false ↦ record { plate = c .plate; item = c .item; count = n } ∷ countedOf cs ns
+      | false ↦ record { plate = c .plate; type = typeOf (c .item); turn = turnOf (c .item); count = n } ∷ countedOf cs ns
     ]
 
 -- the counts that a fold text folds to, and the lines 3 of the cuts counted
@@ -106,7 +105,7 @@ pub record PrintedBack : Type 0 where
   pub folds :
       (ws : List ℕ) (ps : List Placement)
       → jobWords ws ≡ pass
-      → all (rowRight (jobOf ws)) ps ≡ true
+      → layoutWords (jobOf ws) (placementWords ps) ≡ pass
       → length ps ≤ maxPieces
       → (fed foldGrammar (started foldGrammar) (flatMap lineOf (jobRows ws) ++ flatMap placementLine ps)
       ≡ record {

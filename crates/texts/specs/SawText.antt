@@ -1,5 +1,5 @@
 -- Document 01, "Texts": the saw text, "kinds 1, 2, 3 and, if present, 4, 5, 6", and what the saw program writes, "kinds 7 and 8, or one line 9 alone".
-use Prim.Native.Nat.{ℕ, zero, suc}
+use Prim.Native.Nat.{ℕ, zero, suc, _+_, _*_}
 use mathlib.Core.Bool.{Bool, true, false, cond}
 use mathlib.Core.List.{List, [], _∷_, _++_, flatMap}
 use mathlib.Core.Option.{Option, none, some}
@@ -7,7 +7,7 @@ use lib.Dec.{leb, eqb}
 use lib.ListN.{length, getD, drop}
 use Rattle.job.specs.Lists.{sumOf}
 use Rattle.job.specs.Verdict.{Verdict, pass, refuse, _then_, lowest}
-use Rattle.job.specs.Job.{Job, jobOf, admission}
+use Rattle.job.specs.Job.{Job, typeOf, turnOf, jobOf, admission}
 use Rattle.listing.specs.Listing.{Listing, modelRow, listingOf}
 use Rattle.plan.specs.Plan.{planRow}
 use Rattle.plan.specs.Prices.{pricesOf, modelSized, pricesRow, priceSum, fewest}
@@ -19,10 +19,11 @@ use Rattle.texts.specs.Shape.{Shape, jobLine, itemLine, planLine, prices
 use Rattle.texts.specs.Reader.{Grammar, Reader, started, fed, textRow, written}
 use Rattle.texts.specs.JobLines.{Place, first, types, body, itemPrices, platePrices, done, typesOf, afterType, bodyLine}
 
--- a line 3: plate, item, count
+-- a line 3: plate, item type, its turn, count; request One, "a cut becomes plate, type and turn"
 pub record Counted : Type 0 where
   pub plate : ℕ
-  pub item : ℕ
+  pub type : ℕ
+  pub turn : ℕ
   pub count : ℕ
 
 -- lines 4, 5 and 6 so far: the n and the m of line 4, and the price words, D first
@@ -48,7 +49,7 @@ sawAdmits s =
     elim (s .place) [
       | first ↦ jobLine ∷ []
       | types i ↦ itemLine i ∷ []
-      | body ↦ planLine (typesOf (s .job)) ∷ pricesLine ∷ []
+      | body ↦ planLine (s .job) ∷ pricesLine ∷ []
       | itemPrices i ↦ itemPriceLine i ∷ []
       | platePrices j ↦ platePriceLine j ∷ []
       | done ↦ []
@@ -81,7 +82,7 @@ bodyRead s ns =
           record {
             place = body;
             job = s .job;
-            plan = s .plan ++ (record { plate = getD ns 1 0; item = getD ns 2 0; count = getD ns 3 0 } ∷ []);
+            plan = s .plan ++ (record { plate = getD ns 1 0; type = getD ns 2 0; turn = getD ns 4 0; count = getD ns 3 0 } ∷ []);
             prices = none;
           }
       | false ↦
@@ -126,9 +127,13 @@ sawGrammar =
       complete = sawComplete;
     }
 
+-- the position that a line 3 names, "twice the type plus the turn"
+abbrev pub positionOn : Counted → ℕ
+positionOn r = 2 * r .type + r .turn
+
 -- the number of the cut that a line 3 names, 0 where there is no such cut
 unfoldable pub namedCut : Listing → Counted → ℕ
-namedCut l r = cutOf l (r .plate) (r .item)
+namedCut l r = cutOf l (r .plate) (positionOn r)
 
 -- 8: "no such cut", naming the line; the lines 3 are numbered from k
 unfoldable pub cutsNamed : Listing → ℕ → List Counted → Verdict
@@ -173,10 +178,20 @@ sawRows s =
     then planRow job l (planCounts l (s .plan))
     then priceLinesRow job l (s .prices)
 
--- line 7 of a placement
+-- line 7 of a placement; request One, it "ends with the turn"
 unfoldable pub placementLine : Placement → List ℕ
 placementLine p =
-    lineOf (7 ∷ p .turn .board ∷ p .turn .strip ∷ p .turn .stack ∷ p .turn .place ∷ p .item ∷ p .x ∷ p .y ∷ [])
+    lineOf
+    (7
+    ∷ p .turn .board
+    ∷ p .turn .strip
+    ∷ p .turn .stack
+    ∷ p .turn .place
+    ∷ typeOf (p .item)
+    ∷ p .x
+    ∷ p .y
+    ∷ turnOf (p .item)
+    ∷ [])
 
 -- line 8: boards, sum, D, fewest; "without prices: sum 0, D 1, fewest 0"
 unfoldable pub resultLine : Job → ℕ → Option PriceLines → List ℕ

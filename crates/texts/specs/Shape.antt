@@ -1,14 +1,15 @@
--- Document 01, "Texts": the kinds of lines, the limits of their numbers, and the line row of one line, 1 and 2.
-use Prim.Native.Nat.{ℕ, _+_}
+-- Document 01, "Texts": the kinds of lines, the limits of their numbers, and the line row of one line, 1, 2 and 19 (request One).
+use Prim.Native.Nat.{ℕ, _+_, _*_}
 use mathlib.Core.Bool.{Bool, true, false, not, _&&_}
 use mathlib.Core.List.{List, [], _∷_}
 use mathlib.Core.Option.{Option, none, some}
 use lib.Dec.{eqb}
-use lib.ListN.{length, drop}
+use lib.ListN.{length, getD, drop}
 use Rattle.job.specs.Sizes.{maxResiduals}
-use Rattle.job.specs.Verdict.{Verdict, refuse, refuseIf, within}
-use Rattle.job.specs.Job.{maxSide, maxTypes, maxPieces}
+use Rattle.job.specs.Verdict.{Verdict, refuse, _then_, refuseIf, within}
+use Rattle.job.specs.Job.{jobOf, permitted, maxSide, maxTypes, maxPieces}
 use Rattle.plan.specs.Prices.{maxPrice}
+use Rattle.texts.specs.JobLines.{typesOf}
 
 -- the lowest and the highest value of a number
 pub record Limit : Type 0 where
@@ -19,26 +20,40 @@ infix 70 _to_
 abbrev pub _to_ : ℕ → ℕ → Limit
 low to high = record { low = low; high = high }
 
--- a line that is admitted next: its kind, its running number where it has one, and the limits of its other numbers in order
+-- a line that is admitted next: its kind, its running number where it has one, the limits of its other numbers in order, and whether these others
+-- turn nothing but what may be turned
 pub record Shape : Type 0 where
   pub kind : ℕ
   pub running : List ℕ
   pub limits : List Limit
+  pub permits : List ℕ → Bool
 
+-- a kind that turns nothing
 abbrev pub shape : ℕ → List ℕ → List Limit → Shape
-shape kind running limits = record { kind = kind; running = running; limits = limits }
+shape kind running limits = record { kind = kind; running = running; limits = limits; permits = λ _. true }
+
+-- request One: a kind that "ends with the turn". Of its numbers after the kind the type stands at place i and the turn at place t, from 0, and the job
+-- of the words ws has to permit that position
+abbrev pub turning : ℕ → List Limit → List ℕ → ℕ → ℕ → Shape
+turning kind limits ws i t =
+    record {
+      kind = kind;
+      running = [];
+      limits = limits;
+      permits = λ vs. permitted (jobOf ws) (2 * getD vs i 0 + getD vs t 0);
+    }
 
 -- kind 1: stages (2 or 3), exact (1 or 0), W, H, n
 abbrev pub jobLine : Shape
 jobLine = shape 1 [] (2 to 3 ∷ 0 to 1 ∷ 1 to maxSide ∷ 1 to maxSide ∷ 1 to maxTypes ∷ [])
 
--- kind 2: type, width, height, demand; type i is the next in order
+-- kind 2: type, width, height, demand, leave; type i is the next in order; request One, "1 if the type may be turned, 0 if not"
 abbrev pub itemLine : ℕ → Shape
-itemLine i = shape 2 (i ∷ []) (1 to maxSide ∷ 1 to maxSide ∷ 1 to maxPieces ∷ [])
+itemLine i = shape 2 (i ∷ []) (1 to maxSide ∷ 1 to maxSide ∷ 1 to maxPieces ∷ 0 to 1 ∷ [])
 
--- kind 3: plate, item, count; the greatest plate is 2,047, one below the number of plate types
-abbrev pub planLine : ℕ → Shape
-planLine n = shape 3 [] (0 to maxResiduals ∷ 1 to n ∷ 1 to maxPieces ∷ [])
+-- kind 3 of a job of the words ws: plate, item, count, turn; the greatest plate is 2,047, one below the number of plate types
+abbrev pub planLine : List ℕ → Shape
+planLine ws = turning 3 (0 to maxResiduals ∷ 1 to typesOf ws ∷ 1 to maxPieces ∷ 0 to 1 ∷ []) ws 1 3
 
 -- kind 4: D, n, m
 abbrev pub pricesLine : Shape
@@ -51,11 +66,12 @@ itemPriceLine i = shape 5 (i ∷ []) (0 to maxPrice ∷ [])
 abbrev pub platePriceLine : ℕ → Shape
 platePriceLine j = shape 6 (j ∷ []) (0 to maxPrice ∷ [])
 
--- kind 7: board, strip, stack, place, type, x, y
-abbrev pub layoutLine : ℕ → Shape
-layoutLine n =
-    shape 7 []
-    (1 to maxPieces ∷ 1 to maxPieces ∷ 1 to maxPieces ∷ 1 to maxPieces ∷ 1 to n ∷ 0 to maxSide ∷ 0 to maxSide ∷ [])
+-- kind 7 of a job of the words ws: board, strip, stack, place, type, x, y, turn
+abbrev pub layoutLine : List ℕ → Shape
+layoutLine ws =
+    turning 7
+    (1 to maxPieces ∷ 1 to maxPieces ∷ 1 to maxPieces ∷ 1 to maxPieces ∷ 1 to typesOf ws ∷ 0 to maxSide ∷ 0 to maxSide ∷ 0 to 1 ∷ [])
+    ws 4 7
 
 -- the second list begins with the first
 unfoldable pub begins : List ℕ → List ℕ → Bool
@@ -78,12 +94,15 @@ eachWithin (l ∷ ls) (n ∷ ns) = within (l .low) (l .high) n && eachWithin ls 
 unfoldable pub values : Shape → List ℕ → List ℕ
 values s ns = drop (1 + length (s .running)) ns
 
--- the numbers of line L against the shapes that are admitted: 1 where they are of none, else 2 where a value is outside its limits
+-- the numbers of line L against the shapes that are admitted: 1 where they are of none, else 2 where a value is outside its limits; then request One's 19,
+-- "after 2, for a turn of 1 on line 3 or 7 for a square type or one without leave"
 unfoldable pub numbersRow : ℕ → List Shape → List ℕ → Verdict
 numbersRow line [] ns = refuse 1 line
 numbersRow line (s ∷ ss) ns =
     elim (formed s ns) [
-      | true ↦ refuseIf (not (eachWithin (s .limits) (values s ns))) 2 line
+      | true ↦
+          refuseIf (not (eachWithin (s .limits) (values s ns))) 2 line
+          then refuseIf (not (s .permits (values s ns))) 19 line
       | false ↦ numbersRow line ss ns
     ]
 

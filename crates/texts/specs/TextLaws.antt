@@ -58,7 +58,7 @@ pub record InParts {S : Type 0} (g : Grammar S) : Type 0 where
   pub parts : (r : Reader S) (as′ bs : List ℕ) → fed g r (as′ ++ bs) ≡ fed g (fed g r as′) bs
   -- once refused a text stays as it is
   pub refused : (r : Reader S) (bs : List ℕ) (n p : ℕ) → r .verdict ≡ refuse n p → fed g r bs ≡ r
-  -- a line written of at most eight numbers is read at once
+  -- a line written of at most nine numbers is read at once
   pub line :
       (r : Reader S) (ns : List ℕ)
       → r .verdict ≡ pass
@@ -82,14 +82,14 @@ pub record InParts {S : Type 0} (g : Grammar S) : Type 0 where
       → r .pending ≡ []
       → g .complete (r .state) ≡ false
       → textRow g r ≡ refuse 1 (suc (r .lines))
-  -- what a reader keeps of a line that has begun is at most 72 bytes
+  -- what a reader keeps of a line that has begun is at most 81 bytes
   pub kept : (bs : List ℕ) → length (fed g (started g) bs .pending) < placementLineBytes
 
--- the bytes of the longest saw text, 3,700,341: line 1, 40 lines 2, and a line 3 for each of the 99,958 lines after them
+-- the bytes of the longest saw text, 4,600,323: line 1, 40 lines 2, and a line 3 for each of the 99,958 lines after them
 abbrev pub longestSawText : ℕ
 longestSawText = jobLineBytes + typeLineBytes * maxTypes + planLineBytes * (maxLines - 1 - maxTypes)
 
--- the bytes of the longest fold text, 7,299,882: line 1, one line 2, and a line 7 for each of the 99,997 lines after them
+-- the bytes of the longest fold text, 8,199,864: line 1, one line 2, and a line 7 for each of the 99,997 lines after them
 abbrev pub longestFoldText : ℕ
 longestFoldText = jobLineBytes + typeLineBytes + placementLineBytes * (maxLines - 2)
 

@@ -6,17 +6,19 @@ use mathlib.Core.Option.{Option, none, some}
 use lib.Dec.{leb}
 use lib.ListN.{getD, take, drop}
 use Rattle.job.specs.Sizes.{wordsOfHead}
+use Rattle.job.specs.Job.{typeOf, turnOf}
 use Rattle.layouts.specs.Placement.{Placement}
 use Rattle.layouts.specs.Lines.{rowsOf}
 use Rattle.texts.specs.SawText.{Counted, PriceLines, Saw}
 use Rattle.texts.specs.FoldText.{Fold}
 
--- a line 2 for each type, from type i on, of three words each
+-- a line 2 for each type, from type i on, of four words each
 unfoldable pub itemRows : ℕ → List ℕ → List (List ℕ)
 itemRows i [] = []
 itemRows i (w ∷ []) = []
 itemRows i (w ∷ h ∷ []) = []
-itemRows i (w ∷ h ∷ d ∷ ws) = (2 ∷ i ∷ w ∷ h ∷ d ∷ []) ∷ itemRows (suc i) ws
+itemRows i (w ∷ h ∷ d ∷ []) = []
+itemRows i (w ∷ h ∷ d ∷ v ∷ ws) = (2 ∷ i ∷ w ∷ h ∷ d ∷ v ∷ []) ∷ itemRows (suc i) ws
 
 -- line 1 and the lines 2 of job words
 unfoldable pub jobRows : List ℕ → List (List ℕ)
@@ -24,7 +26,7 @@ jobRows ws = (1 ∷ take wordsOfHead ws) ∷ itemRows 1 (drop wordsOfHead ws)
 
 -- the lines 3 of a plan
 unfoldable pub planRows : List Counted → List (List ℕ)
-planRows rs = map (λ r. 3 ∷ r .plate ∷ r .item ∷ r .count ∷ []) rs
+planRows rs = map (λ r. 3 ∷ r .plate ∷ r .type ∷ r .count ∷ r .turn ∷ []) rs
 
 -- a line for each price, from the k-th on: of n item types a line 5, then a line 6
 unfoldable pub priceRowsFrom : ℕ → ℕ → List ℕ → List (List ℕ)
@@ -40,7 +42,16 @@ priceRows (some ps) =
 -- the numbers of a line 7
 unfoldable pub placementRow : Placement → List ℕ
 placementRow p =
-    7 ∷ p .turn .board ∷ p .turn .strip ∷ p .turn .stack ∷ p .turn .place ∷ p .item ∷ p .x ∷ p .y ∷ []
+    7
+    ∷ p .turn .board
+    ∷ p .turn .strip
+    ∷ p .turn .stack
+    ∷ p .turn .place
+    ∷ typeOf (p .item)
+    ∷ p .x
+    ∷ p .y
+    ∷ turnOf (p .item)
+    ∷ []
 
 -- the lines of what a saw text holds, and of what a fold text holds
 unfoldable pub sawRowsOf : Saw → List (List ℕ)

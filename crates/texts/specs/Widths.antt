@@ -6,13 +6,13 @@ use Rattle.columns.specs.Widths.{lineBytes}
 abbrev pub jobLineBytes : ℕ
 jobLineBytes = lineBytes 6
 
--- kind 2: the kind, type, width, height, demand
+-- kind 2: the kind, type, width, height, demand, leave
 abbrev pub typeLineBytes : ℕ
-typeLineBytes = lineBytes 5
+typeLineBytes = lineBytes 6
 
--- kind 3: the kind, plate, item, count
+-- kind 3: the kind, plate, item, count, turn
 abbrev pub planLineBytes : ℕ
-planLineBytes = lineBytes 4
+planLineBytes = lineBytes 5
 
 -- kind 4: the kind, D, n, m
 abbrev pub pricesLineBytes : ℕ
@@ -22,9 +22,9 @@ pricesLineBytes = lineBytes 4
 abbrev pub priceLineBytes : ℕ
 priceLineBytes = lineBytes 3
 
--- kind 7: the kind, board, strip, stack, place, type, x, y
+-- kind 7: the kind, board, strip, stack, place, type, x, y, turn
 abbrev pub placementLineBytes : ℕ
-placementLineBytes = lineBytes 8
+placementLineBytes = lineBytes 9
 
 -- kind 8: the kind, boards, sum, D, fewest
 abbrev pub summaryLineBytes : ℕ

@@ -5,11 +5,11 @@ use job::sizes::MAX_TYPES;
 // Kind 1: the kind, stages, exact, W, H, n.
 pub const JOB_LINE: usize = GROUP * 6 + 1;
 
-// Kind 2: the kind, type, width, height, demand.
-pub const TYPE_LINE: usize = GROUP * 5 + 1;
+// Kind 2: the kind, type, width, height, demand, leave.
+pub const TYPE_LINE: usize = GROUP * 6 + 1;
 
-// Kind 3: the kind, plate, item, count.
-pub const PLAN_LINE: usize = GROUP * 4 + 1;
+// Kind 3: the kind, plate, item, count, turn.
+pub const PLAN_LINE: usize = GROUP * 5 + 1;
 
 // Kind 4: the kind, D, n, m.
 pub const PRICES_LINE: usize = GROUP * 4 + 1;
@@ -17,8 +17,8 @@ pub const PRICES_LINE: usize = GROUP * 4 + 1;
 // Kinds 5 and 6: the kind, type or plate type, price.
 pub const PRICE_LINE: usize = GROUP * 3 + 1;
 
-// Kind 7: the kind, board, strip, stack, place, type, x, y.
-pub const PLACEMENT_LINE: usize = GROUP * 8 + 1;
+// Kind 7: the kind, board, strip, stack, place, type, x, y, turn.
+pub const PLACEMENT_LINE: usize = GROUP * 9 + 1;
 
 // Kind 8: the kind, boards, sum, D, fewest.
 pub const SUMMARY_LINE: usize = GROUP * 5 + 1;

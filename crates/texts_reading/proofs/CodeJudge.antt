@@ -9,7 +9,7 @@ use lib.Dec.{eqb}
 use lib.ListN.{length, getD, drop, drop-of-length-le}
 use lib.Seq.{drop-cons}
 use borrow.Author.Tests.{eq-eqb, ne-eqb, le-leb, lt-leb}
-use Rattle.job.specs.Verdict.{pass, refuse, refuseIf}
+use Rattle.job.specs.Verdict.{Verdict, pass, refuse, _then_, refuseIf}
 use Rattle.texts.specs.Shape.{begins, formed, eachWithin, values, numbersRow}
 use Rattle.texts_reading.specs.Judged.{limitsOf, shapeOf}
 
@@ -55,6 +55,11 @@ module _ (vs low high : List ℕ) (i : ℕ) (p : length low ≡ length vs) (q : 
 
 -- ---- the line row
 
+-- a check that passes adds nothing
+alone : (v : Verdict) → (v then pass) ≡ v
+alone pass = refl
+alone (refuse n p) = refl
+
 pub limits-length : (low high : List ℕ) → length high ≡ length low → length (limitsOf low high) ≡ length low
 limits-length [] highs e = refl
 limits-length (l ∷ low) [] e = absurd (omega arith)
@@ -86,6 +91,13 @@ module _ (head low high ns : List ℕ) (h : 0 < length head) (e : length high �
       go [] = refl
       go (k ∷ ks) = refl
 
+  permits-here : (vs : List ℕ) → shapeOf head (limitsOf low high) .permits vs ≡ true
+  permits-here vs = go head
+    where
+      go : (head : List ℕ) → shapeOf head (limitsOf low high) .permits vs ≡ true
+      go [] = refl
+      go (k ∷ ks) = refl
+
   -- not of the shape
   unformed : (line : ℕ) → formed (shapeOf head (limitsOf low high)) ns ≡ false → refuse 1 line ≡ numbersRow line (shapeOf head (limitsOf low high) ∷ []) ns
   unfolding numbersRow
@@ -106,7 +118,7 @@ module _ (head low high ns : List ℕ) (h : 0 < length head) (e : length high �
     unfolding numbersRow
     formed-here =
         let f : formed (shapeOf head (limitsOf low high)) ns ≡ true = formed-parts ∙ rw (← b, eq-eqb (length ns) (length head + length low) d) in
-        rw (f, numbersRow, limits-here, values-here)
+        rw (f, numbersRow, limits-here, values-here, permits-here (drop (length head) ns)) (alone (refuseIf (not (eachWithin (limitsOf low high) (drop (length head) ns))) 2 line))
 
     pub row-outside : false ≡ eachWithin (limitsOf low high) (drop (length head) ns) → refuse 2 line ≡ numbersRow line (shapeOf head (limitsOf low high) ∷ []) ns
     row-outside l = sym (formed-here ∙ rw (← l))

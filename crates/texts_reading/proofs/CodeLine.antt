@@ -33,9 +33,9 @@ module _ (s : List ℕ) (at n : ℕ) (h : at + n ≤ length s) where
   unfolding readLine
   line-equal e = rw (size, readLine, eq-eqb n (lineBytes (n / groupBytes)) e, size, numbers-take (n / groupBytes) n (drop at s) (omega arith))
 
--- the numbers and zeros of a line are eight
-pub line-eight : (k : ℕ) (bs : List ℕ) → k ≤ mostNumbers → length (lineFrom (numbersOf k bs) .numbers) ≡ mostNumbers
-line-eight k bs h = go (numbersOf k bs) refl
+-- the numbers and zeros of a line are nine
+pub line-most : (k : ℕ) (bs : List ℕ) → k ≤ mostNumbers → length (lineFrom (numbersOf k bs) .numbers) ≡ mostNumbers
+line-most k bs h = go (numbersOf k bs) refl
   where
     go : (o : Option (List ℕ)) → numbersOf k bs ≡ o → length (lineFrom o .numbers) ≡ mostNumbers
     go none e = refl

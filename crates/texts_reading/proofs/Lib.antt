@@ -4,6 +4,7 @@ pub mod CodeWords
 pub mod CodeLine
 pub mod CodeJobLines
 pub mod CodeText
+pub mod CodeTurns
 pub mod LineWithin
 pub mod CodeSplits
 pub mod CodeEnd

@@ -36,7 +36,7 @@ module _ (part : List ℕ) (at k : ℕ) (ns : List ℕ) (e : numbersOf k (drop a
 
   module _ (t : TextReader) (goes : t .refusal ≡ 0) (few : t .lines < maxLines) (none : t .pending .length ≡ 0) (h : k ≤ mostNumbers) where
     line-within : (was numbers : List ℕ) → length was ≡ mostNumbers → numbers ≡ ns ++ drop k was → LineWithin t part at numbers k
-    line-within was numbers eight w =
+    line-within was numbers nine w =
         let size = numbers-of-line k (drop at part) ns e .0 in
         record {
           size = ap length w ∙ simp (length-append, length-drop) (omega arith);
@@ -60,5 +60,5 @@ pub within :
     → (r : Complete)
     → CompleteAs (drop at part) was numbers r
     → Within t part at numbers r
-within t part at was numbers goes few none eight (Numbers k) (h, line) = line-within part at k (line .0) (line .1) t goes few none h was numbers eight (line .2)
-within t part at was numbers goes few none eight Nothing n = tt
+within t part at was numbers goes few none nine (Numbers k) (h, line) = line-within part at k (line .0) (line .1) t goes few none h was numbers nine (line .2)
+within t part at was numbers goes few none nine Nothing n = tt

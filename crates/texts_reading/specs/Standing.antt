@@ -36,7 +36,7 @@ pub record TextKept {S : Type 0} (place : S → definition.Place) (r : Reader S)
   pub verdict : lineVerdict (t .refusal) (suc (t .lines)) ≡ r .verdict
   pub begun : Begun (t .pending) (r .pending)
 
--- at most 99,999 lines, and at most 72 bytes of the line that has begun
+-- at most 99,999 lines, and at most 81 bytes of the line that has begun
 pub record TextReady (t : TextReader) : Type 0 where
   pub few : t .lines ≤ maxLines
   pub short : t .pending .length < longestLine

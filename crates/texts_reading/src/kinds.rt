@@ -1,10 +1,13 @@
 // The kinds of lines: each gives the refusal of a line's numbers, 0 where there is none.
 ghost use mathlib.Core.Path.{_≡_};
 ghost use mathlib.Core.List.{[], _∷_};
-ghost use Prim.Native.Nat.{ℕ};
+ghost use Prim.Native.Nat.{ℕ, _≤_};
+ghost use lib.ListN.{length};
+ghost use Rattle.job.specs.Sizes.{wordsOfHead};
 ghost use Rattle.texts.specs.Shape.{jobLine, itemLine, planLine, pricesLine, itemPriceLine, platePriceLine, layoutLine, numbersRow};
 ghost use Rattle.texts_reading.specs.Judged.{lineVerdict};
 use crate::judge::judge;
+use crate::turns::judge_turn;
 use job::counters::ItemType;
 use job::counters::PlateType;
 use job::sizes::MAX_PIECES;
@@ -12,6 +15,7 @@ use job::sizes::MAX_PRICE;
 use job::sizes::MAX_RESIDUALS;
 use job::sizes::MAX_SIDE;
 use job::sizes::MAX_TYPES;
+use job::sizes::TYPES;
 
 // The limits as numbers of a line: sides, item types, pieces, prices, residual types.
 const SIDE_LIMIT: u32 = MAX_SIDE as u32;
@@ -34,24 +38,24 @@ pub fn job_line(numbers: &[u32]) -> u16
     judge(numbers, &head, &low, &high)
 }
 
-// Kind 2 of type i: width, height, demand.
+// Kind 2 of type i: width, height, demand, leave.
 pub fn item_line(numbers: &[u32], i: ItemType) -> u16
     ensures { λ r. ⌜ ((line : ℕ) → lineVerdict r line ≡ numbersRow line (itemLine (i .0) ∷ []) (now (numbers .entry))) ⌝ }
 {
     let head = [2, i.0 as u32];
-    let low = [1u32, 1, 1];
-    let high = [SIDE_LIMIT, SIDE_LIMIT, PIECES_LIMIT];
+    let low = [1u32, 1, 1, 0];
+    let high = [SIDE_LIMIT, SIDE_LIMIT, PIECES_LIMIT, 1];
     judge(numbers, &head, &low, &high)
 }
 
-// Kind 3 of a job whose last item type is n: plate, item, count.
-pub fn plan_line(numbers: &[u32], n: ItemType) -> u16
-    ensures { λ r. ⌜ ((line : ℕ) → lineVerdict r line ≡ numbersRow line (planLine (n .0) ∷ []) (now (numbers .entry))) ⌝ }
+// Kind 3 of a job's words: plate, item, count, turn.
+pub fn plan_line(numbers: &[u32], job: &[u16]) -> u16
+    requires { ⌜ wordsOfHead ≤ length (now job) ⌝ }
+    ensures { λ r. ⌜ ((line : ℕ) → lineVerdict r line ≡ numbersRow line (planLine (now (job .entry)) ∷ []) (now (numbers .entry))) ⌝ }
 {
-    let head = [3u32];
-    let low = [0u32, 1, 1];
-    let high = [RESIDUALS_LIMIT, n.0 as u32, PIECES_LIMIT];
-    judge(numbers, &head, &low, &high)
+    let low = [0u32, 1, 1, 0];
+    let high = [RESIDUALS_LIMIT, job[TYPES] as u32, PIECES_LIMIT, 1];
+    judge_turn(numbers, 3, &low, &high, job, 1, 3)
 }
 
 // Kind 4: D, n, m.
@@ -84,20 +88,21 @@ pub fn plate_price_line(numbers: &[u32], j: PlateType) -> u16
     judge(numbers, &head, &low, &high)
 }
 
-// Kind 7 of a job whose last item type is n: board, strip, stack, place, type, x, y.
-pub fn layout_line(numbers: &[u32], n: ItemType) -> u16
-    ensures { λ r. ⌜ ((line : ℕ) → lineVerdict r line ≡ numbersRow line (layoutLine (n .0) ∷ []) (now (numbers .entry))) ⌝ }
+// Kind 7 of a job's words: board, strip, stack, place, type, x, y, turn.
+pub fn layout_line(numbers: &[u32], job: &[u16]) -> u16
+    requires { ⌜ wordsOfHead ≤ length (now job) ⌝ }
+    ensures { λ r. ⌜ ((line : ℕ) → lineVerdict r line ≡ numbersRow line (layoutLine (now (job .entry)) ∷ []) (now (numbers .entry))) ⌝ }
 {
-    let head = [7u32];
-    let low = [1u32, 1, 1, 1, 1, 0, 0];
+    let low = [1u32, 1, 1, 1, 1, 0, 0, 0];
     let high = [
         PIECES_LIMIT,
         PIECES_LIMIT,
         PIECES_LIMIT,
         PIECES_LIMIT,
-        n.0 as u32,
+        job[TYPES] as u32,
         SIDE_LIMIT,
         SIDE_LIMIT,
+        1,
     ];
-    judge(numbers, &head, &low, &high)
+    judge_turn(numbers, 7, &low, &high, job, 4, 7)
 }

@@ -6,4 +6,5 @@ pub mod line_row;
 pub mod pending;
 pub mod scan;
 pub mod text;
+pub mod turns;
 pub mod words;

@@ -5,7 +5,7 @@ ghost use Rattle.texts_reading.specs.TextEnd.{endRow, LineNamed};
 use crate::text::TextReader;
 use job::row::Row;
 
-// The line row, whole: 1 or 2 for the first line refused; 1 for a last line without byte 10; 1 for a missing line, one past the last, unless the text
+// The line row, whole: 1, 2 or 19 for the first line refused; 1 for a last line without byte 10; 1 for a missing line, one past the last, unless the text
 // is whole where it stands.
 pub fn text_row(text: TextReader, whole: bool) -> Row
     ensures { λ row. ⌜ rowVerdict row ≡ endRow text whole ⌝ }

@@ -11,6 +11,7 @@ use lib.ListN.{length, getD, take, drop, length-append}
 use lib.Seq.{take-all}
 use borrow.Author.Tests.{eq-eqb, ne-eqb}
 use Rattle.job.specs.Lists.{sumOf}
+use Rattle.job.specs.Job.{typeOf, turnOf}
 use Rattle.listing.specs.Listing.{Cut, noCut}
 use Rattle.plan.specs.Plan.{total}
 use Rattle.columns.specs.Group.{put}
@@ -29,7 +30,7 @@ unfolding countLines countLine
 lines-cons c cs n ns = go (eqb n 0)
   where
     line : List ℕ
-    line = lineOf (3 ∷ c .plate ∷ c .item ∷ n ∷ [])
+    line = lineOf (3 ∷ c .plate ∷ typeOf (c .item) ∷ n ∷ turnOf (c .item) ∷ [])
 
     go :
         (t : Bool)
@@ -99,7 +100,7 @@ pub lines-all : (k c : ℕ) (cuts ns : List ℕ) → k ≤ c → linesTo k c cut
 lines-all k c cuts ns h = rw (take-all c (cutsRead k cuts) (rw length-cutsFrom h))
 
 -- a line 3, none for a cut that is not counted
-line-counted : (c : Cut) (n : ℕ) → (n ≡ 0 → ⊥) → countLine c n ≡ lineOf (3 ∷ c .plate ∷ c .item ∷ n ∷ [])
+line-counted : (c : Cut) (n : ℕ) → (n ≡ 0 → ⊥) → countLine c n ≡ lineOf (3 ∷ c .plate ∷ typeOf (c .item) ∷ n ∷ turnOf (c .item) ∷ [])
 unfolding countLine
 line-counted c n h = rw (ne-eqb n 0 h, countLine)
 
@@ -108,17 +109,17 @@ unfolding countLine
 line-absent c n h = rw (eq-eqb n 0 h, countLine)
 
 pub line-room : (at m : ℕ) (c : Cut) (n : ℕ) → (n ≡ 0 → ⊥) → at + length (countLine c n) ≤ m → at + planLineBytes ≤ m
-line-room at m c n h r = omega (arith, r, ap length (line-counted c n h) ∙ length-line (3 ∷ c .plate ∷ c .item ∷ n ∷ []))
+line-room at m c n h r = omega (arith, r, ap length (line-counted c n h) ∙ length-line (3 ∷ c .plate ∷ typeOf (c .item) ∷ n ∷ turnOf (c .item) ∷ []))
 
 -- the line of a cut that is read, written
 pub line-wrote :
     {d out : List ℕ} {at end : ℕ} (cut c : Cut) (n : ℕ)
     → cut ≡ c
     → (n ≡ 0 → ⊥)
-    → out ≡ put d at (lineOf (3 ∷ cut .plate ∷ cut .item ∷ n ∷ []))
+    → out ≡ put d at (lineOf (3 ∷ cut .plate ∷ typeOf (cut .item) ∷ n ∷ turnOf (cut .item) ∷ []))
     → end ≡ at + planLineBytes
     → Wrote d at (countLine c n) end out
-line-wrote cut c n e h o p = rw (← e, line-counted cut n h) (wrote-line (3 ∷ cut .plate ∷ cut .item ∷ n ∷ []) 4 o refl p)
+line-wrote cut c n e h o p = rw (← e, line-counted cut n h) (wrote-line (3 ∷ cut .plate ∷ typeOf (cut .item) ∷ n ∷ turnOf (cut .item) ∷ []) 5 o refl p)
 
 line-bytes : (c : Cut) (n : ℕ) → length (countLine c n) ≤ planLineBytes * n
 line-bytes c n = go (ℕ-discrete n 0)

@@ -7,7 +7,7 @@ use mathlib.Core.Option.{Option, none, some}
 use lib.Dec.{ltb, eqb}
 use lib.ListN.{length}
 use Rattle.job.specs.Sizes.{maxPieces}
-use Rattle.job.specs.Job.{Job}
+use Rattle.job.specs.Job.{Job, typeOf, turnOf}
 use Rattle.listing.specs.Listing.{Cut}
 use Rattle.plan.specs.Prices.{pricesOf, priceSum}
 use Rattle.columns.specs.Group.{put}
@@ -29,7 +29,7 @@ longestFold = planLineBytes * maxPieces
 
 -- line 3 of a cut, if it is counted
 unfoldable pub countLine : Cut → ℕ → List ℕ
-countLine c n = elim (eqb n 0) [ true ↦ [] | false ↦ lineOf (3 ∷ c .plate ∷ c .item ∷ n ∷ []) ]
+countLine c n = elim (eqb n 0) [ true ↦ [] | false ↦ lineOf (3 ∷ c .plate ∷ typeOf (c .item) ∷ n ∷ turnOf (c .item) ∷ []) ]
 
 -- "Fewest is 1 exactly if (boards−1)×D is below that sum"
 unfoldable pub isFewest : ℕ → ℕ → ℕ → Bool

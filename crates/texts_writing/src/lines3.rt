@@ -20,7 +20,14 @@ fn put_count(out: &mut [u8], at: usize, cuts: &[u16], c: CutNumber, n: u16) -> u
         return at;
     }
     let cut = cut_at(cuts, c);
-    let line = [3, cut.plate.0 as u32, cut.item.0 as u32, n as u32];
+    let q = cut.item.0;
+    let line = [
+        3,
+        cut.plate.0 as u32,
+        (q / 2) as u32,
+        n as u32,
+        (q % 2) as u32,
+    ];
     put_line(out, at, &line);
     at + PLAN_LINE
 }

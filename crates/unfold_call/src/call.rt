@@ -114,7 +114,7 @@ fn unfold_checks(
 // The unfolding call: the placements of an accepted plan, board after board, and the numbers of boards and pieces.
 // Refused are 1 to 4 of the job; 5 a buffer shorter than its full size, plates 1, cuts 2, counts 3, placements 4; 6 and 7 of the model, naming 0; 8 a
 // nonzero count past the last cut, naming the cut that it would be; 10 a total above 4,000, naming 0; 11 a type short; 12 a plate type overdrawn. Plates
-// and cuts end as the listing, placements as the seven words of each piece; after 5 all three are unchanged, after another refusal every word of them
+// and cuts end as the listing, placements as the eight words of each piece; after 5 all three are unchanged, after another refusal every word of them
 // is 0, after success the unused words are 0. On success the placements are the lines of a set of layouts, and this set is what demand
 // 3 says of an accepted plan.
 pub fn unfold(

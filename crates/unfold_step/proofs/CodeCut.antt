@@ -4,21 +4,23 @@ use native.Mathlib.Omega.{arith}
 use mathlib.Core.Path.{_≡_, _∙_, ap}
 use mathlib.Core.List.{List}
 use lib.ListN.{length, getD, length-append, length-replicate}
-use Rattle.job.specs.declared.item.Item.{Item}
+use Rattle.job.specs.declared.item.Position.{Position}
 use Rattle.job.specs.Sizes.{maxSide, wordsOfPlate, wordsOfCut, jobSize, RecordIn}
 use Rattle.job.specs.Buffers.{filled}
-use Rattle.job.specs.Job.{Job, jobOf, itemAt}
+use Rattle.job.specs.Job.{Job, typeOf, positionAt, jobOf}
+use Rattle.job.proofs.Positions.{permitted-type}
 use Rattle.listing.specs.declared.cut.CutRecord.{CutRecord}
 use Rattle.listing.specs.Listing.{Cut, Listing, cutAt, noCut, listingOf}
 use Rattle.listing.specs.Holds.{Holds}
 use Rattle.listing.specs.CutRead.{cutIn, cutRead}
 use Rattle.listing.proofs.CodeCuts.{held-cut}
 use Rattle.listing.proofs.ModelLaws.{numbered-below}
+use Rattle.listing.proofs.Plates.{may-cut}
 use Rattle.listing.proofs.RecordWords.{plate-words-length, cut-words-length}
 use Rattle.plan.specs.Plan.{onPlate, boards}
 use Rattle.layouts.specs.Placement.{Turn}
 use Rattle.layouts.specs.Unfold.{Piece, Waiting, taken, spent, wait, nextTurn, placed, done}
-use Rattle.layouts.proofs.trees.Cuts.{IsCut, cut-fits, top-number, right-number}
+use Rattle.layouts.proofs.trees.Cuts.{IsCut, plateOf, cut-fits, top-number, right-number}
 use Rattle.unfold_waiting.proofs.CodeSearch.{count-falls, spent-at}
 use Rattle.unfold_step.specs.Meaning.{spends}
 use Rattle.unfold_step.specs.Ready.{ModelLent, Cuttable}
@@ -63,13 +65,14 @@ module _ (ws plates cuts : List ℕ) (k : ℕ) (lent : ModelLent ws plates cuts 
     pub cut-is : (r : CutRecord) → cutIn r ≡ cutRead cuts (c - 1) → cutIn r ≡ cutAt l c
     cut-is r e = e ∙ held-cut (l .cuts) (lent .cuts-held) (c - 1) ∙ cut-place l c (able .from-one)
 
-    -- the words of its item type, and of the plate types of its residuals, are there
+    -- the words of the type of its item, and of the plate types of its residuals, are there
     module _ (r : CutRecord) (e : cutIn r ≡ cutRead cuts (c - 1)) where
-      pub item-there : (1 ≤ r .item .0) × (jobSize (r .item .0) ≤ length ws)
+      pub item-there : (1 ≤ typeOf (r .item .0)) × (jobSize (typeOf (r .item .0)) ≤ length ws)
       item-there =
           let f = cut-fits job l (lent .model) c is-cut in
+          let t = permitted-type job (cutAt l c .item) (may-cut (job .mode) (positionAt job (cutAt l c .item)) (plateOf l c) (f .allowed) .allowed) in
           let i : r .item .0 ≡ cutAt l c .item = ap (λ (x : Cut). x .item) (cut-is r e) in
-          (omega (arith, f .from-one), omega (arith, f .to-last, lent .words))
+          rw i (t .0, omega (arith, t .1, lent .words))
 
       pub top-there : RecordIn wordsOfPlate (r .top .0) plates
       top-there =
@@ -88,9 +91,9 @@ module _ (ws plates cuts : List ℕ) (k : ℕ) (lent : ModelLent ws plates cuts 
           let i : r .plate .0 ≡ cutAt l c .plate = ap (λ (x : Cut). x .plate) (cut-is r e) in
           rw (n, i, ← cut-place l c (able .from-one), spent-at ns c (able .from-one)) (count-falls (onPlate 0) (l .cuts) ns (c - 1) (omega (arith, able .from-one, able .to-last)) (able .left))
 
-      module _ (item : Item) (f : item ≡ itemAt job (r .item .0)) where
-        item-is : item ≡ itemAt job (cutAt l c .item)
-        item-is = f ∙ ap (λ (x : Cut). itemAt job (x .item)) (cut-is r e)
+      module _ (item : Position) (f : item ≡ positionAt job (r .item .0)) where
+        item-is : item ≡ positionAt job (cutAt l c .item)
+        item-is = f ∙ ap (λ (x : Cut). positionAt job (x .item)) (cut-is r e)
 
         -- the item ends inside the board
         pub across-small : p .x + item .width ≤ maxSide

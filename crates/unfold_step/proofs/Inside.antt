@@ -5,8 +5,8 @@ use mathlib.Core.Path.{_≡_, refl}
 use mathlib.Core.Bool.{Bool, true, false}
 use mathlib.Core.Option.{Option, none, some}
 use lib.Dec.{eqb}
-use Rattle.job.specs.declared.item.Item.{Item}
-use Rattle.job.specs.Job.{Job, itemAt}
+use Rattle.job.specs.declared.item.Position.{Position}
+use Rattle.job.specs.Job.{Job, positionAt}
 use Rattle.listing.specs.declared.plate.Residuals.{Residuals}
 use Rattle.listing.specs.Listing.{Listing, plateAt, cutAt}
 use Rattle.listing.specs.Model.{Model, leftBy}
@@ -22,7 +22,7 @@ use Rattle.unfold_step.specs.Ready.{InBoard, InSlot, Within}
 use Rattle.unfold_step.proofs.Steps.{step-by}
 
 -- the residuals r of a plate at (x, y), from which an item is cut, end by (across, up)
-pub record Ends (x y across up : ℕ) (item : Item) (r : Residuals) : Type 0 where
+pub record Ends (x y across up : ℕ) (item : Position) (r : Residuals) : Type 0 where
   pub top-across : x + r .top .width ≤ across
   pub top-up : y + item .height + r .top .height ≤ up
   pub right-across : x + item .width + r .right .width ≤ across
@@ -31,8 +31,8 @@ pub record Ends (x y across up : ℕ) (item : Item) (r : Residuals) : Type 0 whe
 module _ (job : Job) (l : Listing) (m : Model job l) where
   -- a cut c on the type of a piece that lies inside the board
   module _ (c : ℕ) (is : IsCut l c) (p : Piece) (on : cutAt l c .plate ≡ p .plate) (i : InBoard job l p) where
-    abbrev item : Item
-    item = itemAt job (cutAt l c .item)
+    abbrev item : Position
+    item = positionAt job (cutAt l c .item)
 
     -- the piece ends inside the board by the sides of the cut's plate type, within which the item is
     ends-across : p .x + plateOf l c .width ≤ job .width
@@ -130,7 +130,7 @@ module _ (job : Job) (l : Listing) (m : Model job l) where
         let (i, r) = taken-in (st .waiting) u e w in
         let (is, on) = found-cut l (u .piece .plate) (st .counts) k f in
         let c = cutAt l k in
-        let item = itemAt job (c .item) in
+        let item = positionAt job (c .item) in
         let x = u .piece .x in
         let y = u .piece .y in
         record {

@@ -1,23 +1,26 @@
 // The placement of an item that a step places.
 ghost use mathlib.Core.Path.{_≡_};
+ghost use Prim.Native.Nat.{_≤_};
 ghost use Rattle.placement.specs.PlacementRead.{placementIn};
 ghost use Rattle.unfold_step.specs.Meaning.{placedOf};
 use crate::state::PlacedItem;
+use job::counters::ItemType;
 use placement::Placement;
 
-// Its turn, its type and its position.
+// Where it comes in turn, its type, where it lies, and its turn.
 pub fn placement_of(p: PlacedItem) -> Placement
-    ensures { λ r. ⌜ placementIn r ≡ placedOf p ⌝ }
+    ensures { λ r. ⌜ (placementIn r ≡ placedOf p) × (r .turned ≤ 1) ⌝ }
 {
     let turn = p.turn;
-    let item = p.item;
+    let number = p.item.0;
     Placement {
         board: turn.board,
         strip: turn.strip,
         stack: turn.stack,
         place: turn.place,
-        item,
+        item: ItemType(number / 2),
         x: p.x,
         y: p.y,
+        turned: number % 2,
     }
 }

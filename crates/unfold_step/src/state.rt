@@ -11,9 +11,9 @@ ghost use Rattle.unfold_waiting.specs.Turns.{TurnTo, maxSteps};
 ghost use Rattle.unfold_step.specs.Meaning.{stateOf, stepMeans, stepSpends, countsAfter};
 ghost use Rattle.unfold_step.specs.Ready.{ModelLent, Cuttable, Ready};
 use job::counters::CutNumber;
-use job::counters::ItemType;
+use job::counters::ItemPosition;
 use job::counters::PlateType;
-use job::words::item_at;
+use job::position::position_at;
 use listing::cut::cut_at;
 use unfold_pick::Next;
 use unfold_pick::Piece;
@@ -30,11 +30,11 @@ pub struct State {
     pub turn: Turn,
 }
 
-// An item that is placed: where it comes in turn, the plate type that it is cut from, its type and its position.
+// An item that is placed: where it comes in turn, the plate type that it is cut from, its type in its turn, and where it lies.
 pub struct PlacedItem {
     pub turn: Turn,
     pub plate: PlateType,
-    pub item: ItemType,
+    pub item: ItemPosition,
     pub x: u16,
     pub y: u16,
 }
@@ -95,7 +95,7 @@ impl State {
         let of = cut.item;
         let top = cut.top;
         let right = cut.right;
-        let item = item_at(job, of);
+        let item = position_at(job, of);
         let here = turn.next(stage);
         let beside = waiting.wait(plates, right, p.x + item.width, p.y);
         let both = beside.wait(plates, top, p.x, p.y + item.height);

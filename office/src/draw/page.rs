@@ -70,8 +70,10 @@ fn titles(job: &Job, answer: &Answer) -> Vec<String> {
 
 /// The area that a board's items cover.
 fn used_area(job: &Job, placements: &[Placement]) -> usize {
-    let area =
-        |placement: &Placement| job.item(placement.item).width * job.item(placement.item).height;
+    let area = |placement: &Placement| {
+        let item = job.item(placement.item);
+        item.width * item.height
+    };
     placements.iter().map(area).sum()
 }
 
@@ -111,7 +113,7 @@ fn summary(page: &mut String, job: &Job, answer: &Answer) {
     );
     page.push_str(
         "Red lines are the edges of strips, dashed ones those of stacks; \
-         the number beside a strip is its height.</p>\n",
+         the number beside a strip is its height. A dark corner marks a turned item.</p>\n",
     );
     let _ = writeln!(page, "<p>{}</p>", bound(answer));
     table(page, job, answer);
@@ -119,14 +121,19 @@ fn summary(page: &mut String, job: &Job, answer: &Answer) {
 
 /// The table of item types.
 fn table(page: &mut String, job: &Job, answer: &Answer) {
-    let head = ["type", "width", "height", "demanded", "cut", "surplus"];
+    let head = [
+        "type", "width", "height", "turns", "demanded", "cut", "turned", "surplus",
+    ];
     let head = head.map(|name| format!("<th>{name}</th>")).concat();
     let _ = writeln!(page, "<table><tr>{head}</tr>");
     for (item_type, item) in (1..).zip(&job.items) {
         let cut = answer.pieces_of(item_type);
         let surplus = cut.saturating_sub(item.demand);
-        let numbers = [item.width, item.height, item.demand, cut, surplus];
-        let cells = numbers.map(|number| format!("<td>{number}</td>")).concat();
+        let turned = answer.turned_of(item_type);
+        let numbers = [item.width, item.height, item.demand, cut, turned, surplus];
+        let [width, height, rest @ ..] = numbers.map(|number| format!("<td>{number}</td>"));
+        let turns = if item.turns() { "yes" } else { "no" };
+        let cells = format!("{width}{height}<td>{turns}</td>{}", rest.concat());
         let fill = format!("style=\"background: {}\"", colour(item_type));
         let _ = writeln!(page, "<tr><td {fill}>{item_type}</td>{cells}</tr>");
     }

@@ -21,11 +21,15 @@ const BELOW: f64 = 26.0;
 /// The width beside a board that holds one upright line of text, and no level one.
 const UPRIGHT: f64 = 24.0;
 
+/// The longest side of the corner that marks a turned item.
+const CORNER: f64 = 9.0;
+
 /// The style and the hatching that every picture uses, once on a page.
 pub const STYLE: &str = "<style>
 .board text { font-family: Arial, Helvetica, \"DejaVu Sans\", sans-serif; text-anchor: middle; fill: #111 }
 .board .waste { fill: url(#hatching); stroke: #111; stroke-width: 1.5 }
 .board .item { stroke: #333; stroke-width: 1 }
+.board .turned { fill: #333 }
 .board .strip { stroke: #b00020; stroke-width: 2 }
 .board .stack { stroke: #b00020; stroke-width: 1; stroke-dasharray: 5 3 }
 .board .title { text-anchor: start; font-weight: bold }
@@ -118,26 +122,45 @@ impl<'a> Drawing<'a> {
         }
     }
 
-    /// An item with its type and size.
+    /// An item with its type, and its size as it lies; a turned one has a dark corner.
     fn item(&self, out: &mut String, placement: &Placement) {
         let span = self.span(placement);
-        let item = self.job.item(placement.item);
-        let size = format!("{} × {}", item.width, item.height);
+        let [width, height] = self.job.sides(placement.item, placement.turned);
+        let size = format!("{width} × {height}");
+        let turned = if placement.turned { ", turned" } else { "" };
         let title = format!(
-            "type {}, {size}, at x {}, y {}",
+            "type {}, {size}{turned}, at x {}, y {}",
             placement.item, placement.x, placement.y
         );
         let attributes = format!("class=\"item\" fill=\"{}\"", colour(placement.item));
         out.push_str(&self.rectangle(span, &attributes, &title));
+        if placement.turned {
+            out.push_str(&self.corner(span));
+        }
         label::write(out, self.area(span), &[placement.item.to_string(), size]);
+    }
+
+    /// The mark of a turned item: its upper right corner, dark.
+    fn corner(&self, span: Span) -> String {
+        let Area {
+            x,
+            y,
+            width,
+            height,
+        } = self.area(span);
+        let side = CORNER.min(width / 3.0).min(height / 3.0);
+        let [left, right, low] = [x + width - side, x + width, y + side];
+        format!(
+            "<polygon class=\"turned\" points=\"{left:.1},{y:.1} {right:.1},{y:.1} {right:.1},{low:.1}\"/>\n"
+        )
     }
 
     /// The rectangle that an item covers.
     fn span(&self, placement: &Placement) -> Span {
-        let item = self.job.item(placement.item);
+        let [width, height] = self.job.sides(placement.item, placement.turned);
         Span {
-            x: [placement.x, placement.x + item.width],
-            y: [placement.y, placement.y + item.height],
+            x: [placement.x, placement.x + width],
+            y: [placement.y, placement.y + height],
         }
     }
 

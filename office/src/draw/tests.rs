@@ -3,9 +3,9 @@
 use super::*;
 use crate::answer::Answer;
 use crate::columns::line;
-use crate::job::tests::{job, job_a};
+use crate::job::tests::{job, job_a, job_with_leave};
 
-const OUTPUT: &str = "7 1 1 1 1 1 0 0\n7 1 1 2 1 2 5 0\n7 1 2 1 1 2 0 4\n7 1 2 2 1 2 3 4\n7 2 1 1 1 1 0 0\n8 2 2 1 1\n";
+const OUTPUT: &str = "7 1 1 1 1 1 0 0 0\n7 1 1 2 1 2 5 0 0\n7 1 2 1 1 2 0 4 0\n7 1 2 2 1 2 3 4 0\n7 2 1 1 1 1 0 0 0\n8 2 2 1 1\n";
 
 #[test]
 fn job_a_is_drawn() {
@@ -22,6 +22,23 @@ fn job_a_is_drawn() {
     assert_eq!(page.matches("<figure").count(), 2);
     assert_eq!(page.matches("id=\"hatching\"").count(), 1);
     assert!(page.contains("No plan needs fewer boards"));
+}
+
+#[test]
+fn turned_items_are_marked_and_drawn_as_they_lie() {
+    let job = job_with_leave("2N", [5, 5], &[[3, 5, 1, 1], [2, 2, 1, 1]]);
+    let output = "7 1 1 1 1 1 0 0 1\n7 1 2 1 1 2 0 3 0\n8 1 0 1 0\n";
+    let files = page(&job, &Answer::read(output, &job).unwrap());
+    let board = &files[0].1;
+    assert_eq!(board.matches("class=\"item\"").count(), 2);
+    assert_eq!(board.matches("class=\"turned\"").count(), 1);
+    assert!(board.contains("type 1, 5 × 3, turned, at x 0, y 0"));
+    assert!(board.contains("type 2, 2 × 2, at x 0, y 3"));
+    let page = &files[1].1;
+    assert!(page.contains("A dark corner marks a turned item"));
+    let cells = |numbers: [&str; 7]| numbers.map(|cell| format!("<td>{cell}</td>")).concat();
+    assert!(page.contains(&cells(["3", "5", "yes", "1", "1", "1", "0"])));
+    assert!(page.contains(&cells(["2", "2", "no", "1", "1", "0", "0"])));
 }
 
 #[test]
@@ -59,6 +76,7 @@ fn four_thousand(board: [usize; 2]) -> Vec<(String, String)> {
             1,
             stack * 10,
             strip * 10,
+            0,
         ]);
     }
     output += &line(&[8, 4000 / (across * upwards), 0, 1, 0]);

@@ -8,19 +8,21 @@ use crate::columns::{group, thousands, COLUMNS};
 const KINDS: [&[&str]; 8] = [
     &[],
     &["1", "stages", "exact", "W", "H", "n"],
-    &["2", "type", "width", "height", "demand"],
-    &["3", "plate", "item", "count"],
+    &["2", "type", "width", "height", "demand", "leave"],
+    &["3", "plate", "item", "count", "turn"],
     &["4", "D", "n", "m"],
     &["5", "type", "price"],
     &["6", "plate type", "price"],
-    &["7", "board", "strip", "stack", "place", "type", "x", "y"],
+    &[
+        "7", "board", "strip", "stack", "place", "type", "x", "y", "turn",
+    ],
 ];
 
 /// The limits of a number by its name; n is the job's number of item types.
 fn limits(kind: usize, name: &str, types: usize) -> Option<[usize; 2]> {
     Some(match name {
         "stages" => [2, 3],
-        "exact" => [0, 1],
+        "exact" | "leave" | "turn" => [0, 1],
         "W" | "H" | "width" | "height" => [1, 10_000],
         "n" => [1, 40],
         "demand" | "count" | "board" | "strip" | "stack" | "place" => [1, 4_000],

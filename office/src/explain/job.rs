@@ -10,14 +10,21 @@ use crate::listing::Listing;
 pub fn larger(sent: &Sent, item_type: usize) -> Option<Told> {
     let job = sent.job()?;
     let item = *job.items.get(item_type.checked_sub(1)?)?;
-    let wide = item.width > job.width;
-    (wide || item.height > job.height).then(|| {
+    (!job.fits(item_type)).then(|| {
+        let turned = match item.leave {
+            true => "it does not fit turned either",
+            false => "it has no leave to be turned",
+        };
         let fault = format!(
-            "the item is {} by {}, the board {} by {}; items are not turned",
+            "the item is {} by {}, the board {} by {}; {turned}",
             item.width, item.height, job.width, job.height
         );
+        let leave = match item.leave {
+            true => "",
+            false => " (leave 1 if the item may be turned)",
+        };
         let cure = format!(
-            "Correct line {}, swap the item's sides if it may be turned, or take a larger board",
+            "Correct line {}{leave}, or take a larger board",
             item_type + 1
         );
         Told::new(format!("item type {item_type}"), fault, cure)

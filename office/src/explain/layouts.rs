@@ -1,4 +1,4 @@
-//! Refusals 15 to 18: the layouts of a fold text.
+//! Refusals 15 to 18: the layouts of a fold text. Items are measured as they lie.
 
 use super::sent::Sent;
 use super::Told;
@@ -10,16 +10,30 @@ pub struct Row {
     pub line: usize,
     pub turn: [usize; 4],
     pub item: usize,
+    pub turned: bool,
     pub at: [usize; 2],
+}
+
+impl Row {
+    /// The width of the item as it lies.
+    fn width(&self, job: &Job) -> usize {
+        job.sides(self.item, self.turned)[0]
+    }
+
+    /// The height of the item as it lies.
+    fn height(&self, job: &Job) -> usize {
+        job.sides(self.item, self.turned)[1]
+    }
 }
 
 /// The lines of kind 7.
 pub fn rows(sent: &Sent) -> Vec<Row> {
     let row = |line| match sent.numbers(line)?[..] {
-        [7, board, strip, stack, place, item, x, y] => Some(Row {
+        [7, board, strip, stack, place, item, x, y, turn] => Some(Row {
             line,
             turn: [board, strip, stack, place],
             item,
+            turned: turn == 1,
             at: [x, y],
         }),
         _ => None,
@@ -48,19 +62,13 @@ impl Strip {
 
     /// The heights of the stacks: sums of their items' heights.
     fn heights(&self, job: &Job) -> Vec<usize> {
-        let height = |stack: &Vec<Row>| stack.iter().map(|row| job.item(row.item).height).sum();
+        let height = |stack: &Vec<Row>| stack.iter().map(|row| row.height(job)).sum();
         self.stacks.iter().map(height).collect()
     }
 
     /// The widths of the stacks: each that of its widest item.
     fn widths(&self, job: &Job) -> Vec<usize> {
-        let width = |stack: &Vec<Row>| {
-            stack
-                .iter()
-                .map(|row| job.item(row.item).width)
-                .max()
-                .unwrap_or(0)
-        };
+        let width = |stack: &Vec<Row>| stack.iter().map(|row| row.width(job)).max().unwrap_or(0);
         self.stacks.iter().map(width).collect()
     }
 
@@ -125,7 +133,7 @@ pub fn stage_rule(sent: &Sent, line: usize) -> Option<Told> {
     let same = |stack: &Vec<Row>| {
         stack
             .iter()
-            .all(|row| job.item(row.item).width == job.item(stack[0].item).width)
+            .all(|row| row.width(&job) == stack[0].width(&job))
     };
     let full = strip
         .stacks
@@ -184,10 +192,8 @@ pub fn position(sent: &Sent, line: usize) -> Option<Told> {
         .get(stack - 1)?
         .iter()
         .take_while(|lower| lower.line < line);
-    let y = below(&rows, &job, board, number)
-        + lower
-            .map(|lower| job.item(lower.item).height)
-            .sum::<usize>();
+    let y =
+        below(&rows, &job, board, number) + lower.map(|lower| lower.height(&job)).sum::<usize>();
     (row.at != [x, y]).then(|| {
         let fault = format!(
             "x and y are {} and {}, the item's position is {x} and {y}",

@@ -7,10 +7,10 @@ use crate::job::{Job, MOST_PIECES};
 use crate::listing::Listing;
 use crate::plan::{balance, cut_of_type};
 
-/// Plate type, item type and count of a line 3.
-fn plan_line(sent: &Sent, line: usize) -> Option<[usize; 3]> {
+/// Plate type, item type, count and turn of a line 3.
+fn plan_line(sent: &Sent, line: usize) -> Option<[usize; 4]> {
     match sent.numbers(line)?[..] {
-        [3, plate, item, count] => Some([plate, item, count]),
+        [3, plate, item, count, turn] => Some([plate, item, count, turn]),
         _ => None,
     }
 }
@@ -18,51 +18,89 @@ fn plan_line(sent: &Sent, line: usize) -> Option<[usize; 3]> {
 /// Refusal 8.
 pub fn no_such_cut(sent: &Sent, line: usize) -> Option<Told> {
     let (job, listing) = sent.listing()?;
-    let [plate, item, _] = plan_line(sent, line)?;
-    if item == 0 || item > job.items.len() || listing.cut_of(plate, item).is_some() {
+    let [plate, item, _, turn] = plan_line(sent, line)?;
+    let turned = turn == 1;
+    if item == 0 || item > job.items.len() || listing.cut_of(plate, item, turned).is_some() {
         return None;
     }
-    let fault = why_no_cut(&job, &listing, plate, item);
+    let fault = why_no_cut(&job, &listing, plate, item, turned);
     let cure = "Number plate types as docs/FORMAT.md says, and name a cut of the listing";
     Some(Told::new(format!("line {line}"), fault, cure))
 }
 
-/// Why an item type cannot be cut from a plate type.
-fn why_no_cut(job: &Job, listing: &Listing, plate: usize, item_type: usize) -> String {
+/// Why an item type cannot be cut from a plate type, turned or not.
+fn why_no_cut(
+    job: &Job,
+    listing: &Listing,
+    plate: usize,
+    item_type: usize,
+    turned: bool,
+) -> String {
     let Some(there) = listing.plates.get(plate) else {
         return format!(
             "there is no plate type {plate}; this job's run from 0 to {}",
             listing.residual_types()
         );
     };
-    let item = job.item(item_type);
-    let fits = item.width <= there.width && item.height <= there.height;
+    let [width, height] = job.sides(item_type, turned);
+    let fits = width <= there.width && height <= there.height;
     let why = match (fits, job.stages) {
         (false, _) => "does not fit",
         (true, 2) => "is not just as high, as mode 2E asks at stage 2",
         (true, _) => "is not just as wide, as mode 3E asks at stage 3",
     };
+    let turned = if turned { " turned" } else { "" };
     format!(
-        "item type {item_type} ({} by {}) cannot be cut from plate type {plate} ({}): it {why}",
-        item.width,
-        item.height,
+        "item type {item_type}{turned} ({width} by {height}) cannot be cut from plate type {plate} \
+         ({}): it {why}",
         there.words()
     )
+}
+
+/// Refusal 19, on a line of kind 3 or 7.
+pub fn turned(sent: &Sent, line: usize) -> Option<Told> {
+    let job = sent.job()?;
+    let (item_type, turn) = match sent.numbers(line)?[..] {
+        [3, _, item, _, turn] => (item, turn),
+        [7, _, _, _, _, item, _, _, turn] => (item, turn),
+        _ => return None,
+    };
+    let item = *job.items.get(item_type.checked_sub(1)?)?;
+    (turn == 1 && !item.turns()).then(|| {
+        let [width, height] = item.sides(false);
+        let of_type = item_type + 1;
+        let (why, cure) = match width == height {
+            true => (
+                "is square and has no turned cut".to_string(),
+                "Write turn 0".to_string(),
+            ),
+            false => (
+                format!("has no leave to be turned on line {of_type}"),
+                format!("Write turn 0, or leave 1 on line {of_type} if the item may be turned"),
+            ),
+        };
+        let fault = format!("the turn is 1, but item type {item_type} ({width} by {height}) {why}");
+        Told::new(format!("line {line}"), fault, cure)
+    })
 }
 
 /// Refusal 9.
 pub fn not_rising(sent: &Sent, line: usize) -> Option<Told> {
     let (_, listing) = sent.listing()?;
-    let [plate, item, _] = plan_line(sent, line)?;
-    let [plate_before, item_before, _] = plan_line(sent, line.checked_sub(1)?)?;
-    let cut = listing.cut_of(plate, item)?;
-    let before = listing.cut_of(plate_before, item_before)?;
+    let cut_on = |line| {
+        let [plate, item, _, turn] = plan_line(sent, line)?;
+        let cut = listing.cut_of(plate, item, turn == 1)?;
+        Some((cut, plate, item, turn))
+    };
+    let (cut, plate, item, turn) = cut_on(line)?;
+    let (before, ..) = cut_on(line.checked_sub(1)?)?;
     (cut <= before).then(|| {
         let fault = format!(
-            "it names cut {cut} (plate type {plate}, item type {item}), \
+            "it names cut {cut} (plate type {plate}, item type {item}, turn {turn}), \
              the line before it cut {before}"
         );
-        let cure = "Sort the lines of kind 3 by plate type and then by item type, and give each cut one line";
+        let cure = "Sort the lines of kind 3 by plate type, item type and turn, \
+                    and give each cut one line";
         Told::new(format!("line {line}"), fault, cure)
     })
 }
@@ -72,7 +110,7 @@ pub fn total(sent: &Sent) -> Option<Told> {
     let (thing, total) = match sent.is_fold() {
         true => ("lines of kind 7", layouts::rows(sent).len()),
         false => {
-            let count = |line| plan_line(sent, line).map_or(0, |[_, _, count]| count);
+            let count = |line| plan_line(sent, line).map_or(0, |[_, _, count, _]| count);
             ("cuts", (sent.body()..=sent.count()).map(count).sum())
         }
     };
@@ -140,11 +178,11 @@ pub fn overdrawn(sent: &Sent, plate: usize) -> Option<Told> {
             .filter(|cut| cut.kept().any(|kept| kept == plate));
         let pairs: Vec<String> = leave
             .take(4)
-            .map(|cut| format!("{} {}", cut.plate, cut.item))
+            .map(|cut| format!("{} {} {}", cut.plate, cut.item, cut.turn()))
             .collect();
         let cure = format!(
             "Lower the counts of lines with plate {plate}, or raise those of cuts that leave it \
-             (plate, item: {}, ..)",
+             (plate, item, turn: {}, ..)",
             pairs.join("; ")
         );
         Told::new(format!("plate type {plate}"), fault, cure)

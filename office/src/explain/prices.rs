@@ -79,7 +79,8 @@ fn parts(cut: &Cut) -> String {
         .kept()
         .map(|plate| format!("plate type {plate}"))
         .collect();
-    let item = format!("item type {}", cut.item);
+    let turned = if cut.turned { " turned" } else { "" };
+    let item = format!("item type {}{turned}", cut.item);
     [vec![item], kept].concat().join(" and ")
 }
 

@@ -3,7 +3,7 @@
 use super::explain;
 use crate::answer::refusal;
 use crate::columns::line;
-use crate::job::tests::{job, job_a};
+use crate::job::tests::{job, job_a, job_with_leave};
 
 /// Job A and these lines.
 fn text(lines: &[&[usize]]) -> String {
@@ -37,31 +37,31 @@ fn check(texts: &[(String, &str)]) {
 
 #[test]
 fn lines_not_of_the_form() {
-    let whole = text(&[&[3, 0, 1, 2]]);
-    let line_2 = &line(&[2, 1, 5, 4, 2]);
+    let whole = text(&[&[3, 0, 1, 2, 0]]);
+    let line_2 = &line(&[2, 1, 5, 4, 2, 0]);
     check(&[
         (String::new(), "Refusal 1, line 1: the text ends before it. Write there \"1, stages, exact, W, H, n\"."),
         (line(&[1, 2, 0, 9, 7, 2]), "line 2: the text ends before it. Write there \"2, 1, width"),
         (whole.replace('\n', "\r\n"), "line 1: it ends with byte 13"),
         (whole.replacen("        3", "\t3", 1), "a tab stands in column 1"),
         (whole.replacen("        5", "      -5", 1), "\"-\" stands in column"),
-        (whole.replacen(line_2, &line(&[2, 2, 5, 4, 2]), 1), "line 2: its running number must be 1"),
-        (whole.replacen(line_2, &line(&[2, 1, 5, 4]), 1), "line 2: it has 36 columns; 5 numbers take 45"),
+        (whole.replacen(line_2, &line(&[2, 2, 5, 4, 2, 0]), 1), "line 2: its running number must be 1"),
+        (whole.replacen(line_2, &line(&[2, 1, 5, 4, 2]), 1), "line 2: it has 45 columns; 6 numbers take 54"),
         (whole.replacen("        9", "       09", 1), "columns 28 to 36 hold \"       09\""),
         (whole.trim_end().to_string(), "line 4: it does not end with byte 10"),
-        (text(&[&[8, 1, 0, 1, 0]]), "kind 8 does not belong there. Write there \"3, plate, item, count\" or \"4, D, n, m\""),
+        (text(&[&[8, 1, 0, 1, 0]]), "kind 8 does not belong there. Write there \"3, plate, item, count, turn\" or \"4, D, n, m\""),
         (text(&[&[4, 1, 1, 0], &[6, 1, 1]]), "line 5: kind 6 does not belong there. Write there \"5, 1, price\""),
         (text(&[&[4, 1, 1, 0], &[5, 1, 1], &[5, 2, 1]]), "line 6: kind 5 does not belong there. Write there nothing"),
         (text(&[&[4, 1, 2, 5], &[5, 1, 1]]), "line 6: the text ends before it"),
-        (text(&[&[7, 1, 1, 1, 1, 1, 0, 0], &[3, 0, 1, 1]]), "line 5: kind 3 does not belong there"),
+        (text(&[&[7, 1, 1, 1, 1, 1, 0, 0, 0], &[3, 0, 1, 1, 0]]), "line 5: kind 3 does not belong there"),
         (whole + "\n", "line 5: its first nine columns hold no kind"),
     ]);
 }
 
 #[test]
 fn a_text_sent_to_the_other_program() {
-    let plan = text(&[&[3, 0, 1, 2]]);
-    let layouts = text(&[&[7, 1, 1, 1, 1, 1, 0, 0]]);
+    let plan = text(&[&[3, 0, 1, 2, 0]]);
+    let layouts = text(&[&[7, 1, 1, 1, 1, 1, 0, 0, 0]]);
     for (text, answer) in [
         (&plan, reference::fold_text(plan.as_bytes())),
         (&layouts, reference::saw_text(layouts.as_bytes())),
@@ -84,12 +84,12 @@ fn values_outside_their_limits() {
         ),
         (line(&[1, 2, 0, 9, 10_001, 2]), "H is 10,001"),
         (
-            text(&[&[3, 0, 3, 1]]),
+            text(&[&[3, 0, 3, 1, 0]]),
             "line 4: item is 3, outside its limits. Write item from 1 to 2",
         ),
-        (text(&[&[3, 0, 1, 4001]]), "count is 4,001"),
+        (text(&[&[3, 0, 1, 4001, 0]]), "count is 4,001"),
         (text(&[&[4, 10_000, 2, 5]]), "D is 10,000"),
-        (text(&[&[7, 1, 1, 1, 1, 3, 0, 0]]), "type is 3"),
+        (text(&[&[7, 1, 1, 1, 1, 3, 0, 0, 0]]), "type is 3"),
     ]);
 }
 
@@ -99,7 +99,11 @@ fn jobs_and_models() {
     check(&[
         (
             job("2N", [9, 7], &[[7, 9, 1]]).text(),
-            "Refusal 3, item type 1: the item is 7 by 9, the board 9 by 7",
+            "Refusal 3, item type 1: the item is 7 by 9, the board 9 by 7; it has no leave",
+        ),
+        (
+            job_with_leave("2N", [9, 7], &[[5, 8, 1, 1], [8, 10, 1, 1]]).text(),
+            "Refusal 3, item type 2: the item is 8 by 10, the board 9 by 7; it does not fit turned",
         ),
         (
             job("2N", [9, 7], &[[5, 4, 4000], [3, 3, 1]]).text(),
@@ -121,19 +125,39 @@ fn jobs_and_models() {
 fn plans() {
     let exact = job("2E", [9, 7], &[[5, 4, 2], [3, 3, 3], [4, 4, 1]]).text();
     check(&[
-        (text(&[&[3, 1, 1, 1]]), "item type 1 (5 by 4) cannot be cut from plate type 1 (9 by 3, stage 1): it does not fit"),
-        (text(&[&[3, 9, 1, 1]]), "there is no plate type 9; this job's run from 0 to 5"),
-        (exact + &line(&[3, 2, 2, 1]), "Refusal 8, line 5: item type 2 (3 by 3) cannot be cut from plate type 2 (4 by 4, stage 2): it is not just as high"),
-        (text(&[&[3, 0, 2, 1], &[3, 0, 1, 1]]), "Refusal 9, line 5: it names cut 1"),
-        (text(&[&[3, 0, 1, 3000], &[3, 0, 2, 1001]]), "Refusal 10, the whole plan: there are 4,001 cuts"),
+        (text(&[&[3, 1, 1, 1, 0]]), "item type 1 (5 by 4) cannot be cut from plate type 1 (9 by 3, stage 1): it does not fit"),
+        (text(&[&[3, 9, 1, 1, 0]]), "there is no plate type 9; this job's run from 0 to 5"),
+        (exact + &line(&[3, 2, 2, 1, 0]), "Refusal 8, line 5: item type 2 (3 by 3) cannot be cut from plate type 2 (4 by 4, stage 2): it is not just as high"),
+        (text(&[&[3, 0, 2, 1, 0], &[3, 0, 1, 1, 0]]), "Refusal 9, line 5: it names cut 1 (plate type 0, item type 1, turn 0)"),
+        (text(&[&[3, 0, 1, 3000, 0], &[3, 0, 2, 1001, 0]]), "Refusal 10, the whole plan: there are 4,001 cuts"),
         (text(&[]), "Refusal 11, item type 1: it is cut 0 times; 2 are demanded on line 2"),
-        (text(&[&[3, 0, 1, 2], &[3, 1, 2, 1], &[3, 2, 2, 3], &[3, 4, 2, 1]]), "Refusal 12, plate type 2: it is 4 by 4, stage 2, is cut 3 times and arises 2 times"),
+        (text(&[&[3, 0, 1, 2, 0], &[3, 1, 2, 1, 0], &[3, 2, 2, 3, 0], &[3, 4, 2, 1, 0]]), "Refusal 12, plate type 2: it is 4 by 4, stage 2, is cut 3 times and arises 2 times"),
+    ]);
+}
+
+#[test]
+fn turns() {
+    let turning = job_with_leave("2N", [9, 7], &[[5, 4, 2, 1], [3, 3, 3, 1]]).text();
+    let flat = job_with_leave("2N", [5, 3], &[[3, 5, 1, 1]]).text();
+    check(&[
+        (text(&[&[3, 0, 1, 2, 1]]), "Refusal 19, line 4: the turn is 1, but item type 1 (5 by 4) has no leave to be turned on line 2"),
+        (text(&[&[7, 1, 1, 1, 1, 1, 0, 0, 1]]), "Refusal 19, line 4: the turn is 1, but item type 1 (5 by 4) has no leave"),
+        (turning.clone() + &line(&[3, 0, 2, 1, 1]), "Refusal 19, line 4: the turn is 1, but item type 2 (3 by 3) is square"),
+        (turning.clone() + &line(&[3, 0, 2, 1, 2]), "Refusal 2, line 4: turn is 2"),
+        (turning + &line(&[3, 1, 1, 1, 1]), "item type 1 turned (4 by 5) cannot be cut from plate type 1 (9 by 3, stage 1): it does not fit"),
+        (flat.clone() + &line(&[3, 0, 1, 1, 0]), "Refusal 8, line 3: item type 1 (3 by 5) cannot be cut from plate type 0"),
+        (flat + &line(&[7, 1, 1, 1, 1, 1, 0, 0, 0]), "Refusal 17, strip from line 3: it reaches up to 5, the board to 3"),
     ]);
 }
 
 #[test]
 fn prices() {
-    let plan: [&[usize]; 4] = [&[3, 0, 1, 2], &[3, 1, 2, 1], &[3, 2, 2, 1], &[3, 4, 2, 1]];
+    let plan: [&[usize]; 4] = [
+        &[3, 0, 1, 2, 0],
+        &[3, 1, 2, 1, 0],
+        &[3, 2, 2, 1, 0],
+        &[3, 4, 2, 1, 0],
+    ];
     let few: [&[usize]; 2] = [&[4, 1, 1, 0], &[5, 1, 1]];
     let low: [&[usize]; 8] = [
         &[4, 1, 2, 5],
@@ -152,25 +176,25 @@ fn prices() {
 }
 
 /// A fold text of a job and these lines of kind 7.
-fn fold(job: crate::job::Job, lines: &[[usize; 7]]) -> String {
+fn fold(job: crate::job::Job, lines: &[[usize; 8]]) -> String {
     lines.iter().fold(job.text(), |text, numbers| {
         text + &line(&[&[7], &numbers[..]].concat())
     })
 }
 
-const FIRST: [usize; 7] = [1, 1, 1, 1, 1, 0, 0];
+const FIRST: [usize; 8] = [1, 1, 1, 1, 1, 0, 0, 0];
 
 #[test]
 fn stage_rules() {
     let two = job("2E", [9, 7], &[[5, 4, 2], [3, 3, 3]]);
     let three = job("3N", [5, 5], &[[3, 5, 1], [2, 2, 2]]);
     let exact = job("3E", [5, 5], &[[3, 5, 1], [2, 2, 2], [1, 2, 1]]);
-    let single = fold(job_a(), &[FIRST, [1, 1, 1, 2, 2, 0, 4]]);
-    let heights = fold(two, &[FIRST, [1, 1, 2, 1, 2, 5, 0]]);
-    let full = fold(three, &[[1, 1, 1, 1, 2, 0, 0], [1, 1, 1, 2, 2, 0, 2]]);
+    let single = fold(job_a(), &[FIRST, [1, 1, 1, 2, 2, 0, 4, 0]]);
+    let heights = fold(two, &[FIRST, [1, 1, 2, 1, 2, 5, 0, 0]]);
+    let full = fold(three, &[[1, 1, 1, 1, 2, 0, 0, 0], [1, 1, 1, 2, 2, 0, 2, 0]]);
     let widths = fold(
         exact,
-        &[FIRST, [1, 1, 2, 1, 2, 3, 0], [1, 1, 2, 2, 3, 3, 2]],
+        &[FIRST, [1, 1, 2, 1, 2, 3, 0, 0], [1, 1, 2, 2, 3, 3, 2, 0]],
     );
     check(&[
         (
@@ -188,11 +212,13 @@ fn stage_rules() {
 
 #[test]
 fn layouts() {
-    let turn = fold(job_a(), &[[1, 1, 2, 1, 1, 0, 0]]);
-    let across = fold(job_a(), &[FIRST, [1, 1, 2, 1, 1, 5, 0]]);
-    let upwards = fold(job_a(), &[FIRST, [1, 2, 1, 1, 1, 0, 4]]);
-    let position = fold(job_a(), &[FIRST, [1, 1, 2, 1, 2, 5, 1]]);
-    let many: Vec<[usize; 7]> = (1..=4001).map(|board| [board, 1, 1, 1, 1, 0, 0]).collect();
+    let turn = fold(job_a(), &[[1, 1, 2, 1, 1, 0, 0, 0]]);
+    let across = fold(job_a(), &[FIRST, [1, 1, 2, 1, 1, 5, 0, 0]]);
+    let upwards = fold(job_a(), &[FIRST, [1, 2, 1, 1, 1, 0, 4, 0]]);
+    let position = fold(job_a(), &[FIRST, [1, 1, 2, 1, 2, 5, 1, 0]]);
+    let many: Vec<[usize; 8]> = (1..=4001)
+        .map(|board| [board, 1, 1, 1, 1, 0, 0, 0])
+        .collect();
     check(&[
         (
             turn,
@@ -220,13 +246,18 @@ fn layouts() {
 
 #[test]
 fn other_texts_and_numbers_are_told() {
-    let good = text(&[&[3, 0, 1, 2], &[3, 1, 2, 1], &[3, 2, 2, 1], &[3, 4, 2, 1]]);
-    for number in 1..=18 {
+    let good = text(&[
+        &[3, 0, 1, 2, 0],
+        &[3, 1, 2, 1, 0],
+        &[3, 2, 2, 1, 0],
+        &[3, 4, 2, 1, 0],
+    ]);
+    for number in 1..=19 {
         let said = explain(good.as_bytes(), number, 2);
         assert!(
             number == 5 || said.unwrap_err().contains("is it the text that was sent?"),
             "{number}"
         );
     }
-    assert!(explain(b"", 19, 1).unwrap_err().contains("no refusal 19"));
+    assert!(explain(b"", 20, 1).unwrap_err().contains("no refusal 20"));
 }

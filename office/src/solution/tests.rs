@@ -35,10 +35,10 @@ Objective:  boards = 2 (MINimum)
 
    No. Column name       Activity     Lower bound   Upper bound
 ------ ------------    ------------- ------------- -------------
-     1 x_0_1        *              2             0               
-     2 x_0_2        *              0             0               
-     3 x_1_2        *              2             0               
-     4 x_2_2        *              1             0               
+     1 x_0_1_0      *              2             0               
+     2 x_0_2_0      *              0             0               
+     3 x_1_2_0      *              2             0               
+     4 x_2_2_0      *              1             0               
 
 Integer feasibility conditions:
 
@@ -56,8 +56,8 @@ Status:     OPTIMAL
 
    No. Column name  St   Activity     Lower bound   Upper bound    Marginal
 ------ ------------ -- ------------- ------------- ------------- -------------
-     1 x_0_1        B              2             0               
-     6 x_3_2        NL             0             0                           1 
+     1 x_0_1_0      B              2             0               
+     6 x_3_2_0      NL             0             0                           1 
 
 Karush-Kuhn-Tucker optimality conditions:
 ";
@@ -65,10 +65,10 @@ Karush-Kuhn-Tucker optimality conditions:
 #[test]
 fn glpk_printed() {
     let solution = read(PRINTED);
-    assert_eq!(nonzero(&solution, "x_1_2"), (2.0, 3));
+    assert_eq!(nonzero(&solution, "x_1_2_0"), (2.0, 3));
     assert!(solution.duals.is_empty());
     let solution = read(PRINTED_DUALS);
-    assert_eq!(nonzero(&solution, "x_0_1"), (2.0, 1));
+    assert_eq!(nonzero(&solution, "x_0_1_0"), (2.0, 1));
     assert_eq!(solution.duals["item_1"], 1.0);
     assert_eq!(solution.duals["item_2"], 0.0);
     assert_eq!(solution.duals["plate_2"], 0.0);
@@ -77,10 +77,10 @@ fn glpk_printed() {
 #[test]
 fn glpk_plain() {
     let solution = read("c Status\ns mip 8 8 o 2\ni 1 2\nj 1 2\nj 3 2\nj 4 1\nj 5 0\ne o f\n");
-    assert_eq!(nonzero(&solution, "x_2_2"), (1.0, 3));
+    assert_eq!(nonzero(&solution, "x_2_2_0"), (1.0, 3));
     assert!(solution.duals.is_empty());
     let solution = read("s bas 8 8 f f 2\ni 1 l 2 1\ni 4 b 1 0\nj 1 b 2 0\nj 6 l 0 1\ne o f\n");
-    assert_eq!(nonzero(&solution, "x_0_1"), (2.0, 1));
+    assert_eq!(nonzero(&solution, "x_0_1_0"), (2.0, 1));
     assert_eq!(solution.duals["item_1"], 1.0);
     let solution = read("s ipt 8 8 o 2.5\ni 1 2.0 0.9999\nj 1 1.0903 5.9e-10\ne o f\n");
     assert_eq!(solution.duals["item_1"], 0.9999);
@@ -90,11 +90,11 @@ fn glpk_plain() {
 fn cbc() {
     let head = "Optimal - objective value 2.00000000\n";
     let solution = read(&format!(
-        "{head}      0 x_0_1      0      1\n      1 x_0_2      2      1\n**    4 x_3_1      2      0\n"
+        "{head}      0 x_0_1_0      0      1\n      1 x_0_2_0      2      1\n**    4 x_3_1_0      2      0\n"
     ));
-    assert_eq!(nonzero(&solution, "x_3_1"), (2.0, 2));
+    assert_eq!(nonzero(&solution, "x_3_1_0"), (2.0, 2));
     let solution = read(&format!(
-        "{head}      0 item_1      2     1\n      0 x_0_1      0     0\n"
+        "{head}      0 item_1      2     1\n      0 x_0_1_0      0     0\n"
     ));
     assert_eq!(solution.duals["item_1"], 1.0);
 }
@@ -102,11 +102,11 @@ fn cbc() {
 #[test]
 fn names_and_values() {
     let solution = read(
-        "solution status: optimal\nobjective value: 2\nx_0_1   2 \t(obj:1)\nx_2_2  1 (obj:0)\n",
+        "solution status: optimal\nobjective value: 2\nx_0_1_0   2 \t(obj:1)\nx_2_2_0  1 (obj:0)\n",
     );
-    assert_eq!(nonzero(&solution, "x_2_2"), (1.0, 2));
-    let solution = read("# Columns 2\nx_0_1 2\nx_1_2 0\n# Rows 1\nitem_1 2\n# Dual solution values\nitem_1 1\nx_0_1 7\n");
-    assert_eq!(nonzero(&solution, "x_0_1"), (2.0, 1));
+    assert_eq!(nonzero(&solution, "x_2_2_0"), (1.0, 2));
+    let solution = read("# Columns 2\nx_0_1_0 2\nx_1_2_0 0\n# Rows 1\nitem_1 2\n# Dual solution values\nitem_1 1\nx_0_1_0 7\n");
+    assert_eq!(nonzero(&solution, "x_0_1_0"), (2.0, 1));
     assert_eq!(solution.duals["item_1"], 1.0);
 }
 
@@ -115,10 +115,10 @@ fn cplex() {
     let head = "<?xml version = \"1.0\"?>\n<CPLEXSolution version=\"1.2\">\n <header problemName=\"a\"/>\n";
     let solution = read(&format!(
         "{head} <linearConstraints>\n  <constraint name=\"item_1\" index=\"0\" slack=\"0\" dual=\"1\"/>\n \
-         </linearConstraints>\n <variables>\n  <variable name=\"x_0_1\" index=\"0\" value=\"2\"/>\n  \
-         <variable name=\"x_0_2\" index=\"1\" value=\"0\"/>\n </variables>\n</CPLEXSolution>\n"
+         </linearConstraints>\n <variables>\n  <variable name=\"x_0_1_0\" index=\"0\" value=\"2\"/>\n  \
+         <variable name=\"x_0_2_0\" index=\"1\" value=\"0\"/>\n </variables>\n</CPLEXSolution>\n"
     ));
-    assert_eq!(nonzero(&solution, "x_0_1"), (2.0, 1));
+    assert_eq!(nonzero(&solution, "x_0_1_0"), (2.0, 1));
     assert_eq!(solution.duals["item_1"], 1.0);
 }
 
@@ -131,8 +131,11 @@ fn every_fault_is_told() {
         ("s mip 7 8 o 0\n", "7 rows and 8 columns"),
         ("s mip 8 8 o 0\nj 9 1\n", "not the model's"),
         ("Infeasible - objective value 0\n", "no solution"),
-        ("Optimal - objective value 2\n 0 x_9_9 1 0\n", "no such cut"),
-        ("Optimal - objective value 2\n 0 x_0_1\n", "not CBC's"),
+        (
+            "Optimal - objective value 2\n 0 x_9_9_0 1 0\n",
+            "no such cut",
+        ),
+        ("Optimal - objective value 2\n 0 x_0_1_0\n", "not CBC's"),
         ("hello\n", "no column of the job's model"),
         ("<?xml?>\n", "no variable of the job's model"),
     ] {

@@ -3,6 +3,7 @@
 use super::inputs::Inputs;
 use crate::buffers::{COUNTS, CUTS, PLACEMENTS, PLATES};
 use crate::calls::{fold, list, test_plan, test_prices, unfold, Listed, Unfolded};
+use crate::layout::PLACEMENT_NUMBERS;
 use crate::prices::Bound;
 use crate::refusal::Refusal;
 
@@ -30,7 +31,7 @@ pub fn of(job: &[u16], inputs: &Inputs) -> Result<Outcome, Refusal> {
     let boards = test_plan(job, &inputs.counts, &mut plates, &mut cuts)?;
     let bound = test_prices(job, &inputs.prices, &mut plates, &mut cuts)?;
     let unfolded = unfold(job, &inputs.counts, &mut plates, &mut cuts, &mut placements)?;
-    placements.truncate(7 * unfolded.pieces as usize);
+    placements.truncate(PLACEMENT_NUMBERS * unfolded.pieces as usize);
     let folded = fold(job, &placements, &mut plates, &mut cuts, &mut counts)?;
     Ok(Outcome {
         listed,

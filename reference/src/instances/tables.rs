@@ -2,6 +2,7 @@
 //! published instance.
 
 use super::inputs::Inputs;
+use super::leave;
 use super::limit_jobs::limit_jobs;
 use super::outcome::{self, Outcome};
 use super::read::Instance;
@@ -45,6 +46,8 @@ pub fn documents() -> [Document; 2] {
         let document = if has_periods { &mut second } else { &mut first };
         document.push_str(&section(source, rows));
     }
+    let sources: Vec<&Source> = tables.iter().map(|(source, _)| source).collect();
+    first.push_str(&leave::section(&sources));
     first.push_str(&limits());
     [("INSTANCES.md", first), ("INSTANCES-004.md", second)]
         .map(|(name, text)| Document { name, text })

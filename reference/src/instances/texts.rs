@@ -2,7 +2,8 @@
 
 use super::inputs::Inputs;
 use crate::columns::write_line;
-use crate::job::Job;
+use crate::job::{Job, ITEM_NUMBERS};
+use crate::layout::PLACEMENT_NUMBERS;
 use crate::listing::{Listing, FULL};
 use crate::refusal::Refusal;
 
@@ -34,8 +35,8 @@ fn job_lines(job: &[u16]) -> Vec<u8> {
     let (head, items) = job.split_at(5);
     let mut text = Vec::new();
     write_words(&mut text, 1, head);
-    for (number, item) in (1..).zip(items.chunks(3)) {
-        write_words(&mut text, 2, &[number, item[0], item[1], item[2]]);
+    for (number, item) in (1..).zip(items.chunks(ITEM_NUMBERS)) {
+        write_words(&mut text, 2, &[&[number], item].concat());
     }
     text
 }
@@ -46,7 +47,8 @@ pub fn plan_lines(job: &[u16], counts: &[u16]) -> Result<Vec<u8>, Refusal> {
     let mut text = Vec::new();
     for (cut, &count) in listing.cuts.iter().zip(counts) {
         if count > 0 {
-            write_words(&mut text, 3, &[cut.plate, cut.item, count]);
+            let item = cut.position;
+            write_words(&mut text, 3, &[cut.plate, item.item, count, item.turn()]);
         }
     }
     Ok(text)
@@ -55,7 +57,7 @@ pub fn plan_lines(job: &[u16], counts: &[u16]) -> Result<Vec<u8>, Refusal> {
 /// Lines of kind 7.
 pub fn layout_lines(layouts: &[u16]) -> Vec<u8> {
     let mut text = Vec::new();
-    for line in layouts.chunks(7) {
+    for line in layouts.chunks(PLACEMENT_NUMBERS) {
         write_words(&mut text, 7, line);
     }
     text

@@ -16,7 +16,8 @@ use crate::common::texts::{
 use reference::listing::FULL;
 use reference::{fold_text, saw_text, Job, Listing, Refusal};
 
-/// A random job whose board or demands are now and then such that the job row refuses it.
+/// A random job, and the same with a board or demands that the job row refuses, or with a type's
+/// leave changed, now and then.
 fn random_faulty_job(random: &mut Random) -> (Job, Job) {
     let good = random_job(random);
     let mut faulty = good.clone();
@@ -27,10 +28,13 @@ fn random_faulty_job(random: &mut Random) -> (Job, Job) {
     if random.once_in(12) {
         faulty.items[0].demand = 4_000;
     }
+    if random.once_in(6) {
+        faulty.items[0].leave ^= true;
+    }
     (good, faulty)
 }
 
-/// A line of kind 3 as plate, item, count.
+/// A line of kind 3 as plate, item word, count.
 type CountLine = [u16; 3];
 
 /// The lines of a plan, now and then with one changed, doubled, moved or taken away.
@@ -41,11 +45,12 @@ fn random_count_lines(random: &mut Random, cuts: &[[u16; 4]], counts: &[u16]) ->
         .collect();
     while random.once_in(2) && !lines.is_empty() {
         let [from, to] = [0, 0].map(|_: i32| random.below(lines.len()));
-        match random.below(5) {
+        match random.below(6) {
             0 => lines.swap(from, to),
             1 => lines.insert(to, lines[from]),
             2 => drop(lines.remove(from)),
             3 => lines[from][0] = random.between(0, 9),
+            4 => lines[from][1] ^= 1,
             _ => lines[from][2] = random.pick(&[1, 2, 3, 50, 4_000]),
         }
     }
@@ -80,9 +85,17 @@ fn saw_answer(
     lines: &[CountLine],
     prices: Option<&[u16]>,
 ) -> Result<Vec<u8>, Refusal> {
+    let first = u32::from(words[4]) + 2;
+    let without_leave = lines.iter().position(|&[_, word, _]| {
+        let item = &words[4 * usize::from(word / 2) + 1..][..4];
+        word % 2 == 1 && (item[3] == 0 || item[0] == item[1])
+    });
+    if let Some(index) = without_leave {
+        return refused(19, first + index as u32);
+    }
     lent.list(words)?;
     let (_, cuts) = plain::listing(words);
-    let counts = counts_of(&cuts, lines, u32::from(words[4]) + 2)?;
+    let counts = counts_of(&cuts, lines, first)?;
     let boards = lent.unfold(words, &counts)?.boards;
     let mut output = layout_text(&lent.lines());
     let last = match prices {
@@ -131,7 +144,7 @@ fn saw_texts_and_calls() {
 }
 
 /// The answer that the calls give to the numbers of a fold text.
-fn fold_answer(lent: &mut Lent, words: &[u16], lines: &[[u16; 7]]) -> Vec<u8> {
+fn fold_answer(lent: &mut Lent, words: &[u16], lines: &[[u16; 8]]) -> Vec<u8> {
     match lent.fold(words, lines) {
         Ok(_) => plan_text(&plain::listing(words).1, &lent.counts),
         Err(refused) if refused.number >= 15 => {
@@ -152,10 +165,11 @@ fn fold_texts_and_calls() {
         let mut lines = check::lines(&good, &random_set(&mut random, &good));
         while random.once_in(2) && !lines.is_empty() {
             let index = random.below(lines.len());
-            match random.below(4) {
+            match random.below(5) {
                 0 => drop(lines.remove(index)),
                 1 => lines[index][4] = random.between(1, words[4]),
                 2 => lines[index][random.pick(&[5, 6])] = random.between(0, 9),
+                3 => lines[index][7] ^= 1,
                 _ => lines[index][random.below(4)] = random.between(1, 3),
             }
         }

@@ -7,12 +7,12 @@ use crate::common::plain;
 use crate::common::refused;
 use reference::{Mode, Refusal};
 
-const LINES: [[u16; 7]; 5] = [
-    [1, 1, 1, 1, 1, 0, 0],
-    [1, 1, 2, 1, 2, 5, 0],
-    [1, 2, 1, 1, 2, 0, 4],
-    [1, 2, 2, 1, 2, 3, 4],
-    [2, 1, 1, 1, 1, 0, 0],
+const LINES: [[u16; 8]; 5] = [
+    [1, 1, 1, 1, 1, 0, 0, 0],
+    [1, 1, 2, 1, 2, 5, 0, 0],
+    [1, 2, 1, 1, 2, 0, 4, 0],
+    [1, 2, 2, 1, 2, 3, 4, 0],
+    [2, 1, 1, 1, 1, 0, 0, 0],
 ];
 
 /// The full sizes in the order that 5 names: plates, cuts, counts, placements.

@@ -31,14 +31,14 @@ fn a_job_a_has_5_residual_types_and_8_cuts() {
         [3, 3, 2],
     ];
     let cuts = [
-        [0, 1, 1, 2],
-        [0, 2, 3, 4],
-        [1, 2, 0, 4],
-        [2, 2, 0, 0],
-        [3, 1, 0, 2],
-        [3, 2, 0, 4],
-        [4, 2, 0, 5],
-        [5, 2, 0, 0],
+        [0, 2, 1, 2],
+        [0, 4, 3, 4],
+        [1, 4, 0, 4],
+        [2, 4, 0, 0],
+        [3, 2, 0, 2],
+        [3, 4, 0, 4],
+        [4, 4, 0, 5],
+        [5, 4, 0, 0],
     ];
     assert_eq!(lent.plates[..18], plates.concat());
     assert_eq!(lent.cuts[..32], cuts.concat());
@@ -139,9 +139,9 @@ fn l_job_b_lies_on_one_board() {
     };
     assert_eq!(lent.unfold(&job_b(), &counts), Ok(unfolded));
     let lines = [
-        [1, 1, 1, 1, 1, 0, 0],
-        [1, 1, 2, 1, 2, 3, 0],
-        [1, 1, 2, 2, 2, 3, 2],
+        [1, 1, 1, 1, 1, 0, 0, 0],
+        [1, 1, 2, 1, 2, 3, 0, 0],
+        [1, 1, 2, 2, 2, 3, 2, 0],
     ];
     assert_eq!(lent.lines(), lines);
     assert_eq!(lent.fold(&job_b(), &lines), Ok(1));

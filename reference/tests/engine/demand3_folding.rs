@@ -4,6 +4,7 @@
 use crate::common::check;
 use crate::common::jobs::{random_job_in, random_large_job, words_of};
 use crate::common::lent::Lent;
+use crate::common::plain;
 use crate::common::random::Random;
 use crate::common::sets::random_set;
 use reference::folding::fold;
@@ -18,7 +19,7 @@ fn assert_folding(lent: &mut Lent, job: &Job, listing: &Listing, set: &[Board]) 
     assert!(set.iter().all(|board| keeps_rules(job, board)));
     let lines = check::lines(job, set);
     check::rectangles_apart(job, &lines);
-    let structured: Vec<[u16; 7]> = placements(job, set).iter().map(Placement::words).collect();
+    let structured: Vec<[u16; 8]> = placements(job, set).iter().map(Placement::words).collect();
     assert_eq!(structured, lines);
     let boards = set.len() as u32;
     assert_eq!(lent.fold(&words, &lines), Ok(boards));
@@ -27,11 +28,16 @@ fn assert_folding(lent: &mut Lent, job: &Job, listing: &Listing, set: &[Board]) 
     assert_eq!(lent.test_plan(&words, &counts), Ok(boards));
     let laid = check::laid(job, &lines);
     assert_eq!(cut_of_type(job, listing, &counts), laid);
+    let laid_in_turns = check::laid_in_turns(job, &lines);
+    let cuts = plain::listing(&words).1;
+    let cut_in_turns = check::cut_in_turns(job, &cuts, &counts);
+    assert_eq!(cut_in_turns, laid_in_turns);
     // The unfolding of the plan is another such set.
     let unfolded = lent.unfold(&words, &counts).unwrap();
     assert_eq!(unfolded.boards, boards);
     let unfolded = lent.lines();
     assert_eq!(check::laid(job, &unfolded), laid);
+    assert_eq!(check::laid_in_turns(job, &unfolded), laid_in_turns);
     assert_eq!(lent.fold(&words, &unfolded), Ok(boards));
     assert_eq!(lent.counts[..counts.len()], counts);
 }
@@ -40,7 +46,7 @@ fn assert_folding(lent: &mut Lent, job: &Job, listing: &Listing, set: &[Board]) 
 fn cut_of_type(job: &Job, listing: &Listing, counts: &[u16]) -> Vec<u32> {
     let mut cut_of_type = vec![0; job.items.len()];
     for (cut, &count) in listing.cuts.iter().zip(counts) {
-        cut_of_type[usize::from(cut.item) - 1] += u32::from(count);
+        cut_of_type[usize::from(cut.position.item) - 1] += u32::from(count);
     }
     cut_of_type
 }
@@ -49,7 +55,7 @@ fn cut_of_type(job: &Job, listing: &Listing, counts: &[u16]) -> Vec<u32> {
 fn fold_random_sets(mode: Mode, seed: u64) {
     let mut random = Random::new(seed);
     let mut lent = Lent::new();
-    let mut stacked = 0;
+    let [mut stacked, mut turned] = [0; 2];
     for _ in 0..6_000 {
         let job = random_job_in(&mut random, mode);
         let listing = Listing::walk(&job, FULL).unwrap();
@@ -57,7 +63,10 @@ fn fold_random_sets(mode: Mode, seed: u64) {
         assert_folding(&mut lent, &job, &listing, &set);
         let stacks = set.iter().flatten().flatten();
         stacked += stacks.filter(|stack| stack.len() > 1).count();
+        let pieces = set.iter().flatten().flatten().flatten();
+        turned += pieces.filter(|piece| piece.turned).count();
     }
+    assert!(turned > 5_000, "{turned} pieces are turned");
     assert_eq!(stacked > 1_000, !mode.is_two_stage());
 }
 

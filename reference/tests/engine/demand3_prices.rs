@@ -30,7 +30,7 @@ fn plain_test(listing: &Listing, prices: &Prices) -> Option<u32> {
     let price = |plate: u16| u32::from(words[residuals + usize::from(plate) - 1]);
     let kept = |plate: u16| if plate == 0 { 0 } else { price(plate) };
     let over = listing.cut_words().chunks(4).position(|cut| {
-        let spent = u32::from(words[usize::from(cut[1])]) + kept(cut[2]) + kept(cut[3]);
+        let spent = u32::from(words[usize::from(cut[1] / 2)]) + kept(cut[2]) + kept(cut[3]);
         let limit = match cut[0] {
             0 => u32::from(words[0]),
             plate => price(plate),

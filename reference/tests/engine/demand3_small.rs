@@ -1,22 +1,28 @@
 //! Demand 3 without chance: all boards and all small plans of a few small jobs.
 
 use crate::common::check;
-use crate::common::jobs::job;
+use crate::common::jobs::job_with_leave;
 use crate::common::lent::Lent;
 use crate::common::plain;
 use reference::layout::keeps_rules;
-use reference::{Board, Job, Mode, Stack, Strip};
+use reference::{Board, Job, Mode, Position, Stack, Strip};
 use std::collections::HashSet;
 
-/// Small boards and sides of two item types.
-const SMALL: [([u16; 2], [[u16; 3]; 2]); 7] = [
-    ([3, 3], [[1, 2, 1], [2, 1, 1]]),
-    ([3, 3], [[1, 3, 1], [1, 1, 1]]),
-    ([4, 2], [[2, 2, 1], [1, 1, 1]]),
-    ([2, 4], [[2, 1, 1], [1, 2, 1]]),
-    ([4, 3], [[2, 3, 1], [1, 1, 1]]),
-    ([5, 3], [[2, 1, 1], [1, 2, 1]]),
-    ([4, 4], [[1, 2, 1], [2, 2, 1]]),
+/// Small boards, and sides, demand and leave of two item types: without leave, with it, square
+/// with it, and of a type that fits the board only turned.
+const SMALL: [([u16; 2], [[u16; 4]; 2]); 12] = [
+    ([3, 3], [[1, 2, 1, 0], [2, 1, 1, 0]]),
+    ([3, 3], [[1, 3, 1, 0], [1, 1, 1, 0]]),
+    ([4, 2], [[2, 2, 1, 0], [1, 1, 1, 0]]),
+    ([2, 4], [[2, 1, 1, 0], [1, 2, 1, 0]]),
+    ([4, 3], [[2, 3, 1, 0], [1, 1, 1, 0]]),
+    ([5, 3], [[2, 1, 1, 0], [1, 2, 1, 0]]),
+    ([4, 4], [[1, 2, 1, 0], [2, 2, 1, 0]]),
+    ([3, 3], [[1, 2, 1, 1], [2, 2, 1, 1]]),
+    ([4, 2], [[2, 3, 1, 1], [1, 1, 1, 1]]),
+    ([2, 4], [[3, 1, 1, 1], [1, 2, 1, 0]]),
+    ([3, 3], [[1, 2, 1, 1], [1, 3, 1, 1]]),
+    ([4, 3], [[1, 3, 1, 1], [2, 2, 1, 0]]),
 ];
 
 /// All sequences of the parts whose measures add up to at most the room, the empty one too.
@@ -35,8 +41,13 @@ fn sequences<T: Clone>(parts: &[(T, u16)], room: u16) -> Vec<Vec<T>> {
 
 /// All boards, whatever the stage rule, whose stacks and strips fit the board.
 fn all_boards(structured: &Job) -> Vec<Board> {
-    let item = |number: u16| structured.item(number);
-    let items: Vec<(u16, u16)> = vec![(1, item(1).height), (2, item(2).height)];
+    let item = |position: Position| structured.sides(position);
+    let positions = [1, 2].map(|number| [Position::unturned(number), Position::turned(number)]);
+    let positions = positions.into_iter().flatten();
+    let permitted = positions.filter(|&position| structured.permits(position));
+    let items: Vec<(Position, u16)> = permitted
+        .map(|position| (position, item(position).height))
+        .collect();
     let filled = |stack: &Stack| !stack.is_empty();
     let stacks: Vec<Stack> = sequences(&items, structured.height)
         .into_iter()
@@ -69,17 +80,19 @@ fn all_boards(structured: &Job) -> Vec<Board> {
 /// Folds a board, followed by one board for each type so that the demands are met.
 fn assert_board_folds(lent: &mut Lent, words: &[u16], board: &Board) {
     let structured = Job::from_words(words).unwrap();
-    let set = [board.clone(), vec![vec![vec![1]]], vec![vec![vec![2]]]];
+    let alone = |number: u16| {
+        let mut positions = structured.positions_of(number);
+        let fitting = positions.find(|&position| structured.fits(position));
+        vec![vec![vec![fitting.unwrap()]]]
+    };
+    let set = [board.clone(), alone(1), alone(2)];
     let lines = check::lines(&structured, &set);
     assert_eq!(lent.fold(words, &lines), Ok(3));
     let cuts = plain::listing(words).1;
     let counts = lent.counts[..cuts.len()].to_vec();
     assert_eq!(plain::accepts(words, &counts), Some(3));
-    let mut cut_of_type = vec![0; 2];
-    for (cut, &count) in cuts.iter().zip(&counts) {
-        cut_of_type[usize::from(cut[1]) - 1] += u32::from(count);
-    }
-    assert_eq!(cut_of_type, check::laid(&structured, &lines));
+    let cut_in_turns = check::cut_in_turns(&structured, &cuts, &counts);
+    assert_eq!(cut_in_turns, check::laid_in_turns(&structured, &lines));
 }
 
 #[test]
@@ -88,7 +101,7 @@ fn all_boards_of_small_jobs() {
     let (mut folded, mut refused) = (0, 0);
     for mode in Mode::ALL {
         for (sides, items) in SMALL {
-            let words = job(mode, sides, &items);
+            let words = job_with_leave(mode, sides, &items);
             let structured = Job::from_words(&words).unwrap();
             for board in all_boards(&structured) {
                 let keeps = check::keeps_rules(&structured, std::slice::from_ref(&board));
@@ -129,7 +142,7 @@ fn all_small_plans_of_small_jobs() {
     let mut accepted = 0;
     for mode in Mode::ALL {
         for (sides, items) in SMALL {
-            let words = job(mode, sides, &items);
+            let words = job_with_leave(mode, sides, &items);
             let structured = Job::from_words(&words).unwrap();
             let cuts = plain::listing(&words).1.len();
             let most = if cuts > 10 { 3 } else { 4 };

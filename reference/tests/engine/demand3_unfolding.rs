@@ -4,6 +4,7 @@
 use crate::common::check;
 use crate::common::jobs::{random_job_in, random_large_job, words_of};
 use crate::common::lent::Lent;
+use crate::common::plain;
 use crate::common::plans::random_plan;
 use crate::common::random::Random;
 use reference::layout::{keeps_rules, placements};
@@ -17,17 +18,17 @@ fn cut_and_opened(job: &Job, listing: &Listing, counts: &[u16]) -> (Vec<u32>, u3
     let mut cut_of_type = vec![0; job.items.len()];
     let mut opened = 0;
     for (cut, &count) in listing.cuts.iter().zip(counts) {
-        cut_of_type[usize::from(cut.item) - 1] += u32::from(count);
+        cut_of_type[usize::from(cut.position.item) - 1] += u32::from(count);
         opened += if cut.plate == 0 { u32::from(count) } else { 0 };
     }
     (cut_of_type, opened)
 }
 
 /// The structured unfolding spends every count, and its set is the lines' set.
-fn assert_structured(job: &Job, listing: &Listing, counts: &[u16], lines: &[[u16; 7]]) {
+fn assert_structured(job: &Job, listing: &Listing, counts: &[u16], lines: &[[u16; 8]]) {
     let unfolding = unfold(job, listing, counts);
     assert!(unfolding.left.iter().all(|&count| count == 0));
-    let words: Vec<[u16; 7]> = unfolding.placements.iter().map(Placement::words).collect();
+    let words: Vec<[u16; 8]> = unfolding.placements.iter().map(Placement::words).collect();
     assert_eq!(words, lines);
     let set = set_of(&unfolding.placements);
     assert_eq!(set, check::set_in_turn(lines));
@@ -36,7 +37,7 @@ fn assert_structured(job: &Job, listing: &Listing, counts: &[u16], lines: &[[u16
 }
 
 /// The lines are a set of layouts with these boards and these numbers of items.
-fn assert_set(job: &Job, lines: &[[u16; 7]], boards: u32, cut_of_type: &[u32]) -> Vec<Board> {
+fn assert_set(job: &Job, lines: &[[u16; 8]], boards: u32, cut_of_type: &[u32]) -> Vec<Board> {
     let set = check::set_in_turn(lines);
     assert!(check::keeps_rules(job, &set));
     assert_eq!(check::lines(job, &set), lines);
@@ -59,6 +60,9 @@ fn assert_unfolding(lent: &mut Lent, job: &Job, listing: &Listing, counts: &[u16
     assert_eq!(unfolded.pieces as usize, lines.len());
     assert_eq!(unfolded.pieces, cut_of_type.iter().sum::<u32>());
     assert_set(job, &lines, opened, &cut_of_type);
+    let cuts = plain::listing(&words).1;
+    let cut_in_turns = check::cut_in_turns(job, &cuts, counts);
+    assert_eq!(check::laid_in_turns(job, &lines), cut_in_turns);
     assert_structured(job, listing, counts, &lines);
     assert_eq!(lent.fold(&words, &lines), Ok(opened));
     assert_eq!(lent.counts[..counts.len()], *counts);
@@ -68,15 +72,17 @@ fn assert_unfolding(lent: &mut Lent, job: &Job, listing: &Listing, counts: &[u16
 fn unfold_random_plans(mode: Mode, seed: u64) {
     let mut random = Random::new(seed);
     let mut lent = Lent::new();
-    let mut pieces = 0;
+    let [mut pieces, mut turned] = [0; 2];
     for _ in 0..6_000 {
         let job = random_job_in(&mut random, mode);
         let listing = Listing::walk(&job, FULL).unwrap();
         let counts = random_plan(&mut random, &job, &listing);
         assert_unfolding(&mut lent, &job, &listing, &counts);
-        pieces += lent.lines().len();
+        let lines = lent.lines();
+        pieces += lines.len();
+        turned += lines.iter().filter(|line| line[7] == 1).count();
     }
-    assert!(pieces > 30_000);
+    assert!(pieces > 30_000 && turned > 5_000, "{pieces}, {turned}");
 }
 
 #[test]

@@ -14,11 +14,11 @@ fn counts_are_not_spent_plate_type_by_plate_type() {
     let mut lent = Lent::new();
     lent.unfold(&job_a(), &[1, 1, 0, 2, 1, 0, 0, 0]).unwrap();
     let lines = [
-        [1, 1, 1, 1, 1, 0, 0],
-        [1, 1, 2, 1, 2, 5, 0],
-        [2, 1, 1, 1, 2, 0, 0],
-        [2, 2, 1, 1, 1, 0, 3],
-        [2, 2, 2, 1, 2, 5, 3],
+        [1, 1, 1, 1, 1, 0, 0, 0],
+        [1, 1, 2, 1, 2, 5, 0, 0],
+        [2, 1, 1, 1, 2, 0, 0, 0],
+        [2, 2, 1, 1, 1, 0, 3, 0],
+        [2, 2, 2, 1, 2, 5, 3, 0],
     ];
     assert_eq!(lent.lines(), lines);
 }
@@ -57,7 +57,7 @@ fn assert_fewest(demand: u16, counts: [u32; 3], last: [u32; 5]) {
     let words = job(Mode::TwoNonExact, [3, 1], &[[1, 1, demand]]);
     let mut text = job_text(&words);
     for (plate, count) in (0..).zip(counts) {
-        text.extend(lines(&[&[3, plate, 1, count]]));
+        text.extend(lines(&[&[3, plate, 1, count, 0]]));
     }
     text.extend(lines(&[&[4, 3, 1, 2], &[5, 1, 1], &[6, 1, 2], &[6, 2, 1]]));
     let output = saw_text(&text);
@@ -97,19 +97,19 @@ fn a_three_exact_stack_has_one_width_and_a_strip_many() {
     // The stack beside the post: 3 by 2 twice; a second strip of 2 by 2 twice, beside each other.
     let words = job(Mode::ThreeExact, [4, 8], &[[1, 6, 1], [3, 2, 1], [2, 2, 1]]);
     let lines = [
-        [1, 1, 1, 1, 1, 0, 0],
-        [1, 1, 2, 1, 2, 1, 0],
-        [1, 1, 2, 2, 2, 1, 2],
-        [1, 1, 2, 3, 2, 1, 4],
-        [1, 2, 1, 1, 3, 0, 6],
-        [1, 2, 2, 1, 3, 2, 6],
+        [1, 1, 1, 1, 1, 0, 0, 0],
+        [1, 1, 2, 1, 2, 1, 0, 0],
+        [1, 1, 2, 2, 2, 1, 2, 0],
+        [1, 1, 2, 3, 2, 1, 4, 0],
+        [1, 2, 1, 1, 3, 0, 6, 0],
+        [1, 2, 2, 1, 3, 2, 6, 0],
     ];
     let mut lent = Lent::new();
     assert_eq!(lent.fold(&words, &lines), Ok(1));
     let counts = lent.counts.clone();
     assert_eq!(lent.test_plan(&words, &counts), Ok(1));
     let mut two_widths = lines;
-    two_widths[3] = [1, 1, 2, 3, 3, 1, 4];
+    two_widths[3] = [1, 1, 2, 3, 3, 1, 4, 0];
     assert_eq!(lent.fold(&words, &two_widths), refused(16, 1));
     let non_exact = job(
         Mode::ThreeNonExact,
@@ -120,10 +120,10 @@ fn a_three_exact_stack_has_one_width_and_a_strip_many() {
 }
 
 #[test]
-fn a_turned_item_is_cut_from_no_plate() {
+fn an_item_without_leave_is_cut_turned_from_no_plate() {
     // The right plate (2, 3, 2) would hold item 2, 3 by 2, only if it were turned.
     let words = job(Mode::TwoNonExact, [6, 3], &[[4, 3, 1], [3, 2, 1]]);
     let mut lent = Lent::new();
     lent.list(&words).unwrap();
-    assert_eq!(lent.cuts[..4], [0, 1, 0, 0]);
+    assert_eq!(lent.cuts[..4], [0, 2, 0, 0]);
 }

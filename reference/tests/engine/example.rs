@@ -5,18 +5,19 @@ use crate::common::lent::Lent;
 use crate::common::texts::{assert_text, job_text, layout_text, lines, plan_text};
 use reference::{fold_text, saw_text, Listed, Mode, Unfolded};
 
-const OUTPUT_A: &str = "        7        1        1        1        1        1        0        0
-        7        1        1        2        1        2        5        0
-        7        1        2        1        1        2        0        4
-        7        1        2        2        1        2        3        4
-        7        2        1        1        1        1        0        0
+const OUTPUT_A: &str =
+    "        7        1        1        1        1        1        0        0        0
+        7        1        1        2        1        2        5        0        0
+        7        1        2        1        1        2        0        4        0
+        7        1        2        2        1        2        3        4        0
+        7        2        1        1        1        1        0        0        0
         8        2        2        1        1
 ";
 
-const PLAN_LINES_A: &str = "        3        0        1        2
-        3        1        2        1
-        3        2        2        1
-        3        4        2        1
+const PLAN_LINES_A: &str = "        3        0        1        2        0
+        3        1        2        1        0
+        3        2        2        1        0
+        3        4        2        1        0
 ";
 
 /// Job A, its plan and its prices, as document 01 gives them.
@@ -39,7 +40,7 @@ fn job_a_is_answered_as_printed() {
 fn job_a_without_prices_has_sum_0_d_1_fewest_0() {
     let mut text = job_text(&job_a());
     text.extend(PLAN_LINES_A.as_bytes());
-    let (placements, _) = OUTPUT_A.split_at(5 * 73);
+    let (placements, _) = OUTPUT_A.split_at(5 * 82);
     let mut expected = placements.as_bytes().to_vec();
     expected.extend(lines(&[&[8, 2, 0, 1, 0]]));
     assert_text(&saw_text(&text), &expected);
@@ -48,7 +49,7 @@ fn job_a_without_prices_has_sum_0_d_1_fewest_0() {
 #[test]
 fn job_a_folds_back_to_its_plan() {
     let mut text = job_text(&job_a());
-    text.extend(OUTPUT_A.as_bytes()[..5 * 73].iter());
+    text.extend(OUTPUT_A.as_bytes()[..5 * 82].iter());
     assert_text(&fold_text(&text), PLAN_LINES_A.as_bytes());
     let mut lent = Lent::new();
     lent.unfold(&job_a(), &PLAN_A).unwrap();
@@ -73,18 +74,18 @@ const TABLE_4: [[u16; 3]; 7] = [
     [2, 2, 2],
 ];
 
-/// The columns of Fig. 8 of 001: plate type, item type, and the residual rows with a 1.
+/// The columns of Fig. 8 of 001: plate type, twice the item type, and the residual rows with a 1.
 const FIG_8: [[u16; 4]; 10] = [
-    [0, 1, 1, 2],
-    [0, 2, 3, 4],
-    [1, 1, 0, 2],
-    [1, 2, 0, 4],
-    [2, 2, 0, 0],
-    [3, 1, 0, 2],
-    [3, 2, 5, 4],
-    [4, 2, 0, 6],
-    [5, 2, 0, 4],
-    [6, 2, 0, 0],
+    [0, 2, 1, 2],
+    [0, 4, 3, 4],
+    [1, 2, 0, 2],
+    [1, 4, 0, 4],
+    [2, 4, 0, 0],
+    [3, 2, 0, 2],
+    [3, 4, 5, 4],
+    [4, 4, 0, 6],
+    [5, 4, 0, 4],
+    [6, 4, 0, 0],
 ];
 
 /// The solution of 001, section 2.4, in cut numbers.
@@ -112,16 +113,16 @@ fn the_6_by_6_example_needs_three_boards() {
     };
     assert_eq!(lent.unfold(&example(), &SOLUTION), Ok(unfolded));
     let lines = [
-        [1, 1, 1, 1, 1, 0, 0],
-        [1, 1, 2, 1, 2, 4, 0],
-        [1, 2, 1, 1, 1, 0, 3],
-        [1, 2, 2, 1, 2, 4, 3],
-        [2, 1, 1, 1, 1, 0, 0],
-        [2, 2, 1, 1, 1, 0, 3],
-        [3, 1, 1, 1, 1, 0, 0],
-        [3, 2, 1, 1, 2, 0, 3],
-        [3, 2, 2, 1, 2, 2, 3],
-        [3, 2, 3, 1, 2, 4, 3],
+        [1, 1, 1, 1, 1, 0, 0, 0],
+        [1, 1, 2, 1, 2, 4, 0, 0],
+        [1, 2, 1, 1, 1, 0, 3, 0],
+        [1, 2, 2, 1, 2, 4, 3, 0],
+        [2, 1, 1, 1, 1, 0, 0, 0],
+        [2, 2, 1, 1, 1, 0, 3, 0],
+        [3, 1, 1, 1, 1, 0, 0, 0],
+        [3, 2, 1, 1, 2, 0, 3, 0],
+        [3, 2, 2, 1, 2, 2, 3, 0],
+        [3, 2, 3, 1, 2, 4, 3, 0],
     ];
     assert_eq!(lent.lines(), lines);
     assert_eq!(lent.fold(&example(), &lines), Ok(3));
@@ -133,7 +134,7 @@ fn the_6_by_6_example_as_texts() {
     let mut plan = job_text(&example());
     plan.extend(plan_text(&FIG_8, &SOLUTION));
     let output = saw_text(&plan);
-    let (placements, last) = output.split_at(10 * 73);
+    let (placements, last) = output.split_at(10 * 82);
     assert_text(last, &lines(&[&[8, 3, 0, 1, 0]]));
     let mut layouts = job_text(&example());
     layouts.extend(placements);

@@ -4,7 +4,7 @@ use crate::common::jobs::{job, job_a};
 use crate::common::texts::{after_job_a, assert_text, job_text, layout_text, line, lines, refusal};
 use reference::{fold_text, Mode};
 
-const GOOD: &[u32] = &[7, 1, 1, 1, 1, 1, 0, 0];
+const GOOD: &[u32] = &[7, 1, 1, 1, 1, 1, 0, 0, 0];
 
 /// The answer to job A's first three lines and these is this refusal.
 fn assert_refused(all: &[&[u32]], number: u32, place: u32) {
@@ -15,9 +15,9 @@ fn assert_refused(all: &[&[u32]], number: u32, place: u32) {
 fn an_empty_text_and_missing_lines() {
     assert_text(&fold_text(b""), &refusal(1, 1));
     assert_text(&fold_text(&lines(&[&[1, 2, 0, 9, 7, 2]])), &refusal(1, 2));
-    let text = lines(&[&[1, 2, 0, 9, 7, 2], &[2, 1, 5, 4, 2]]);
+    let text = lines(&[&[1, 2, 0, 9, 7, 2], &[2, 1, 5, 4, 2, 0]]);
     assert_text(&fold_text(&text), &refusal(1, 3));
-    let text = lines(&[&[1, 2, 0, 9, 7, 2], &[2, 1, 5, 4, 2], GOOD]);
+    let text = lines(&[&[1, 2, 0, 9, 7, 2], &[2, 1, 5, 4, 2, 0], GOOD]);
     assert_text(&fold_text(&text), &refusal(1, 3));
 }
 
@@ -25,8 +25,8 @@ fn an_empty_text_and_missing_lines() {
 fn kinds_that_no_fold_text_has() {
     let kinds: [&[u32]; 10] = [
         &[1, 2, 0, 9, 7, 2],
-        &[2, 3, 1, 1, 1],
-        &[3, 0, 1, 2],
+        &[2, 3, 1, 1, 1, 0],
+        &[3, 0, 1, 2, 0],
         &[4, 1, 2, 5],
         &[5, 1, 1],
         &[6, 1, 1],
@@ -43,8 +43,8 @@ fn kinds_that_no_fold_text_has() {
 
 #[test]
 fn a_line_7_of_another_form() {
-    assert_refused(&[&[7, 1, 1, 1, 1, 1, 0]], 1, 4);
-    assert_refused(&[&[7, 1, 1, 1, 1, 1, 0, 0, 0]], 1, 4);
+    assert_refused(&[&[7, 1, 1, 1, 1, 1, 0, 0]], 1, 4);
+    assert_refused(&[&[7, 1, 1, 1, 1, 1, 0, 0, 0, 0]], 1, 4);
     let mut text = after_job_a(&[GOOD]);
     text.pop();
     assert_text(&fold_text(&text), &refusal(1, 4));
@@ -63,15 +63,16 @@ fn values_outside_their_limits() {
         (5, 3),
         (6, 10_001),
         (7, 10_001),
+        (8, 2),
     ];
     for (index, value) in low.into_iter().chain(high) {
-        let mut bad = [7, 1, 1, 1, 1, 1, 0, 0];
+        let mut bad = [7, 1, 1, 1, 1, 1, 0, 0, 0];
         bad[index] = value;
         assert_refused(&[&bad], 2, 4);
         assert_refused(&[GOOD, &bad, &[0]], 2, 5);
     }
     assert_refused(
-        &[&[7, 4_000, 4_000, 4_000, 4_000, 2, 10_000, 10_000]],
+        &[&[7, 4_000, 4_000, 4_000, 4_000, 2, 10_000, 10_000, 0]],
         15,
         4,
     );
@@ -84,17 +85,17 @@ fn no_lines_7_are_admitted_and_leave_type_1_short() {
 
 #[test]
 fn job_and_model_rows_go_before_the_layouts() {
-    let out_of_turn: &[u32] = &[7, 2, 1, 1, 1, 1, 0, 0];
-    let text = lines(&[&[1, 2, 0, 9, 7, 1], &[2, 1, 10, 4, 1], out_of_turn]);
+    let out_of_turn: &[u32] = &[7, 2, 1, 1, 1, 1, 0, 0, 0];
+    let text = lines(&[&[1, 2, 0, 9, 7, 1], &[2, 1, 10, 4, 1, 0], out_of_turn]);
     assert_text(&fold_text(&text), &refusal(3, 1));
     let text = lines(&[
         &[1, 2, 0, 9, 7, 2],
-        &[2, 1, 1, 1, 4_000],
-        &[2, 2, 1, 1, 1],
+        &[2, 1, 1, 1, 4_000, 0],
+        &[2, 2, 1, 1, 1, 0],
         out_of_turn,
     ]);
     assert_text(&fold_text(&text), &refusal(4, 0));
-    let text = lines(&[&[1, 2, 0, 10_000, 9, 1], &[2, 1, 1, 1, 1], out_of_turn]);
+    let text = lines(&[&[1, 2, 0, 10_000, 9, 1], &[2, 1, 1, 1, 1, 0], out_of_turn]);
     assert_text(&fold_text(&text), &refusal(6, 0));
     let mut text = job_text(&job(Mode::TwoNonExact, [105, 101], &[[1, 1, 1]; 40]));
     text.extend(line(out_of_turn));
@@ -102,19 +103,19 @@ fn job_and_model_rows_go_before_the_layouts() {
 }
 
 /// The faults of the layouts row, the later in the row the earlier in the lines.
-fn faults() -> Vec<[u32; 8]> {
+fn faults() -> Vec<[u32; 9]> {
     vec![
-        [7, 1, 1, 1, 1, 1, 9, 0],
-        [7, 2, 1, 1, 1, 1, 0, 0],
-        [7, 2, 1, 2, 1, 1, 5, 0],
-        [7, 3, 1, 1, 1, 2, 0, 0],
-        [7, 3, 1, 1, 2, 2, 0, 3],
-        [7, 4, 1, 1, 1, 1, 0, 0],
-        [7, 6, 1, 1, 1, 1, 0, 0],
+        [7, 1, 1, 1, 1, 1, 9, 0, 0],
+        [7, 2, 1, 1, 1, 1, 0, 0, 0],
+        [7, 2, 1, 2, 1, 1, 5, 0, 0],
+        [7, 3, 1, 1, 1, 2, 0, 0, 0],
+        [7, 3, 1, 1, 2, 2, 0, 3, 0],
+        [7, 4, 1, 1, 1, 1, 0, 0, 0],
+        [7, 6, 1, 1, 1, 1, 0, 0, 0],
     ]
 }
 
-fn assert_faults(faults: &[[u32; 8]], number: u32, place: u32) {
+fn assert_faults(faults: &[[u32; 9]], number: u32, place: u32) {
     let all: Vec<&[u32]> = faults.iter().map(|fault| &fault[..]).collect();
     assert_refused(&all, number, place);
 }
@@ -125,9 +126,9 @@ fn the_layouts_row_names_lines_of_the_text() {
     assert_faults(&all, 15, 10);
     all[6][1] = 5;
     assert_faults(&all, 16, 7);
-    all[4] = [7, 3, 1, 2, 1, 2, 3, 0];
+    all[4] = [7, 3, 1, 2, 1, 2, 3, 0, 0];
     assert_faults(&all, 17, 5);
-    all[2] = [7, 2, 1, 2, 1, 2, 5, 0];
+    all[2] = [7, 2, 1, 2, 1, 2, 5, 0, 0];
     assert_faults(&all, 18, 4);
     all[0][6] = 0;
     all.remove(2);
@@ -140,7 +141,7 @@ fn line_numbers_follow_the_number_of_types() {
         let items = vec![[1, 1, 1]; types];
         let mut text = job_text(&job(Mode::TwoNonExact, [2, 1], &items));
         text.extend(line(GOOD));
-        text.extend(line(&[7, 1, 1, 2, 1, 1, 0, 0]));
+        text.extend(line(&[7, 1, 1, 2, 1, 1, 0, 0, 0]));
         let place = types as u32 + 3;
         assert_text(&fold_text(&text), &refusal(18, place));
     }
@@ -149,14 +150,16 @@ fn line_numbers_follow_the_number_of_types() {
 #[test]
 fn more_than_4_000_lines_are_10_after_the_line_row() {
     let words = job(Mode::TwoNonExact, [5, 4], &[[5, 4, 1]]);
-    let boards: Vec<[u16; 7]> = (1..=4_000).map(|board| [board, 1, 1, 1, 1, 0, 0]).collect();
+    let boards: Vec<[u16; 8]> = (1..=4_000)
+        .map(|board| [board, 1, 1, 1, 1, 0, 0, 0])
+        .collect();
     let mut text = job_text(&words);
     text.extend(layout_text(&boards));
-    assert_text(&fold_text(&text), &line(&[3, 0, 1, 4_000]));
+    assert_text(&fold_text(&text), &line(&[3, 0, 1, 4_000, 0]));
     text.extend(line(GOOD));
     assert_text(&fold_text(&text), &refusal(10, 0));
     let mut outside = text.clone();
-    outside.extend(line(&[7, 1, 1, 1, 1, 2, 0, 0]));
+    outside.extend(line(&[7, 1, 1, 1, 1, 2, 0, 0, 0]));
     assert_text(&fold_text(&outside), &refusal(2, 4_004));
     text.push(b'7');
     assert_text(&fold_text(&text), &refusal(1, 4_004));
@@ -165,14 +168,19 @@ fn more_than_4_000_lines_are_10_after_the_line_row() {
 #[test]
 fn the_output_is_the_counted_cuts_in_rising_order() {
     let layouts = [
-        [1, 1, 1, 1, 2, 0, 0],
-        [2, 1, 1, 1, 2, 0, 0],
-        [2, 1, 2, 1, 1, 3, 0],
-        [2, 2, 1, 1, 2, 0, 4],
-        [3, 1, 1, 1, 1, 0, 0],
+        [1, 1, 1, 1, 2, 0, 0, 0],
+        [2, 1, 1, 1, 2, 0, 0, 0],
+        [2, 1, 2, 1, 1, 3, 0, 0],
+        [2, 2, 1, 1, 2, 0, 4, 0],
+        [3, 1, 1, 1, 1, 0, 0, 0],
     ];
     let mut text = job_text(&job_a());
     text.extend(layout_text(&layouts));
-    let expected = lines(&[&[3, 0, 1, 2], &[3, 0, 2, 1], &[3, 1, 2, 1], &[3, 2, 2, 1]]);
+    let expected = lines(&[
+        &[3, 0, 1, 2, 0],
+        &[3, 0, 2, 1, 0],
+        &[3, 1, 2, 1, 0],
+        &[3, 2, 2, 1, 0],
+    ]);
     assert_text(&fold_text(&text), &expected);
 }

@@ -33,10 +33,10 @@ fn the_length_that_n_asks_for_goes_before_the_limits() {
         assert_eq!(Lent::new().list(&words), answer, "n {n}");
     }
     let mut types_41 = vec![2, 0, 9, 7, 41];
-    types_41.extend([1; 123]);
+    types_41.extend([1; 164]);
     assert_eq!(Lent::new().list(&types_41), refused(2, 0));
     let mut all_types = vec![9, 9, 0, 0, 65_535];
-    all_types.extend(vec![0; 3 * 65_535]);
+    all_types.extend(vec![0; 4 * 65_535]);
     assert_eq!(Lent::new().list(&all_types), refused(2, 0));
     all_types.pop();
     assert_eq!(Lent::new().list(&all_types), refused(1, 0));
@@ -66,16 +66,25 @@ fn every_number_of_the_board_names_0() {
 
 #[test]
 fn a_value_of_a_type_names_the_type() {
-    for (index, bad) in [(5, 0), (5, 10_001), (6, 0), (6, 10_001), (7, 0), (7, 4_001)] {
+    for (index, bad) in [
+        (5, 0),
+        (5, 10_001),
+        (6, 0),
+        (6, 10_001),
+        (7, 0),
+        (7, 4_001),
+        (8, 2),
+        (8, 65_535),
+    ] {
         assert_eq!(Lent::new().list(&changed(index, bad)), refused(2, 1));
-        assert_eq!(Lent::new().list(&changed(index + 3, bad)), refused(2, 2));
+        assert_eq!(Lent::new().list(&changed(index + 4, bad)), refused(2, 2));
     }
 }
 
 #[test]
 fn the_board_is_named_before_a_type_and_the_lower_type_first() {
     let mut words = changed(5, 0);
-    words[8] = 0;
+    words[9] = 0;
     assert_eq!(Lent::new().list(&words), refused(2, 1));
     words[3] = 0;
     assert_eq!(Lent::new().list(&words), refused(2, 0));
@@ -86,14 +95,14 @@ fn an_item_larger_than_the_board_is_3_and_beyond_10_000_is_2() {
     for index in [5, 6] {
         assert_eq!(Lent::new().list(&changed(index, 10_000)), refused(3, 1));
         assert_eq!(Lent::new().list(&changed(index, 10_001)), refused(2, 1));
-        assert_eq!(Lent::new().list(&changed(index + 3, 10_000)), refused(3, 2));
+        assert_eq!(Lent::new().list(&changed(index + 4, 10_000)), refused(3, 2));
     }
 }
 
 #[test]
 fn limits_of_every_type_before_3_and_3_over_all_types_before_4() {
     let mut words = changed(5, 10_000);
-    words[10] = 0;
+    words[11] = 0;
     assert_eq!(Lent::new().list(&words), refused(2, 2));
     let high = job(Mode::TwoNonExact, [9, 7], &[[1, 1, 4_000], [1, 8, 1]]);
     assert_eq!(Lent::new().list(&high), refused(3, 2));
@@ -102,7 +111,7 @@ fn limits_of_every_type_before_3_and_3_over_all_types_before_4() {
 }
 
 #[test]
-fn no_item_is_turned() {
+fn no_item_is_turned_without_leave() {
     for mode in Mode::ALL {
         let turned = job(mode, [9, 7], &[[7, 9, 1]]);
         assert_eq!(Lent::new().list(&turned), refused(3, 1));
@@ -118,7 +127,7 @@ fn two_types_may_have_equal_sizes() {
         cuts: 4,
     };
     assert_eq!(lent.list(&equal), Ok(listed));
-    let cuts = [[0, 1, 0, 1], [0, 2, 0, 1], [1, 1, 0, 0], [1, 2, 0, 0]];
+    let cuts = [[0, 2, 0, 1], [0, 4, 0, 1], [1, 2, 0, 0], [1, 4, 0, 0]];
     assert_eq!(lent.cuts[..16], cuts.concat());
     let unfolded = lent.unfold(&equal, &[1, 0, 0, 1]);
     assert_eq!(unfolded.map(|result| result.pieces), Ok(2));
@@ -135,11 +144,13 @@ fn words_are_read_into_a_job() {
                 width: 5,
                 height: 4,
                 demand: 2,
+                leave: false,
             },
             Item {
                 width: 3,
                 height: 3,
                 demand: 3,
+                leave: false,
             },
         ],
     };

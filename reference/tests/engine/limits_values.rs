@@ -78,9 +78,11 @@ fn counts_reach_4_000_together() {
 #[test]
 fn layout_lines_reach_4_000() {
     let words = job(Mode::TwoNonExact, [5, 4], &[[5, 4, 1]]);
-    let mut lines: Vec<[u16; 7]> = (1..=4_000).map(|board| [board, 1, 1, 1, 1, 0, 0]).collect();
+    let mut lines: Vec<[u16; 8]> = (1..=4_000)
+        .map(|board| [board, 1, 1, 1, 1, 0, 0, 0])
+        .collect();
     assert_eq!(Lent::new().fold(&words, &lines), Ok(4_000));
-    lines.push([4_000, 2, 1, 1, 1, 0, 0]);
+    lines.push([4_000, 2, 1, 1, 1, 0, 0, 0]);
     assert_eq!(Lent::new().fold(&words, &lines), refused(10, 0));
     lines[4_000][0] = 4_001;
     assert_eq!(Lent::new().fold(&words, &lines), refused(2, 4_001));
@@ -89,8 +91,8 @@ fn layout_lines_reach_4_000() {
 #[test]
 fn one_stack_and_one_strip_of_4_000_lines() {
     let words = job(Mode::ThreeNonExact, [2, 3_999], &[[1, 3_999, 1], [1, 1, 1]]);
-    let mut lines = vec![[1, 1, 1, 1, 1, 0, 0]];
-    lines.extend((0..3_999).map(|place| [1, 1, 2, place + 1, 2, 1, place]));
+    let mut lines = vec![[1, 1, 1, 1, 1, 0, 0, 0]];
+    lines.extend((0..3_999).map(|place| [1, 1, 2, place + 1, 2, 1, place, 0]));
     let refusal = Lent::new().fold(&words, &lines);
     // 3,999 heights on type 0, as many on stages 2 and 3: the listing has over 2,048 types.
     assert_eq!(refusal, refused(6, 0));
@@ -99,11 +101,11 @@ fn one_stack_and_one_strip_of_4_000_lines() {
         [2, 2_000],
         &[[1, 2_000, 1], [1, 200, 1]],
     );
-    let mut lines = vec![[1, 1, 1, 1, 1, 0, 0]];
-    lines.extend((0..10).map(|place| [1, 1, 2, place + 1, 2, 1, 200 * place]));
+    let mut lines = vec![[1, 1, 1, 1, 1, 0, 0, 0]];
+    lines.extend((0..10).map(|place| [1, 1, 2, place + 1, 2, 1, 200 * place, 0]));
     assert_eq!(Lent::new().fold(&words, &lines), Ok(1));
     let words = job(Mode::TwoNonExact, [2_000, 1], &[[1, 1, 2_000]]);
-    let row: Vec<[u16; 7]> = (0..2_000).map(|x| [1, 1, x + 1, 1, 1, x, 0]).collect();
+    let row: Vec<[u16; 8]> = (0..2_000).map(|x| [1, 1, x + 1, 1, 1, x, 0, 0]).collect();
     assert_eq!(Lent::new().fold(&words, &row), Ok(1));
 }
 

@@ -27,4 +27,5 @@ mod prices;
 mod programs;
 mod saw_lines;
 mod saw_rows;
+mod turned;
 mod unfolding;

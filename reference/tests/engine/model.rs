@@ -6,7 +6,7 @@ use crate::common::lent::{Lent, CUTS, PLATES};
 use crate::common::plain;
 use crate::common::random::Random;
 use reference::listing::FULL;
-use reference::{Job, Listing, Mode};
+use reference::{Job, Listing, Mode, Position};
 
 /// Asserts plates and cuts of a job, word for word.
 fn assert_listing(words: &[u16], plates: &[[u16; 3]], cuts: &[[u16; 4]]) {
@@ -30,15 +30,15 @@ fn two_stage_right_takes_the_items_height() {
         [2, 2, 2],
     ];
     let cuts = [
-        [0, 1, 0, 1],
-        [0, 2, 2, 3],
-        [1, 1, 0, 4],
-        [1, 2, 0, 5],
-        [2, 2, 0, 3],
-        [3, 2, 0, 5],
-        [4, 1, 0, 0],
+        [0, 2, 0, 1],
+        [0, 4, 2, 3],
+        [1, 2, 0, 4],
+        [1, 4, 0, 5],
+        [2, 4, 0, 3],
+        [3, 4, 0, 5],
         [4, 2, 0, 0],
-        [5, 2, 0, 0],
+        [4, 4, 0, 0],
+        [5, 4, 0, 0],
     ];
     assert_listing(&words, &plates, &cuts);
 }
@@ -55,13 +55,13 @@ fn two_exact_asks_for_the_height_at_stage_2_only() {
         [2, 2, 2],
     ];
     let cuts = [
-        [0, 1, 0, 1],
-        [0, 2, 2, 3],
-        [1, 1, 0, 4],
-        [2, 2, 0, 3],
-        [3, 2, 0, 5],
-        [4, 1, 0, 0],
-        [5, 2, 0, 0],
+        [0, 2, 0, 1],
+        [0, 4, 2, 3],
+        [1, 2, 0, 4],
+        [2, 4, 0, 3],
+        [3, 4, 0, 5],
+        [4, 2, 0, 0],
+        [5, 4, 0, 0],
     ];
     assert_listing(&words, &plates, &cuts);
 }
@@ -79,15 +79,15 @@ fn three_stage_right_keeps_the_strips_height_at_stage_2() {
         [3, 2, 2],
     ];
     let cuts = [
-        [0, 1, 0, 1],
-        [0, 2, 2, 3],
-        [1, 1, 0, 0],
-        [1, 2, 4, 5],
-        [2, 2, 0, 3],
-        [3, 2, 0, 6],
-        [4, 2, 0, 0],
-        [5, 2, 4, 0],
-        [6, 2, 0, 0],
+        [0, 2, 0, 1],
+        [0, 4, 2, 3],
+        [1, 2, 0, 0],
+        [1, 4, 4, 5],
+        [2, 4, 0, 3],
+        [3, 4, 0, 6],
+        [4, 4, 0, 0],
+        [5, 4, 4, 0],
+        [6, 4, 0, 0],
     ];
     assert_listing(&words, &plates, &cuts);
 }
@@ -113,26 +113,26 @@ const STACKING_PLATES: [[u16; 3]; 11] = [
 fn three_stage_top_takes_the_items_width_at_stages_2_and_3() {
     let words = job(Mode::ThreeNonExact, [4, 6], &STACKING);
     let cuts = [
-        [0, 1, 0, 1],
-        [0, 2, 2, 0],
-        [0, 3, 2, 3],
-        [1, 1, 0, 4],
-        [1, 2, 5, 0],
-        [1, 3, 6, 7],
-        [2, 2, 8, 0],
-        [2, 3, 8, 3],
-        [3, 3, 0, 0],
-        [4, 1, 0, 7],
-        [4, 3, 6, 0],
-        [5, 2, 9, 0],
-        [5, 3, 10, 0],
-        [6, 3, 10, 0],
-        [7, 1, 0, 0],
-        [8, 2, 0, 0],
-        [8, 3, 0, 3],
-        [9, 2, 0, 0],
-        [9, 3, 0, 0],
-        [10, 3, 0, 0],
+        [0, 2, 0, 1],
+        [0, 4, 2, 0],
+        [0, 6, 2, 3],
+        [1, 2, 0, 4],
+        [1, 4, 5, 0],
+        [1, 6, 6, 7],
+        [2, 4, 8, 0],
+        [2, 6, 8, 3],
+        [3, 6, 0, 0],
+        [4, 2, 0, 7],
+        [4, 6, 6, 0],
+        [5, 4, 9, 0],
+        [5, 6, 10, 0],
+        [6, 6, 10, 0],
+        [7, 2, 0, 0],
+        [8, 4, 0, 0],
+        [8, 6, 0, 3],
+        [9, 4, 0, 0],
+        [9, 6, 0, 0],
+        [10, 6, 0, 0],
     ];
     assert_listing(&words, &STACKING_PLATES, &cuts);
 }
@@ -141,24 +141,24 @@ fn three_stage_top_takes_the_items_width_at_stages_2_and_3() {
 fn three_exact_asks_for_the_width_at_stage_3_only() {
     let words = job(Mode::ThreeExact, [4, 6], &STACKING);
     let cuts = [
-        [0, 1, 0, 1],
-        [0, 2, 2, 0],
-        [0, 3, 2, 3],
-        [1, 1, 0, 4],
-        [1, 2, 5, 0],
-        [1, 3, 6, 7],
-        [2, 2, 8, 0],
-        [2, 3, 8, 3],
-        [3, 3, 0, 0],
-        [4, 1, 0, 7],
-        [4, 3, 6, 0],
-        [5, 2, 9, 0],
-        [6, 3, 10, 0],
-        [7, 1, 0, 0],
-        [8, 2, 0, 0],
-        [8, 3, 0, 3],
-        [9, 2, 0, 0],
-        [10, 3, 0, 0],
+        [0, 2, 0, 1],
+        [0, 4, 2, 0],
+        [0, 6, 2, 3],
+        [1, 2, 0, 4],
+        [1, 4, 5, 0],
+        [1, 6, 6, 7],
+        [2, 4, 8, 0],
+        [2, 6, 8, 3],
+        [3, 6, 0, 0],
+        [4, 2, 0, 7],
+        [4, 6, 6, 0],
+        [5, 4, 9, 0],
+        [6, 6, 10, 0],
+        [7, 2, 0, 0],
+        [8, 4, 0, 0],
+        [8, 6, 0, 3],
+        [9, 4, 0, 0],
+        [10, 6, 0, 0],
     ];
     assert_listing(&words, &STACKING_PLATES, &cuts);
 }
@@ -224,16 +224,21 @@ fn random_listings_are_those_of_the_plain_walk() {
 }
 
 #[test]
-fn a_cut_is_found_by_its_plate_and_item_and_by_no_other_pair() {
+fn a_cut_is_found_by_its_plate_item_and_turn_and_by_no_others() {
     let mut random = Random::new(2);
     for _ in 0..500 {
         let structured = random_job(&mut random);
         let (plates, cuts) = plain::listing(&words_of(&structured));
         let listing = Listing::walk(&structured, FULL).unwrap();
         for plate in 0..plates.len() as u16 + 2 {
-            for item in 0..structured.items.len() as u16 + 2 {
-                let expected = cuts.iter().position(|cut| cut[..2] == [plate, item]);
-                assert_eq!(listing.cut_of(plate, item), expected);
+            for word in 0..2 * structured.items.len() as u16 + 4 {
+                let expected = cuts.iter().position(|cut| cut[..2] == [plate, word]);
+                let position = Position {
+                    item: word / 2,
+                    turned: word % 2 == 1,
+                };
+                assert_eq!(position.word(), word);
+                assert_eq!(listing.cut_of(plate, position), expected);
             }
         }
     }
@@ -245,6 +250,6 @@ fn the_walk_gives_words_of_its_own_plates_and_cuts() {
     let listing = Listing::walk(&structured.unwrap(), FULL).unwrap();
     assert_eq!(listing.residual_types(), 5);
     assert_eq!(listing.plate_words()[..6], [9, 7, 1, 9, 3, 1]);
-    assert_eq!(listing.cut_words()[..8], [0, 1, 1, 2, 0, 2, 3, 4]);
+    assert_eq!(listing.cut_words()[..8], [0, 2, 1, 2, 0, 4, 3, 4]);
     assert_eq!(listing.cuts_on(3), 4..6);
 }

@@ -147,7 +147,7 @@ fn the_price_test_gives_1_to_7_13_and_14() {
 }
 
 #[test]
-fn folding_gives_1_to_7_10_11_and_15_to_18() {
+fn folding_gives_1_to_7_10_11_and_15_to_19() {
     let mut random = Random::new(54);
     let mut lent = Lent::new();
     let mut numbers = Numbers::default();
@@ -158,13 +158,13 @@ fn folding_gives_1_to_7_10_11_and_15_to_18() {
         spoil(&mut random, &mut layouts);
         numbers.meet(lent.fold_words(&input.words, &layouts));
     }
-    let many = vec![[1, 1, 1, 1, 1, 0, 0]; 4_001];
+    let many = vec![[1, 1, 1, 1, 1, 0, 0, 0]; 4_001];
     numbers.meet(lent.fold(&job(Mode::TwoExact, [1, 1], &[[1, 1, 1]]), &many));
     for words in too_large_models() {
         numbers.meet(lent.fold(&words, &many));
         numbers.meet(reference::fold(&words, &[], &mut [], &mut [], &mut []));
     }
-    numbers.assert(&[0, 1, 2, 3, 4, 5, 6, 7, 10, 11, 15, 16, 17, 18]);
+    numbers.assert(&[0, 1, 2, 3, 4, 5, 6, 7, 10, 11, 15, 16, 17, 18, 19]);
 }
 
 /// Changes bytes, groups and lines of a text.
@@ -199,7 +199,7 @@ fn spoil_group(random: &mut Random, text: &mut [u8], at: usize) {
 }
 
 #[test]
-fn saw_texts_give_1_to_14_but_5() {
+fn saw_texts_give_1_to_14_but_5_and_19() {
     let mut random = Random::new(55);
     let mut numbers = Numbers::default();
     for _ in 0..40_000 {
@@ -217,11 +217,11 @@ fn saw_texts_give_1_to_14_but_5() {
     for words in too_large_models() {
         numbers.meet_text(&saw_text(&job_text(&words)));
     }
-    numbers.assert(&[0, 1, 2, 3, 4, 6, 7, 8, 9, 10, 11, 12, 13, 14]);
+    numbers.assert(&[0, 1, 2, 3, 4, 6, 7, 8, 9, 10, 11, 12, 13, 14, 19]);
 }
 
 #[test]
-fn fold_texts_give_1_to_4_6_7_10_11_and_15_to_18() {
+fn fold_texts_give_1_to_4_6_7_10_11_and_15_to_19() {
     let mut random = Random::new(56);
     let mut numbers = Numbers::default();
     for _ in 0..40_000 {
@@ -233,16 +233,16 @@ fn fold_texts_give_1_to_4_6_7_10_11_and_15_to_18() {
         spoil_text(&mut random, &mut text);
         numbers.meet_text(&fold_text(&text));
     }
-    let many = vec![[1, 1, 1, 1, 1, 0, 0]; 4_001];
-    for words in too_large_models()
-        .into_iter()
-        .chain([job(Mode::TwoExact, [1, 1], &[[1, 1, 1]])])
-    {
+    let many = vec![[1, 1, 1, 1, 1, 0, 0, 0]; 4_001];
+    for words in too_large_models().into_iter().chain([
+        job(Mode::TwoExact, [1, 1], &[[1, 1, 1]]),
+        job(Mode::TwoExact, [1, 1], &[[1, 1, 4_000], [1, 1, 1]]),
+    ]) {
         let mut text = job_text(&words);
         text.extend(layout_text(&many));
         numbers.meet_text(&fold_text(&text));
     }
-    numbers.assert(&[0, 1, 2, 3, 4, 6, 7, 10, 11, 15, 16, 17, 18]);
+    numbers.assert(&[0, 1, 2, 3, 4, 6, 7, 10, 11, 15, 16, 17, 18, 19]);
 }
 
 #[test]

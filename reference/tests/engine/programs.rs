@@ -32,10 +32,10 @@ fn the_programs_answer_as_the_library_does() {
     let output = run(SAW, &plan);
     assert_text(&output, &saw_text(&plan));
     let mut layouts = job_text(&job_a());
-    layouts.extend(&output[..5 * 73]);
+    layouts.extend(&output[..5 * 82]);
     let folded = run(FOLD, &layouts);
     assert_text(&folded, &fold_text(&layouts));
-    assert_text(&folded, &plan[147..]);
+    assert_text(&folded, &plan[165..]);
 }
 
 #[test]
@@ -50,9 +50,9 @@ fn the_programs_refuse_with_one_line() {
 #[test]
 fn the_programs_read_the_longest_texts() {
     let mut text = job_text(&job_a());
-    text.extend(line(&[3, 0, 1, 1]).repeat(99_996));
+    text.extend(line(&[3, 0, 1, 1, 0]).repeat(99_996));
     assert_text(&run(SAW, &text), &refusal(9, 5));
     let mut text = job_text(&job_a());
-    text.extend(line(&[7, 1, 1, 1, 1, 1, 0, 0]).repeat(99_997));
+    text.extend(line(&[7, 1, 1, 1, 1, 1, 0, 0, 0]).repeat(99_997));
     assert_text(&run(FOLD, &text), &refusal(1, 100_000));
 }

@@ -5,9 +5,9 @@ use crate::common::texts::{after_job_a, assert_text, line, lines, refusal};
 use reference::saw_text;
 
 const ONE: &[u32] = &[1, 2, 0, 9, 7, 2];
-const TYPE_1: &[u32] = &[2, 1, 5, 4, 2];
-const TYPE_2: &[u32] = &[2, 2, 3, 3, 3];
-const CUT_1: &[u32] = &[3, 0, 1, 2];
+const TYPE_1: &[u32] = &[2, 1, 5, 4, 2, 0];
+const TYPE_2: &[u32] = &[2, 2, 3, 3, 3, 0];
+const CUT_1: &[u32] = &[3, 0, 1, 2, 0];
 const PRICES: [&[u32]; 8] = [
     &[4, 1, 2, 5],
     &[5, 1, 1],
@@ -31,7 +31,7 @@ fn assert_refused_after_job(all: &[&[u32]], number: u32, place: u32) {
 
 /// Job A, its plan (lines 4 to 7) and its prices (lines 8 to 15), with one line replaced.
 fn with_line(number: usize, replaced: &[u32]) -> Vec<u8> {
-    let plan: [&[u32]; 4] = [CUT_1, &[3, 1, 2, 1], &[3, 2, 2, 1], &[3, 4, 2, 1]];
+    let plan: [&[u32]; 4] = [CUT_1, &[3, 1, 2, 1, 0], &[3, 2, 2, 1, 0], &[3, 4, 2, 1, 0]];
     let mut all = vec![ONE, TYPE_1, TYPE_2];
     all.extend(plan);
     all.extend(PRICES);
@@ -47,7 +47,7 @@ fn an_empty_text_misses_line_1() {
 #[test]
 fn a_blank_line_is_1_anywhere() {
     let whole = with_line(1, ONE);
-    let starts = [0, 55, 101, 147, 184, 221, 258, 295, 332, 360, 388, 416];
+    let starts = [0, 55, 110, 165, 211, 257, 303, 349, 386, 414, 442, 470];
     assert_text(&saw_text(b"\n"), &refusal(1, 1));
     for (index, &start) in starts.iter().enumerate() {
         let mut text = whole[..start].to_vec();
@@ -75,23 +75,23 @@ fn missing_lines_2_are_one_past_the_last() {
 
 #[test]
 fn too_few_or_too_many_lines_2_name_the_line_that_does_not_fit() {
-    for other in [CUT_1, PRICES[0], &[7, 1, 1, 1, 1, 1, 0, 0], ONE] {
+    for other in [CUT_1, PRICES[0], &[7, 1, 1, 1, 1, 1, 0, 0, 0], ONE] {
         assert_refused(&[ONE, other], 1, 2);
         assert_refused(&[ONE, TYPE_1, other], 1, 3);
     }
-    assert_refused(&[ONE, TYPE_1, TYPE_2, &[2, 3, 1, 1, 1]], 1, 4);
+    assert_refused(&[ONE, TYPE_1, TYPE_2, &[2, 3, 1, 1, 1, 0]], 1, 4);
     assert_refused(&[ONE, TYPE_1, TYPE_2, TYPE_2], 1, 4);
 }
 
 #[test]
 fn a_running_number_that_is_not_the_next_is_1_also_outside_its_limits() {
     for wrong in [0, 2, 3, 41, 99, 999_999_999] {
-        assert_refused(&[ONE, &[2, wrong, 5, 4, 2]], 1, 2);
+        assert_refused(&[ONE, &[2, wrong, 5, 4, 2, 0]], 1, 2);
         // 1 goes before 2 on the same line.
-        assert_refused(&[ONE, &[2, wrong, 0, 10_001, 4_001]], 1, 2);
+        assert_refused(&[ONE, &[2, wrong, 0, 10_001, 4_001, 0]], 1, 2);
     }
     for wrong in [0, 1, 3, 99] {
-        assert_refused(&[ONE, TYPE_1, &[2, wrong, 3, 3, 3]], 1, 3);
+        assert_refused(&[ONE, TYPE_1, &[2, wrong, 3, 3, 3, 0]], 1, 3);
         assert_text(&saw_text(&with_line(10, &[5, wrong, 0])), &refusal(1, 10));
         assert_text(&saw_text(&with_line(12, &[6, wrong, 0])), &refusal(1, 12));
         assert_text(
@@ -124,11 +124,19 @@ fn values_of_line_1_outside_their_limits() {
 
 #[test]
 fn values_of_line_2_outside_their_limits() {
-    for (index, value) in [(2, 0), (2, 10_001), (3, 0), (3, 10_001), (4, 0), (4, 4_001)] {
-        let mut first = [2, 1, 5, 4, 2];
+    for (index, value) in [
+        (2, 0),
+        (2, 10_001),
+        (3, 0),
+        (3, 10_001),
+        (4, 0),
+        (4, 4_001),
+        (5, 2),
+    ] {
+        let mut first = [2, 1, 5, 4, 2, 0];
         first[index] = value;
         assert_refused(&[ONE, &first, TYPE_2], 2, 2);
-        let mut second = [2, 2, 5, 4, 2];
+        let mut second = [2, 2, 5, 4, 2, 0];
         second[index] = value;
         assert_refused(&[ONE, TYPE_1, &second], 2, 3);
     }
@@ -137,16 +145,17 @@ fn values_of_line_2_outside_their_limits() {
 #[test]
 fn values_of_line_3_outside_their_limits() {
     for bad in [
-        [3, 2_048, 1, 1],
-        [3, 0, 0, 1],
-        [3, 0, 3, 1],
-        [3, 0, 1, 0],
-        [3, 0, 1, 4_001],
+        [3, 2_048, 1, 1, 0],
+        [3, 0, 0, 1, 0],
+        [3, 0, 3, 1, 0],
+        [3, 0, 1, 0, 0],
+        [3, 0, 1, 4_001, 0],
+        [3, 0, 1, 1, 2],
     ] {
         assert_refused_after_job(&[&bad], 2, 4);
     }
     // Within the limits, but no cut: the plan row.
-    assert_refused_after_job(&[&[3, 2_047, 2, 4_000]], 8, 4);
+    assert_refused_after_job(&[&[3, 2_047, 2, 4_000, 0]], 8, 4);
 }
 
 #[test]
@@ -180,7 +189,7 @@ fn lines_5_and_6_come_after_4_and_in_that_order() {
 
 #[test]
 fn nothing_but_5_and_6_comes_after_4() {
-    for other in [CUT_1, PRICES[0], ONE, TYPE_1, &[7, 1, 1, 1, 1, 1, 0, 0]] {
+    for other in [CUT_1, PRICES[0], ONE, TYPE_1, &[7, 1, 1, 1, 1, 1, 0, 0, 0]] {
         for place in 9..=15 {
             assert_text(
                 &saw_text(&with_line(place, other)),
@@ -197,7 +206,7 @@ fn nothing_but_5_and_6_comes_after_4() {
 fn kinds_that_no_saw_text_has() {
     let kinds: [&[u32]; 9] = [
         ONE,
-        &[7, 1, 1, 1, 1, 1, 0, 0],
+        &[7, 1, 1, 1, 1, 1, 0, 0, 0],
         &[8, 2, 2, 1, 1],
         &[9, 1, 1],
         &[0],
@@ -244,7 +253,7 @@ fn any_byte_after_the_last_admitted_line_is_1() {
 #[test]
 fn the_line_row_is_taken_line_by_line() {
     // 2 on line 4 goes before 1 on line 5, and 1 on line 4 before 2 on line 5.
-    let outside: &[u32] = &[3, 0, 1, 0];
+    let outside: &[u32] = &[3, 0, 1, 0, 0];
     assert_refused_after_job(&[outside, TYPE_1], 2, 4);
     assert_refused_after_job(&[TYPE_1, outside], 1, 4);
     assert_refused(&[&[1, 2, 0, 9, 7, 41]], 2, 1);
@@ -252,12 +261,12 @@ fn the_line_row_is_taken_line_by_line() {
 
 #[test]
 fn the_line_row_goes_before_every_other_row() {
-    let large: &[u32] = &[2, 1, 10, 4, 2];
-    assert_refused(&[ONE, large, TYPE_2, CUT_1, &[3, 0, 2, 0]], 2, 5);
-    assert_refused(&[ONE, large, TYPE_2, &[3, 9, 1, 1], ONE], 1, 5);
+    let large: &[u32] = &[2, 1, 10, 4, 2, 0];
+    assert_refused(&[ONE, large, TYPE_2, CUT_1, &[3, 0, 2, 0, 0]], 2, 5);
+    assert_refused(&[ONE, large, TYPE_2, &[3, 9, 1, 1, 0], ONE], 1, 5);
     assert_refused(&[ONE, large], 1, 3);
-    assert_refused(&[ONE, large, TYPE_2, &[3, 9, 1, 1]], 3, 1);
+    assert_refused(&[ONE, large, TYPE_2, &[3, 9, 1, 1, 0]], 3, 1);
     // The prices of a plan that is refused are read all the same.
-    assert_refused_after_job(&[&[3, 9, 1, 1], &[4, 1, 1, 0]], 1, 6);
-    assert_refused_after_job(&[&[3, 9, 1, 1], &[4, 1, 1, 0], &[5, 1, 0]], 8, 4);
+    assert_refused_after_job(&[&[3, 9, 1, 1, 0], &[4, 1, 1, 0]], 1, 6);
+    assert_refused_after_job(&[&[3, 9, 1, 1, 0], &[4, 1, 1, 0], &[5, 1, 0]], 8, 4);
 }

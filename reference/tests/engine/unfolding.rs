@@ -8,7 +8,7 @@ use reference::unfolding::unfold;
 use reference::{Job, Listing, Mode};
 
 /// Asserts the lines of a plan's unfolding.
-fn assert_lines(words: &[u16], counts: &[u16], lines: &[[u16; 7]]) {
+fn assert_lines(words: &[u16], counts: &[u16], lines: &[[u16; 8]]) {
     let mut lent = Lent::new();
     let unfolded = lent.unfold(words, counts).unwrap();
     assert_eq!(lent.lines(), lines);
@@ -20,11 +20,11 @@ fn assert_lines(words: &[u16], counts: &[u16], lines: &[[u16; 7]]) {
 #[test]
 fn the_lowest_cut_with_a_count_left_is_done() {
     let lines = [
-        [1, 1, 1, 1, 1, 0, 0],
-        [2, 1, 1, 1, 1, 0, 0],
-        [3, 1, 1, 1, 2, 0, 0],
-        [4, 1, 1, 1, 2, 0, 0],
-        [5, 1, 1, 1, 2, 0, 0],
+        [1, 1, 1, 1, 1, 0, 0, 0],
+        [2, 1, 1, 1, 1, 0, 0, 0],
+        [3, 1, 1, 1, 2, 0, 0, 0],
+        [4, 1, 1, 1, 2, 0, 0, 0],
+        [5, 1, 1, 1, 2, 0, 0, 0],
     ];
     assert_lines(&job_a(), &[2, 3, 0, 0, 0, 0, 0, 0], &lines);
 }
@@ -34,11 +34,11 @@ fn a_piece_without_a_count_is_left_over_and_does_not_wait_on() {
     // On board 1 the right plate is cut up; on board 2 it is left over, and the strip above it
     // is empty too.
     let lines = [
-        [1, 1, 1, 1, 1, 0, 0],
-        [1, 1, 2, 1, 2, 5, 0],
-        [1, 2, 1, 1, 2, 0, 4],
-        [1, 2, 2, 1, 2, 3, 4],
-        [2, 1, 1, 1, 1, 0, 0],
+        [1, 1, 1, 1, 1, 0, 0, 0],
+        [1, 1, 2, 1, 2, 5, 0, 0],
+        [1, 2, 1, 1, 2, 0, 4, 0],
+        [1, 2, 2, 1, 2, 3, 4, 0],
+        [2, 1, 1, 1, 1, 0, 0, 0],
     ];
     assert_lines(&job_a(), &[2, 0, 1, 1, 0, 0, 1, 0], &lines);
 }
@@ -50,13 +50,13 @@ fn the_highest_stage_is_taken_first() {
     let structured = Job::from_words(&words).unwrap();
     let listing = Listing::walk(&structured, FULL).unwrap();
     let lines = [
-        [1, 1, 1, 1, 1, 0, 0],
-        [1, 1, 2, 1, 2, 2, 0],
-        [1, 1, 2, 2, 2, 2, 1],
-        [1, 1, 3, 1, 2, 3, 0],
-        [1, 1, 3, 2, 2, 3, 1],
-        [1, 2, 1, 1, 2, 0, 2],
-        [1, 2, 2, 1, 2, 1, 2],
+        [1, 1, 1, 1, 1, 0, 0, 0],
+        [1, 1, 2, 1, 2, 2, 0, 0],
+        [1, 1, 2, 2, 2, 2, 1, 0],
+        [1, 1, 3, 1, 2, 3, 0, 0],
+        [1, 1, 3, 2, 2, 3, 1, 0],
+        [1, 2, 1, 1, 2, 0, 2, 0],
+        [1, 2, 2, 1, 2, 1, 2, 0],
     ];
     let mut lent = Lent::new();
     assert_eq!(lent.fold(&words, &lines), Ok(1));
@@ -74,13 +74,13 @@ fn residuals_lie_above_and_beside_the_item() {
         &[[4, 7, 1], [3, 2, 1], [2, 3, 1]],
     );
     let lines = [
-        [1, 1, 1, 1, 1, 0, 0],
-        [1, 1, 2, 1, 2, 4, 0],
-        [1, 1, 2, 2, 3, 4, 2],
-        [1, 1, 3, 1, 3, 7, 0],
-        [1, 1, 3, 2, 3, 7, 3],
-        [1, 2, 1, 1, 3, 0, 7],
-        [1, 2, 2, 1, 2, 2, 7],
+        [1, 1, 1, 1, 1, 0, 0, 0],
+        [1, 1, 2, 1, 2, 4, 0, 0],
+        [1, 1, 2, 2, 3, 4, 2, 0],
+        [1, 1, 3, 1, 3, 7, 0, 0],
+        [1, 1, 3, 2, 3, 7, 3, 0],
+        [1, 2, 1, 1, 3, 0, 7, 0],
+        [1, 2, 2, 1, 2, 2, 7, 0],
     ];
     let mut lent = Lent::new();
     assert_eq!(lent.fold(&words, &lines), Ok(1));
@@ -92,14 +92,14 @@ fn residuals_lie_above_and_beside_the_item() {
 fn in_two_stages_place_is_always_1() {
     let words = job(Mode::TwoNonExact, [5, 5], &[[2, 2, 4], [1, 1, 4]]);
     let lines = [
-        [1, 1, 1, 1, 1, 0, 0],
-        [1, 1, 2, 1, 1, 2, 0],
-        [1, 1, 3, 1, 2, 4, 0],
-        [1, 2, 1, 1, 1, 0, 2],
-        [1, 2, 2, 1, 1, 2, 2],
-        [1, 2, 3, 1, 2, 4, 2],
-        [1, 3, 1, 1, 2, 0, 4],
-        [1, 3, 2, 1, 2, 1, 4],
+        [1, 1, 1, 1, 1, 0, 0, 0],
+        [1, 1, 2, 1, 1, 2, 0, 0],
+        [1, 1, 3, 1, 2, 4, 0, 0],
+        [1, 2, 1, 1, 1, 0, 2, 0],
+        [1, 2, 2, 1, 1, 2, 2, 0],
+        [1, 2, 3, 1, 2, 4, 2, 0],
+        [1, 3, 1, 1, 2, 0, 4, 0],
+        [1, 3, 2, 1, 2, 1, 4, 0],
     ];
     let mut lent = Lent::new();
     assert_eq!(lent.fold(&words, &lines), Ok(1));
@@ -126,5 +126,5 @@ fn four_thousand_pieces_fill_the_placements() {
     let mut lent = Lent::new();
     let unfolded = lent.unfold(&words, &[3_999, 1]).unwrap();
     assert_eq!((unfolded.boards, unfolded.pieces), (4_000, 4_000));
-    assert_eq!(lent.placements[27_993..], [4_000, 1, 1, 1, 2, 0, 0]);
+    assert_eq!(lent.placements[31_992..], [4_000, 1, 1, 1, 2, 0, 0, 0]);
 }

@@ -2,10 +2,10 @@
 
 use reference::instances::inputs::Inputs;
 use reference::instances::outcome::{self, Outcome};
-use reference::instances::{jobs, texts, NamedJob};
+use reference::instances::{job_words_with, jobs, sources, texts, NamedJob};
 use reference::layout::keeps_rules;
 use reference::layout_lines::{lines_of_words, set_of};
-use reference::{fold_text, saw_text, Job};
+use reference::{fold_text, saw_text, Job, Mode};
 
 /// The inputs and the outcome of a job whose listing is not refused.
 fn run(job: &NamedJob) -> Option<(Inputs, Outcome)> {
@@ -26,7 +26,7 @@ pub fn assert_agreement(job: &NamedJob, inputs: &Inputs, found: &Outcome) {
     assert_eq!(found.unfolded.pieces, demands.sum::<u32>(), "{name}");
     assert_eq!(found.counts, inputs.counts, "{name}");
     for layouts in [&inputs.layouts, &found.placements] {
-        let lines = lines_of_words(layouts, structured.items.len()).unwrap();
+        let lines = lines_of_words(layouts, &structured).unwrap();
         let set = set_of(&lines);
         assert_eq!(set.len(), found.boards as usize, "{name}");
         let kept = |board: &reference::Board| keeps_rules(&structured, board);
@@ -59,6 +59,34 @@ fn calls_and_texts_agree_on_every_instance() {
             assert_texts(&job, &inputs, &found);
         }
     }
+}
+
+#[test]
+fn calls_and_texts_agree_on_instances_with_leave() {
+    let mut turned = 0;
+    for source in sources() {
+        for instance in source.instances.iter().step_by(3) {
+            let types = instance.items.len();
+            let Some(board) = instance.boards().nth(types % 2) else {
+                continue;
+            };
+            let mode = Mode::ALL[types % 4];
+            let job = NamedJob {
+                name: format!("{} {} {board:?} with leave", source.name, instance.name),
+                words: job_words_with(instance, board, mode, 1),
+            };
+            if let Some((inputs, found)) = run(&job) {
+                assert_agreement(&job, &inputs, &found);
+                assert_texts(&job, &inputs, &found);
+                turned += found
+                    .placements
+                    .chunks(8)
+                    .filter(|line| line[7] == 1)
+                    .count();
+            }
+        }
+    }
+    assert!(turned > 500, "{turned} items are turned");
 }
 
 #[test]

@@ -25,7 +25,7 @@ fn mode(limit: &LimitJob) -> Mode {
 fn refusals(job: &[u16]) -> [Option<Refusal>; 5] {
     let mut plates = vec![7; 6_144];
     let mut cuts = vec![7; 32_768];
-    let mut lent = vec![7; 28_000];
+    let mut lent = vec![7; 32_000];
     let counts = vec![0; 8_192];
     let answers = [
         reference::list(job, &mut plates, &mut cuts).err(),
@@ -101,26 +101,27 @@ fn every_limit_is_met_and_passed_by_one_in_every_mode() {
 
 #[test]
 fn the_largest_numbers_are_reached() {
-    let mut most_words = [0; 8];
-    let mut most_placed = [0; 7];
+    let mut most_words = [0; 9];
+    let mut most_placed = [0; 8];
     let mut most_sum = 0;
     for limit in limit_jobs().iter().filter(|limit| limit.plan.is_some()) {
         let words = &limit.job.words;
         let (head, items) = words.split_at(5);
-        for item in items.chunks(3) {
+        for item in items.chunks(4) {
             let joined = [head, item].concat();
             most_words = std::array::from_fn(|index| joined[index].max(most_words[index]));
         }
         let found = outcome::of(words, &Inputs::of(words).unwrap()).unwrap();
-        for line in found.placements.chunks(7) {
+        for line in found.placements.chunks(8) {
             most_placed = std::array::from_fn(|index| line[index].max(most_placed[index]));
         }
         most_sum = found.bound.sum.max(most_sum);
     }
-    // Stages, exact, W, H, n; width, height, demand.
-    let largest = [3, 1, 10_000, 10_000, 40, 10_000, 10_000, 4_000];
+    // Stages, exact, W, H, n; width, height, demand, leave.
+    let largest = [3, 1, 10_000, 10_000, 40, 10_000, 10_000, 4_000, 0];
     assert_eq!(most_words, largest);
-    // Board, strip, stack, place, type, x, y.
-    assert_eq!(most_placed, [4_000, 2_000, 2_000, 1_000, 40, 9_995, 9_995]);
+    // Board, strip, stack, place, type, x, y, turn.
+    let largest = [4_000, 2_000, 2_000, 1_000, 40, 9_995, 9_995, 0];
+    assert_eq!(most_placed, largest);
     assert_eq!(most_sum, 39_996_000);
 }

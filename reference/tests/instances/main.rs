@@ -1,5 +1,6 @@
 //! Tests on published instances and on jobs at the limits: the files of `data/`.
 
+mod base;
 mod calls;
 mod documents;
 mod limits;

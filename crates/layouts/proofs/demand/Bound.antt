@@ -9,20 +9,20 @@ use lib.Dec.{eqb}
 use lib.ListN.{length, getD}
 use Rattle.job.specs.declared.item.Item.{Item}
 use Rattle.job.specs.Lists.{sumOf, occurs, tally}
-use Rattle.job.specs.Job.{Job, itemAt, noItem}
+use Rattle.job.specs.Job.{Job, itemAt, typeOf, noItem}
 use Rattle.job.specs.Admitted.{Sided}
-use Rattle.job.proofs.Sums.{bit, occurs-sum, tally-length, tally-at}
+use Rattle.job.proofs.Sums.{bit, tally-length, tally-at}
 use Rattle.listing.specs.Listing.{Listing}
 use Rattle.listing.specs.Model.{Model}
 use Rattle.plan.specs.Prices.{Prices, itemPrice, priced, priceSum, fewest}
 use Rattle.plan.specs.Feasible.{DualFeasible}
 use Rattle.plan.proofs.PriceExact.{fewest-exact}
 use Rattle.layouts.specs.Layout.{Board}
-use Rattle.layouts.specs.Placement.{itemsOfSet}
+use Rattle.layouts.specs.Placement.{itemsOfSet, typesOfSet}
 use Rattle.layouts.proofs.trees.Tree.{Tree}
 use Rattle.layouts.proofs.trees.WeightedSums.{wsum}
 use Rattle.layouts.proofs.trees.Balance.{Roots, value-set}
-use Rattle.layouts.proofs.trees.TreeItems.{layoutOf, roots-items}
+use Rattle.layouts.proofs.trees.TreeItems.{layoutOf, roots-items, types-sum, types-occur}
 use Rattle.layouts.proofs.trees.Tally.{tally-le}
 use Rattle.layouts.proofs.fold.FoldCounts.{Trees, allOrdered}
 
@@ -64,23 +64,23 @@ price-le job ps is meets =
 
 module _ (job : Job) (l : Listing) (m : Model job l) (sided : Sided job) (ps : Prices) (accepted : DualFeasible l ps) where
   -- of some boards' trees
-  bound-trees : (ts : List Tree) → Roots l ts → ((i : ℕ) → 1 ≤ i → i ≤ length (job .items) → itemAt job i .demand ≤ occurs i (itemsOfSet (map (layoutOf l) ts)))
+  bound-trees : (ts : List Tree) → Roots l ts → ((i : ℕ) → 1 ≤ i → i ≤ length (job .items) → itemAt job i .demand ≤ occurs i (typesOfSet (map (layoutOf l) ts)))
       → priceSum job ps ≤ length ts * ps .denominator
   bound-trees ts h meets =
-      omega (arith, price-le job ps (itemsOfSet (map (layoutOf l) ts)) meets, roots-items (itemPrice ps) job l m sided ts h, value-set l ps accepted ts h)
+      omega (arith, price-le job ps (typesOfSet (map (layoutOf l) ts)) meets, types-sum (itemPrice ps) (map (layoutOf l) ts), roots-items (λ q. itemPrice ps (typeOf q)) job l m sided ts h, value-set l ps accepted ts h)
 
   -- of a set of layouts
   module _ (bs : List Board) (fold : Trees job l bs) (kept : (f : ℕ → ℕ) → sumOf f (itemsOfSet (allOrdered job bs)) ≡ sumOf f (itemsOfSet bs))
-      (meets : (i : ℕ) → 1 ≤ i → i ≤ length (job .items) → itemAt job i .demand ≤ occurs i (itemsOfSet bs)) where
+      (meets : (i : ℕ) → 1 ≤ i → i ≤ length (job .items) → itemAt job i .demand ≤ occurs i (typesOfSet bs)) where
     -- at least as many boards as the bound
     pub bound-set : priceSum job ps ≤ length bs * ps .denominator
     bound-set = rw (fold .number) at (bound-trees (fold .trees) (fold .roots) at-least)
       where
-        same : (i : ℕ) → occurs i (itemsOfSet (map (layoutOf l) (fold .trees))) ≡ occurs i (itemsOfSet bs)
+        same : (i : ℕ) → occurs i (typesOfSet (map (layoutOf l) (fold .trees))) ≡ occurs i (typesOfSet bs)
         same i =
-            ap (λ (us : List Board). occurs i (itemsOfSet us)) (fold .layouts) ∙ occurs-sum i (itemsOfSet (allOrdered job bs)) ∙ kept (λ k. bit (eqb k i)) ∙ sym (occurs-sum i (itemsOfSet bs))
+            ap (λ (us : List Board). occurs i (typesOfSet us)) (fold .layouts) ∙ types-occur i (allOrdered job bs) ∙ kept (λ q. bit (eqb (typeOf q) i)) ∙ sym (types-occur i bs)
 
-        at-least : (i : ℕ) → 1 ≤ i → i ≤ length (job .items) → itemAt job i .demand ≤ occurs i (itemsOfSet (map (layoutOf l) (fold .trees)))
+        at-least : (i : ℕ) → 1 ≤ i → i ≤ length (job .items) → itemAt job i .demand ≤ occurs i (typesOfSet (map (layoutOf l) (fold .trees)))
         at-least i p q = omega (arith, meets i p q, same i)
 
     -- "fewest": no set that meets the demands has fewer boards

@@ -13,6 +13,7 @@ use Rattle.job.specs.Job.{jobWords, admission}
 use Rattle.job.specs.Admitted.{Admitted, Sided}
 use Rattle.job.proofs.Verdicts.{then-first, then-second, then-both}
 use Rattle.job.proofs.Admission.{admitted-words, admitted-job, admitted-sided}
+use Rattle.job.proofs.Positions.{positions-exact}
 use Rattle.listing.specs.Listing.{modelRow}
 use Rattle.listing.specs.Model.{Model}
 use Rattle.listing.proofs.WalkModel.{row-model}
@@ -20,13 +21,14 @@ use Rattle.plan.specs.Prices.{pricesOf, priceSum}
 use Rattle.plan.proofs.PriceExact.{fewest-exact}
 use Rattle.layouts.specs.Layout.{Board, widthOf, stackHeight}
 use Rattle.layouts.specs.Placement.{placementWords, linesOf, itemsOfSet}
-use Rattle.layouts.specs.Lines.{rowsOf, layoutWords, setOf}
+use Rattle.layouts.specs.Lines.{linesIn, rowsOf, layoutWords, setOf}
 use Rattle.layouts.specs.LayoutsRow.{layoutsRow}
 use Rattle.layouts.specs.UnfoldCall.{unfoldVerdict}
 use Rattle.layouts.specs.FoldCall.{foldVerdict}
-use Rattle.layouts.specs.Demand3.{Listed, OnlyFive, Accepted, Named, Priced, Folds, Bounds, Demand3Of, Demand3, J, L}
+use Rattle.layouts.specs.Demand3.{Listed, OnlyFive, Accepted, Named, Priced, Folds, Bounds, J, L, Demand3Of, Demand3}
+use Rattle.layouts.proofs.lists.Every.{every-map}
 use Rattle.layouts.proofs.row.RowLines.{words-rows, rows-words, lines-length}
-use Rattle.layouts.proofs.row.RowWords.{words-exact, words-set}
+use Rattle.layouts.proofs.row.RowWords.{LineOk, words-exact, words-set}
 use Rattle.layouts.proofs.demand.DemandUnfold.{unfolds-so}
 use Rattle.layouts.proofs.demand.DemandFold.{bounded, none-fewer, folds-so}
 use Rattle.layouts.proofs.demand.Exact.{tests-exact, in-order}
@@ -104,9 +106,10 @@ module _ (ws : List ℕ) (listed : Listed ws) where
       let f = then-second (sized 3 countsSize counts) _ e in
       let g = then-second (modelRow (J ws)) (layoutsRow 1 (J ws) (rowsOf layouts)) f in
       let s = words-set (J ws) 1 layouts lines g in
+      let exact = words-exact (J ws) layouts .0 lines in
       let number : length (rowsOf layouts) ≡ length (itemsOfSet (setOf layouts)) = ap length (s .lines) ∙ lines-length (J ws) (setOf layouts) in (
         record { rules = s .rules; demands = s .demands; pieces = omega (arith, s .few) },
-        sym (rows-words layouts (words-exact (J ws) layouts .0 lines .0)) ∙ ap placementWords (s .lines),
+        sym (rows-words layouts (exact .0) (every-map (λ r (q : LineOk (J ws) r). q .turned) (linesIn layouts) (exact .1 .0))) ∙ ap placementWords (s .lines),
       )
 
   bounds : (prices : List ℕ) → Priced (J ws) (L ws) prices → Bounds (J ws) (L ws) (priceSum (J ws) (pricesOf (J ws) prices)) (pricesOf (J ws) prices .denominator)
@@ -134,6 +137,7 @@ pub demand3 : Demand3
 demand3 =
     record {
       every-listed = demand3-of;
+      positions = positions-exact;
       tests = tests-exact;
       strip-order = λ job strip. in-order (stackHeight job) strip;
       stack-order = λ job stack. in-order (widthOf job) stack;

@@ -31,7 +31,7 @@ use Rattle.layouts.proofs.row.RowLines.{words-rows}
 use Rattle.layouts.proofs.row.Row.{set-row}
 use Rattle.layouts.proofs.row.RowWords.{lines-words}
 use Rattle.layouts.proofs.trees.TreeItems.{set-sum}
-use Rattle.layouts.proofs.fold.FoldCounts.{AllInOrder, allOrdered, Trees, fold-trees, folded-length, folded-past, folded-boards, folded-types, folded-accepted}
+use Rattle.layouts.proofs.fold.FoldCounts.{AllInOrder, allOrdered, Trees, fold-trees, folded-length, folded-past, folded-boards, folded-types, folded-turns, folded-accepted}
 use Rattle.layouts.proofs.demand.Bound.{bound-set, fewest-set}
 
 module _ (job : Job) (sided : Sided job) where
@@ -110,5 +110,6 @@ module _ (job : Job) (l : Listing) (m : Model job l) (sided : Sided job) where
                     };
                 as-many = folded-boards job l m sided set ts;
                 as-often = folded-types job l m sided set ts kept;
+                turns-as-often = folded-turns job l m sided set ts kept;
               };
         }

@@ -10,7 +10,7 @@ use lib.ListN.{length, getD, take, replicate, length-replicate, getD-replicate, 
 use lib.Seq.{ext-getD, getD-take}
 use Rattle.job.specs.Lists.{occurs}
 use Rattle.job.specs.Buffers.{filled}
-use Rattle.job.specs.Job.{Job}
+use Rattle.job.specs.Job.{Job, typeOf}
 use Rattle.job.specs.Admitted.{Sided}
 use Rattle.job.proofs.Tests.{at-most-or-above}
 use Rattle.job.proofs.Verdicts.{then-first, then-second}
@@ -20,11 +20,11 @@ use Rattle.listing.specs.declared.plate.Plate.{Plate}
 use Rattle.listing.specs.Plate.{plate}
 use Rattle.listing.specs.Listing.{Listing}
 use Rattle.listing.specs.Model.{Model}
-use Rattle.plan.specs.Plan.{countOf, ofItem, countsRow, planRow}
+use Rattle.plan.specs.Plan.{countOf, ofItem, ofPosition, countsRow, planRow}
 use Rattle.plan.specs.Feasible.{NonePast, Feasible}
 use Rattle.plan.proofs.PlanExact.{plan-exact, counts-exact}
 use Rattle.layouts.specs.Layout.{Board, widthOf, layoutRules}
-use Rattle.layouts.specs.Placement.{placementWords, linesOf, itemsOfSet}
+use Rattle.layouts.specs.Placement.{placementWords, linesOf, itemsOfSet, typesOfSet}
 use Rattle.layouts.specs.Unfold.{Run, unfolded}
 use Rattle.layouts.specs.Lines.{setOf}
 use Rattle.layouts.specs.Fold.{folded}
@@ -45,7 +45,7 @@ use Rattle.layouts.proofs.row.RowLines.{words-rows, words-length, lines
 use Rattle.layouts.proofs.trees.WeightedSums.{weight, countOf-wsum}
 use Rattle.layouts.proofs.trees.Balance.{Roots}
 use Rattle.layouts.proofs.trees.CutTree.{itemTree, root-pattern}
-use Rattle.layouts.proofs.trees.TreeItems.{layoutOf, roots-items}
+use Rattle.layouts.proofs.trees.TreeItems.{layoutOf, types-occur, roots-items}
 use Rattle.layouts.proofs.machine.Greedy.{grows-length}
 use Rattle.layouts.proofs.machine.MachineEnds.{Unfolding, unfolds}
 use Rattle.layouts.proofs.machine.MachineLines.{FirstLargest, emitted-lines}
@@ -54,7 +54,7 @@ use Rattle.layouts.proofs.fold.Back.{fold-back}
 -- items with sides are wide
 pub sided-wide : (job : Job) → Sided job → Wide job
 unfolding widthOf
-sided-wide job sided i p q = sided i p q .0
+sided-wide job sided q p = sided q p .0
 
 -- the first item of a pattern's stack is its widest, the first of its strip the highest
 first-largest : (job : Job) → Sided job → FirstLargest job
@@ -101,13 +101,21 @@ module _ (job : Job) (l : Listing) (m : Model job l) (sided : Sided job) where
     lines : r .placements ≡ linesOf job set
     lines = u .rows ∙ emitted-lines job (first-largest job sided) l m (u .trees) (u .roots)
 
-    as-often : (i : ℕ) → occurs i (itemsOfSet set) ≡ countOf (ofItem i) (l .cuts) ns
+    as-often : (i : ℕ) → occurs i (typesOfSet set) ≡ countOf (ofItem i) (l .cuts) ns
     unfolding ofItem
     as-often i =
-        occurs-sum i (itemsOfSet set)
-        ∙ roots-items (λ k. bit (eqb k i)) job l m sided (u .trees) (u .roots)
+        types-occur i set
+        ∙ roots-items (λ q. bit (eqb (typeOf q) i)) job l m sided (u .trees) (u .roots)
         ∙ u .sums (weight (ofItem i) l)
         ∙ sym (countOf-wsum (ofItem i) l ns past)
+
+    turns-as-often : (q : ℕ) → occurs q (itemsOfSet set) ≡ countOf (ofPosition q) (l .cuts) ns
+    unfolding ofPosition
+    turns-as-often q =
+        occurs-sum q (itemsOfSet set)
+        ∙ roots-items (λ k. bit (eqb k q)) job l m sided (u .trees) (u .roots)
+        ∙ u .sums (weight (ofPosition q) l)
+        ∙ sym (countOf-wsum (ofPosition q) l ns past)
 
     spent : r .last .counts ≡ replicate (length ns) 0
     spent =
@@ -162,6 +170,7 @@ module _ (job : Job) (l : Listing) (m : Model job l) (sided : Sided job) where
           none-empty = decides-all decides-filled set .1 (every-map (λ b (h : BoardOk job b). h .filled) set ok);
           all-pieces = sym pieces ∙ u .pieces;
           as-often = as-often;
+          turns-as-often = turns-as-often;
           in-turn = lines-turns job 1 set (ok-full job set ok);
           back = back;
         }

@@ -8,23 +8,23 @@ use mathlib.Core.List.{List, [], _∷_, _++_, map}
 use lib.Dec.{eqb}
 use lib.ListN.{length, List·getD-eq-default}
 use Rattle.job.specs.Lists.{sumOf, occurs}
-use Rattle.job.specs.Job.{Job, itemAt, maxPieces}
+use Rattle.job.specs.Job.{Job, itemAt, typeOf, maxPieces}
 use Rattle.job.specs.Admitted.{Sided}
 use Rattle.job.proofs.Sums.{bit, length-sum, occurs-sum, tally-length}
 use Rattle.listing.specs.Plate.{board}
 use Rattle.listing.specs.Listing.{Cut, Listing, cutAt}
 use Rattle.listing.specs.Model.{Model}
-use Rattle.plan.specs.Plan.{countOf, ofItem, onPlate, leavesPlate, boards, total}
+use Rattle.plan.specs.Plan.{countOf, ofItem, ofPosition, onPlate, leavesPlate, boards, total}
 use Rattle.plan.specs.Feasible.{Feasible, NonePast}
 use Rattle.layouts.specs.Layout.{Board}
-use Rattle.layouts.specs.Placement.{itemsOfSet}
+use Rattle.layouts.specs.Placement.{itemsOfSet, typesOfSet}
 use Rattle.layouts.specs.Fold.{ordered, boardCuts, setCuts, folded}
 use Rattle.layouts.proofs.trees.Tree.{Tree, leaf, node, fsum, labels}
 use Rattle.layouts.proofs.trees.Pattern.{Pattern, branchOf, restOf, boardOf, boardTree}
 use Rattle.layouts.proofs.trees.WeightedSums.{wsum, weight, total-wsum, countOf-wsum}
 use Rattle.layouts.proofs.trees.Balance.{Ok, Root, Roots, balance-set, boards-set}
 use Rattle.layouts.proofs.trees.CutTree.{root-tree}
-use Rattle.layouts.proofs.trees.TreeItems.{layoutOf, roots-items}
+use Rattle.layouts.proofs.trees.TreeItems.{types-occur, layoutOf, roots-items}
 use Rattle.layouts.proofs.trees.Tally.{tally-sum, Ranged, ranged-append, allLabels, all-labels-sum}
 use Rattle.layouts.proofs.fold.FoldCuts.{root-cuts}
 
@@ -134,16 +134,22 @@ module _ (job : Job) (l : Listing) (m : Model job l) (sided : Sided job) where
 
     -- Where ordering keeps the items: each type is cut as often as it lies in the set, and the counts come to the number of items.
     module _ (kept : (f : ℕ → ℕ) → sumOf f (itemsOfSet (allOrdered job bs)) ≡ sumOf f (itemsOfSet bs)) where
-      pub folded-types : (i : ℕ) → countOf (ofItem i) (l .cuts) ns ≡ occurs i (itemsOfSet bs)
+      pub folded-types : (i : ℕ) → countOf (ofItem i) (l .cuts) ns ≡ occurs i (typesOfSet bs)
       unfolding ofItem
       folded-types i =
-          countOf-wsum (ofItem i) l ns folded-past ∙ folded-items (λ k. bit (eqb k i)) ∙ kept (λ k. bit (eqb k i)) ∙ sym (occurs-sum i (itemsOfSet bs))
+          countOf-wsum (ofItem i) l ns folded-past ∙ folded-items (λ q. bit (eqb (typeOf q) i)) ∙ kept (λ q. bit (eqb (typeOf q) i)) ∙ sym (types-occur i bs)
+
+      -- and so for each type in each turn
+      pub folded-turns : (q : ℕ) → countOf (ofPosition q) (l .cuts) ns ≡ occurs q (itemsOfSet bs)
+      unfolding ofPosition
+      folded-turns q =
+          countOf-wsum (ofPosition q) l ns folded-past ∙ folded-items (λ k. bit (eqb k q)) ∙ kept (λ k. bit (eqb k q)) ∙ sym (occurs-sum q (itemsOfSet bs))
 
       pub folded-total : total ns ≡ length (itemsOfSet bs)
       folded-total = total-wsum 1 ns ∙ folded-items (λ _. 1) ∙ kept (λ _. 1) ∙ length-sum (itemsOfSet bs)
 
       -- the counts of a set that meets the demands within 4,000 pieces are an accepted plan
-      pub folded-accepted : ((i : ℕ) → 1 ≤ i → i ≤ length (job .items) → itemAt job i .demand ≤ occurs i (itemsOfSet bs)) → length (itemsOfSet bs) ≤ maxPieces → Feasible job l ns
+      pub folded-accepted : ((i : ℕ) → 1 ≤ i → i ≤ length (job .items) → itemAt job i .demand ≤ occurs i (typesOfSet bs)) → length (itemsOfSet bs) ≤ maxPieces → Feasible job l ns
       folded-accepted meets few =
           record {
             few = omega (arith, folded-total);

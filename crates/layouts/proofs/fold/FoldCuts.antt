@@ -13,7 +13,7 @@ use Rattle.job.specs.Job.{Job}
 use Rattle.job.specs.Admitted.{Sided}
 use Rattle.listing.specs.Listing.{Cut, Listing, plateAt, cutAt, noCut}
 use Rattle.listing.specs.Model.{Model}
-use Rattle.plan.specs.Plan.{onPlate, ofItem}
+use Rattle.plan.specs.Plan.{onPlate, ofPosition}
 use Rattle.layouts.specs.Fold.{cutFrom, cutOf, stackCuts, stripCuts, boardCuts}
 use Rattle.layouts.proofs.trees.Tree.{Tree, leaf, node, labels}
 use Rattle.layouts.proofs.trees.Pattern.{branchOf, restOf, stackOf, stripOf, boardOf}
@@ -22,17 +22,17 @@ use Rattle.layouts.proofs.trees.Stages.{cut-stage, board-stage, branch-
 use Rattle.layouts.proofs.trees.Balance.{Ok, Root, ok-none}
 use Rattle.layouts.proofs.trees.CutTree.{itemTree}
 
--- the cut is on plate type j and of item type i
-both : (j i : ℕ) (c : Cut) → onPlate j c && ofItem i c ≡ true → (c .plate ≡ j) × (c .item ≡ i)
-unfolding onPlate ofItem
+-- the cut is on plate type j and of position i
+both : (j i : ℕ) (c : Cut) → onPlate j c && ofPosition i c ≡ true → (c .plate ≡ j) × (c .item ≡ i)
+unfolding onPlate ofPosition
 both j i c h = go (eqb (c .plate) j) refl h
   where
     go : (t : Bool) → eqb (c .plate) j ≡ t → t && eqb (c .item) i ≡ true → (c .plate ≡ j) × (c .item ≡ i)
     go true e h = (eqb-true (c .plate) j e, eqb-true (c .item) i h)
     go false e h = absurd (mathlib.Core.Bool.false≢true h)
 
-is-both : (j i : ℕ) (c : Cut) → c .plate ≡ j → c .item ≡ i → onPlate j c && ofItem i c ≡ true
-unfolding onPlate ofItem
+is-both : (j i : ℕ) (c : Cut) → c .plate ≡ j → c .item ≡ i → onPlate j c && ofPosition i c ≡ true
+unfolding onPlate ofPosition
 is-both j i c e f = rw (eq-eqb (c .plate) j e, eq-eqb (c .item) i f)
 
 -- the number of the first cut of a pair
@@ -42,14 +42,14 @@ unfolding cutFrom
 cutFrom-is j i k [] d p q r u = absurd (omega arith)
 cutFrom-is j i k (c ∷ cs) zero p q r u = rw (is-both j i c q r, cutFrom) (omega arith)
 cutFrom-is j i k (c ∷ cs) (suc d) p q r u =
-    go (onPlate j c && ofItem i c) refl (cutFrom-is j i (suc k) cs d (omega arith) q r (λ e s. u (suc e) (omega arith)))
+    go (onPlate j c && ofPosition i c) refl (cutFrom-is j i (suc k) cs d (omega arith) q r (λ e s. u (suc e) (omega arith)))
   where
-    go : (t : Bool) → onPlate j c && ofItem i c ≡ t → cutFrom j i (suc k) cs ≡ suc k + d → cutFrom j i k (c ∷ cs) ≡ k + suc d
+    go : (t : Bool) → onPlate j c && ofPosition i c ≡ t → cutFrom j i (suc k) cs ≡ suc k + d → cutFrom j i k (c ∷ cs) ≡ k + suc d
     go true e rec = let (a, b) = both j i c e in absurd (u 0 (omega arith) a b)
     go false e rec = rw (e, cutFrom) (rw (add-suc, ← suc-add) rec)
 
 module _ (job : Job) (l : Listing) (m : Model job l) where
-  -- the cut of a plate type and an item type is the one of that pair
+  -- the cut of a plate type and a position is the one of that pair
   pub cutOf-is : (c j i : ℕ) → IsCut l c → cutAt l c .plate ≡ j → cutAt l c .item ≡ i → cutOf l j i ≡ c
   unfolding cutOf cutAt
   cutOf-is zero j i p e f = absurd (omega arith)

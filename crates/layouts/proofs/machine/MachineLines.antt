@@ -4,7 +4,7 @@ use Prim.Native.Nat.{ℕ, suc, _+_}
 use mathlib.Core.Path.{_≡_, refl, sym, _∙_, ap, ap₂}
 use mathlib.Core.List.{List, [], _∷_, _++_, map}
 use lib.Dec.{eqb}
-use Rattle.job.specs.Job.{Job, itemAt}
+use Rattle.job.specs.Job.{Job, positionAt}
 use Rattle.listing.specs.declared.plate.Plate.{Plate}
 use Rattle.listing.specs.Plate.{board}
 use Rattle.listing.specs.Listing.{Listing}
@@ -28,13 +28,13 @@ pub record FirstLargest (job : Job) : Type 0 where
 
 -- the stages of what is cut beside the first item of a strip, of the strips above it, and of the stacks beside the first of a stack
 beside-stage : (job : Job) (p : Plate) (i : ℕ) → p .stage ≡ 1 → branch job p i .stage ≡ 2
-beside-stage job p i e = rw (ap (λ (z : ℕ). eqb z 2) e) (stages-1 (job .mode) (itemAt job i) p e .1)
+beside-stage job p i e = rw (ap (λ (z : ℕ). eqb z 2) e) (stages-1 (job .mode) (positionAt job i) p e .1)
 
 above-stage : (job : Job) (p : Plate) (i : ℕ) → p .stage ≡ 1 → rest job p i .stage ≡ 1
-above-stage job p i e = rw (ap (λ (z : ℕ). eqb z 2) e) (stages-1 (job .mode) (itemAt job i) p e .0)
+above-stage job p i e = rw (ap (λ (z : ℕ). eqb z 2) e) (stages-1 (job .mode) (positionAt job i) p e .0)
 
 along-stage : (job : Job) (p : Plate) (i : ℕ) → p .stage ≡ 2 → rest job p i .stage ≡ 2
-along-stage job p i e = rw (ap (λ (z : ℕ). eqb z 2) e) (stages-2 (job .mode) (itemAt job i) p e .1)
+along-stage job p i e = rw (ap (λ (z : ℕ). eqb z 2) e) (stages-2 (job .mode) (positionAt job i) p e .1)
 
 module _ (job : Job) (first : FirstLargest job) where
   strip-lines : (p : Plate) → p .stage ≡ 2 → (t : Tree) → Pattern job p t → (bd s k x y : ℕ) → emitStrip job bd s k x y t ≡ stripLines job bd s k x y (stripOf t)

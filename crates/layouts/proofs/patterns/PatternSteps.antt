@@ -4,10 +4,10 @@ use native.Mathlib.Omega.{arith}
 use mathlib.Core.Path.{_≡_, refl}
 use mathlib.Core.Logic.{_↔_}
 use mathlib.Core.Bool.{true, false}
-use lib.ListN.{length}
 use Rattle.job.specs.Mode.{three, exact}
-use Rattle.job.specs.Job.{Job, itemAt}
+use Rattle.job.specs.Job.{Job, positionAt, permitted}
 use Rattle.job.proofs.Tests.{not-both}
+use Rattle.job.proofs.Positions.{permitted-range, permitted-lies, lies-permitted}
 use Rattle.listing.specs.declared.plate.Plate.{Plate}
 use Rattle.listing.specs.Plate.{plate, waste, leaves}
 use Rattle.listing.proofs.Plates.{may-cut, cut-may}
@@ -17,11 +17,11 @@ use Rattle.layouts.specs.Rules.{OfJob}
 use Rattle.layouts.proofs.trees.Tree.{Tree, leaf, node}
 use Rattle.layouts.proofs.trees.Pattern.{Pattern}
 
--- every item type is at least 1 wide
+-- every permitted position is at least 1 wide
 abbrev pub Wide : Job → Type 0
-Wide job = (i : ℕ) → 1 ≤ i → i ≤ length (job .items) → 1 ≤ widthOf job i
+Wide job = (q : ℕ) → permitted job q ≡ true → 1 ≤ widthOf job q
 
--- an item type of the job that is at most w wide and h high
+-- an item type of the job in a permitted position that is at most w wide and h high
 pub record Within (job : Job) (w h i : ℕ) : Type 0 where
   pub type : OfJob job i
   pub wide : widthOf job i ≤ w
@@ -32,8 +32,8 @@ module _ (job : Job) where
   cut-within : (p : Plate) (i : ℕ) → CutFrom job p i → Within job (p .width) (p .height) i
   unfolding widthOf heightOf
   cut-within p i f =
-      let r = may-cut (job .mode) (itemAt job i) p (f .allowed) in
-      record { type = (f .from-one, f .to-last); wide = r .in-width; high = r .in-height }
+      let r = may-cut (job .mode) (positionAt job i) p (f .allowed) in
+      record { type = permitted-lies job i (r .allowed); wide = r .in-width; high = r .in-height }
 
   -- and one within them may be cut if it fits as exactly as the mode asks
   within-cut :
@@ -45,9 +45,9 @@ module _ (job : Job) where
   unfolding widthOf heightOf
   within-cut p i q high wide =
       record {
-        from-one = q .type .0;
-        to-last = q .type .1;
-        allowed = cut-may (job .mode) (itemAt job i) p (record { in-width = q .wide; in-height = q .high; just-height = high; just-width = wide });
+        from-one = omega (arith, permitted-range job i (lies-permitted job i (q .type)) .0);
+        to-last = permitted-range job i (lies-permitted job i (q .type)) .1;
+        allowed = cut-may (job .mode) (positionAt job i) p (record { allowed = lies-permitted job i (q .type); in-width = q .wide; in-height = q .high; just-height = high; just-width = wide });
       }
 
   -- stage 1: a strip beside the item, and further strips above
@@ -89,7 +89,7 @@ module _ (job : Job) where
   unfolding leaves widthOf heightOf
   cut-2-two w h i a b t = (
     λ p.
-        let r = may-cut (job .mode) (itemAt job i) (plate w h 2) (p .0 .allowed) in
+        let r = may-cut (job .mode) (positionAt job i) (plate w h 2) (p .0 .allowed) in
         (cut-within (plate w h 2) i (p .0), (λ e. r .just-height e t refl), rw t at (p .1), rw t at (p .2)),
     λ q. (within-cut (plate w h 2) i (q .0) (λ e u s. q .1 e) (λ e u s. absurd (omega arith)), rw t (q .2), rw t (q .3)),
   )
@@ -106,7 +106,7 @@ module _ (job : Job) where
   unfolding leaves widthOf heightOf
   cut-3 w h i a b t = (
     λ p.
-        let r = may-cut (job .mode) (itemAt job i) (plate w h 3) (p .0 .allowed) in
+        let r = may-cut (job .mode) (positionAt job i) (plate w h 3) (p .0 .allowed) in
         (cut-within (plate w h 3) i (p .0), (λ e. r .just-width e t refl), p .1, p .2),
     λ q. (within-cut (plate w h 3) i (q .0) (λ e u s. absurd (omega arith)) (λ e u s. q .1 e), q .2, q .3),
   )
@@ -115,4 +115,4 @@ module _ (job : Job) where
   pub waste-leaf : Wide job → (x : Tree) → Pattern job waste x → x ≡ leaf
   waste-leaf wide leaf p = refl
   waste-leaf wide (node i a b) p =
-      let f = cut-within waste i (p .0) in absurd (omega (arith, f .wide, wide i (f .type .0) (f .type .1)))
+      let f = cut-within waste i (p .0) in absurd (omega (arith, f .wide, wide i (lies-permitted job i (f .type))))

@@ -7,10 +7,10 @@ use mathlib.Core.Bool.{true}
 use mathlib.Core.List.{List, [], _∷_, map}
 use lib.ListN.{length}
 use Rattle.job.specs.Verdict.{pass}
-use Rattle.job.specs.Job.{Job, maxPieces}
+use Rattle.job.specs.Job.{Job, typeOf, maxPieces}
 use Rattle.job.proofs.Decides.{passes-self, passes-then, passes-limit}
 use Rattle.layouts.specs.Layout.{Board, stageRule, layoutRules}
-use Rattle.layouts.specs.Placement.{Placement, linesOf, itemsOfSet, meetsFrom, meetsDemands}
+use Rattle.layouts.specs.Placement.{Placement, linesOf, itemsOfSet, typesOfSet, meetsFrom, meetsDemands}
 use Rattle.layouts.specs.Lines.{turns, grouped}
 use Rattle.layouts.specs.LayoutsRow.{positioned, layoutsRow}
 use Rattle.layouts.specs.Rules.{Every, OfJob, StripOk, BoardOk, SetOk}
@@ -18,7 +18,7 @@ use Rattle.layouts.proofs.lists.Every.{every-map, every-of-map}
 use Rattle.layouts.proofs.rules.RulesExact.{stage-exact, strips-ok, set-exact}
 use Rattle.layouts.proofs.row.Grouping.{FullStrip, FullSet, ok-full, lines-grouped}
 use Rattle.layouts.proofs.row.RowTurns.{lines-turns}
-use Rattle.layouts.proofs.row.RowLines.{items-every, lines-items, lines-length}
+use Rattle.layouts.proofs.row.RowLines.{items-every, lines-items, lines-types, lines-length}
 use Rattle.layouts.proofs.row.RowRules.{WithinBoard, stage-pass, past-pass, demands-row}
 use Rattle.layouts.proofs.row.RowBack.{positioned-self, grouped-full, rows-lines}
 
@@ -30,7 +30,7 @@ module _ (job : Job) where
     pub staged : Every (Every (λ s. stageRule job s ≡ true)) (grouped rs)
     pub fitting : Every (WithinBoard job) (grouped rs)
     pub placed : positioned k rs (linesOf job (grouped rs)) ≡ pass
-    pub enough : meetsFrom 1 (job .items) (map (λ r. r .item) rs) ≡ true
+    pub enough : meetsFrom 1 (job .items) (map (λ r. typeOf (r .item)) rs) ≡ true
 
   pub row-exact : (k : ℕ) (rs : List Placement) → (layoutsRow k job rs ≡ pass) ↔ Passed k rs
   unfolding layoutsRow
@@ -48,7 +48,7 @@ module _ (job : Job) where
           × ((turns k rs ≡ pass)
           × (Every (Every (λ s. stageRule job s ≡ true)) (grouped rs)
           × (Every (WithinBoard job) (grouped rs)
-          × ((positioned k rs (linesOf job (grouped rs)) ≡ pass) × (meetsFrom 1 (job .items) (map (λ r. r .item) rs) ≡ true))))))
+          × ((positioned k rs (linesOf job (grouped rs)) ≡ pass) × (meetsFrom 1 (job .items) (map (λ r. typeOf (r .item)) rs) ≡ true))))))
       each =
           passes-then (passes-limit maxPieces (length rs) 10 0)
           (passes-then (passes-self (turns k rs))
@@ -77,7 +77,7 @@ module _ (job : Job) where
             (every-map (λ b (h : BoardOk job b). every-map (λ s (q : StripOk job s). stage-exact job s .1 (q .staged)) b (h .strips)) bs ok);
         fitting = rw e (every-map (λ b (h : BoardOk job b). (every-map (λ s (q : StripOk job s). q .across) b (h .strips), h .up)) bs ok);
         placed = rw e (positioned-self k (linesOf job bs));
-        enough = rw (lines-items job bs) demands;
+        enough = rw (lines-types job bs) demands;
       })
 
   -- boards of which nothing is empty, with the rules of 16 and 17 and items of the job, keep the rules
@@ -104,6 +104,9 @@ module _ (job : Job) where
   row-items : (rs : List Placement) → rs ≡ linesOf job (grouped rs) → map (λ r. r .item) rs ≡ itemsOfSet (grouped rs)
   row-items rs e = ap (map (λ (r : Placement). r .item)) e ∙ lines-items job (grouped rs)
 
+  row-types : (rs : List Placement) → rs ≡ linesOf job (grouped rs) → map (λ r. typeOf (r .item)) rs ≡ typesOfSet (grouped rs)
+  row-types rs e = ap (map (λ (r : Placement). typeOf (r .item))) e ∙ lines-types job (grouped rs)
+
   -- what lines of the job's items that pass are: the lines of a set that keeps the rules and meets the demands, at most 4,000
   pub record SetOfRows (rs : List Placement) : Type 0 where
     pub lines : rs ≡ linesOf job (grouped rs)
@@ -124,6 +127,6 @@ module _ (job : Job) where
             (boards-ok (grouped rs) (grouped-full rs)
             (items-every (OfJob job) (grouped rs) .0 (rw items at (every-of-map (OfJob job) (λ (r : Placement). r .item) rs types)))
             (h .staged) (h .fitting));
-        demands = rw (← items) (h .enough);
+        demands = rw (← row-types rs same) (h .enough);
         few = h .few;
       }

@@ -1,17 +1,18 @@
 -- The lines of a set of layouts: they hold its items in order, and as words they are read back.
-use Prim.Native.Nat.{ℕ, suc, _+_, _*_, _%_}
+use Prim.Native.Nat.{ℕ, suc, _+_, _*_, _%_, _≤_}
 use native.Mathlib.Omega.{arith}
 use native.Mathlib.Nat.{mul-mod-right}
 use mathlib.Core.Path.{_≡_, refl, ap, ap₂, sym, _∙_}
 use mathlib.Core.Logic.{_↔_}
-use mathlib.Core.List.{List, [], _∷_, _++_, map, flatMap, map-append}
+use mathlib.Core.List.{List, [], _∷_, _++_, map, flatMap, map-append, map-map, map-id}
 use lib.ListN.{length, length-map}
 use Rattle.job.specs.Sizes.{wordsOfPlacement}
-use Rattle.job.specs.Job.{Job}
+use Rattle.job.specs.Job.{Job, typeOf, turnOf}
+use Rattle.job.proofs.Positions.{type-turn, type-of, turn-of}
 use Rattle.job.proofs.Records.{words-length as records-length}
 use Rattle.layouts.specs.Layout.{Stack, Strip, Board, heightOf, stackWidth, stripHeight}
-use Rattle.layouts.specs.Placement.{Placement, placementWords, stackLines, stripLines, boardLines, setLines, linesOf, itemsOfStrip, itemsOfBoard, itemsOfSet}
-use Rattle.layouts.specs.Lines.{rowsOf}
+use Rattle.layouts.specs.Placement.{Placement, placementWords, stackLines, stripLines, boardLines, setLines, linesOf, itemsOfStrip, itemsOfBoard, itemsOfSet, typesOfSet}
+use Rattle.layouts.specs.Lines.{Line, linesIn, rowsOf}
 use Rattle.layouts.specs.Rules.{Every}
 use Rattle.layouts.proofs.lists.Every.{every-map, every-of-parts, parts-every}
 
@@ -66,29 +67,45 @@ module _ (job : Job) where
   unfolding linesOf
   lines-items bs = set-items 1 bs
 
+  -- and so their types
+  pub lines-types : (bs : List Board) → map (λ r. typeOf (r .item)) (linesOf job bs) ≡ typesOfSet bs
+  unfolding typesOfSet
+  lines-types bs = sym (map-map typeOf lineItem (linesOf job bs)) ∙ ap (map typeOf) (lines-items bs)
+
   pub lines-length : (bs : List Board) → length (linesOf job bs) ≡ length (itemsOfSet bs)
   lines-length bs = sym (length-map (linesOf job bs) lineItem) ∙ ap length (lines-items bs)
 
+-- a placement as a line of layout words
+abbrev pub lineOf : Placement → Line
+lineOf p = record { type = typeOf (p .item); turned = turnOf (p .item); placement = p }
+
 -- placements as words are read back
+pub words-lines : (ps : List Placement) → linesIn (placementWords ps) ≡ map lineOf ps
+unfolding linesIn placementWords flatMap
+words-lines [] = refl
+words-lines (p ∷ ps) =
+    let e : 2 * typeOf (p .item) + turnOf (p .item) ≡ p .item = type-turn (p .item) in
+    ap₂ (λ (q : ℕ) (r : List Line). record { type = typeOf (p .item); turned = turnOf (p .item); placement = record { turn = p .turn; item = q; x = p .x; y = p .y } } ∷ r) e (words-lines ps)
+
 pub words-rows : (ps : List Placement) → rowsOf (placementWords ps) ≡ ps
-unfolding rowsOf placementWords flatMap
-words-rows [] = refl
-words-rows (p ∷ ps) = ap (λ (r : List Placement). p ∷ r) (words-rows ps)
+unfolding rowsOf
+words-rows ps = ap (map (λ (r : Line). r .placement)) (words-lines ps) ∙ map-map (λ (r : Line). r .placement) lineOf ps ∙ map-id ps
 
--- and whole lines of words are written back
-pub rows-words : (ws : List ℕ) → length ws % wordsOfPlacement ≡ 0 → placementWords (rowsOf ws) ≡ ws
-unfolding rowsOf placementWords flatMap
-rows-words [] e = refl
-rows-words (b ∷ []) e = absurd (omega arith)
-rows-words (b ∷ s ∷ []) e = absurd (omega arith)
-rows-words (b ∷ s ∷ k ∷ []) e = absurd (omega arith)
-rows-words (b ∷ s ∷ k ∷ p ∷ []) e = absurd (omega arith)
-rows-words (b ∷ s ∷ k ∷ p ∷ i ∷ []) e = absurd (omega arith)
-rows-words (b ∷ s ∷ k ∷ p ∷ i ∷ x ∷ []) e = absurd (omega arith)
-rows-words (b ∷ s ∷ k ∷ p ∷ i ∷ x ∷ y ∷ ws) e =
-    ap (λ (r : List ℕ). b ∷ s ∷ k ∷ p ∷ i ∷ x ∷ y ∷ r) (rows-words ws (omega arith))
+-- and whole lines of words, with turns of 0 and 1, are written back
+pub rows-words : (ws : List ℕ) → length ws % wordsOfPlacement ≡ 0 → Every (λ r. r .turned ≤ 1) (linesIn ws) → placementWords (rowsOf ws) ≡ ws
+unfolding linesIn rowsOf placementWords flatMap
+rows-words [] e h = refl
+rows-words (b ∷ []) e h = absurd (omega arith)
+rows-words (b ∷ s ∷ []) e h = absurd (omega arith)
+rows-words (b ∷ s ∷ k ∷ []) e h = absurd (omega arith)
+rows-words (b ∷ s ∷ k ∷ p ∷ []) e h = absurd (omega arith)
+rows-words (b ∷ s ∷ k ∷ p ∷ i ∷ []) e h = absurd (omega arith)
+rows-words (b ∷ s ∷ k ∷ p ∷ i ∷ x ∷ []) e h = absurd (omega arith)
+rows-words (b ∷ s ∷ k ∷ p ∷ i ∷ x ∷ y ∷ []) e h = absurd (omega arith)
+rows-words (b ∷ s ∷ k ∷ p ∷ i ∷ x ∷ y ∷ t ∷ ws) e h =
+    rw (type-of i t (h .0), turn-of i t (h .0)) (ap (λ (r : List ℕ). b ∷ s ∷ k ∷ p ∷ i ∷ x ∷ y ∷ t ∷ r) (rows-words ws (omega arith) (h .1)))
 
--- seven words for each
+-- eight words for each
 pub words-length : (ps : List Placement) → length (placementWords ps) ≡ wordsOfPlacement * length ps
 unfolding placementWords
 words-length ps = records-length _ wordsOfPlacement (λ p. refl) ps

@@ -11,7 +11,7 @@ use borrow.Author.Tests.{ltb-false, le-ltb, leb-true, le-leb, not-false}
 use Rattle.job.specs.declared.item.Item.{Item}
 use Rattle.job.specs.Lists.{sumOf, occurs}
 use Rattle.job.specs.Verdict.{pass, refuse, lowest}
-use Rattle.job.specs.Job.{Job}
+use Rattle.job.specs.Job.{Job, typeOf}
 use Rattle.job.proofs.Decides.{Passes}
 use Rattle.job.proofs.Tests.{and-left, and-right, and-both, or-left, or-right, or-neither}
 use Rattle.job.proofs.Verdicts.{pass-not-refuse}
@@ -142,7 +142,7 @@ module _ (job : Job) where
 -- 11: the demands, over the items of the lines
 module _ (rs : List Placement) where
   abbrev items : List ℕ
-  items = map (λ r. r .item) rs
+  items = map (λ r. typeOf (r .item)) rs
 
   enough : (i : ℕ) (it : Item) → lacks rs i it ≡ false → leb (it .demand) (occurs i items) ≡ true
   unfolding lacks
@@ -174,5 +174,5 @@ module _ (rs : List Placement) where
       let b = meetsFrom (suc i) its items in
       rw (not-lacking i it (and-left a b e), lowest) (demands-pass (suc i) its (and-right a b e))
 
-  pub demands-row : (i : ℕ) (its : List Item) → (lowest 11 (lacks rs) i its ≡ pass) ↔ (meetsFrom i its (map (λ r. r .item) rs) ≡ true)
+  pub demands-row : (i : ℕ) (its : List Item) → (lowest 11 (lacks rs) i its ≡ pass) ↔ (meetsFrom i its (map (λ r. typeOf (r .item)) rs) ≡ true)
   demands-row i its = (pass-demands i its, demands-pass i its)

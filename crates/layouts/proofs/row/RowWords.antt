@@ -10,69 +10,100 @@ use lib.ListN.{length}
 use Rattle.job.specs.Sizes.{wordsOfPlacement}
 use Rattle.job.specs.Verdict.{pass}
 use Rattle.job.specs.Job.{Job, maxSide, maxPieces}
-use Rattle.job.proofs.Decides.{decides-eq, decides-seven, decides-within, passes-then, passes-test}
+use Rattle.job.proofs.Positions.{permitted-exact}
+use Rattle.job.proofs.Decides.{decides-eq, decides-and, decides-seven, decides-within, passes-then, passes-test}
 use Rattle.layouts.specs.Layout.{Board, layoutRules}
 use Rattle.layouts.specs.Placement.{Placement, placementWords, linesOf, itemsOfSet}
-use Rattle.layouts.specs.Lines.{rowsOf, rowRight, layoutWords}
+use Rattle.layouts.specs.Lines.{Line, linesIn, rowsOf, rowRight, layoutWords}
 use Rattle.layouts.specs.LayoutsRow.{layoutsRow}
 use Rattle.layouts.specs.Rules.{Every, OfJob, StripOk, BoardOk, SetOk}
-use Rattle.layouts.proofs.lists.Every.{every-map, every-both, map-every, passes-every}
+use Rattle.layouts.proofs.lists.Every.{every-map, every-both, every-of-map, map-every, passes-every}
 use Rattle.layouts.proofs.rules.RulesExact.{set-exact}
 use Rattle.layouts.proofs.row.Grouping.{ok-full}
 use Rattle.layouts.proofs.row.RowTurns.{UpTo, turns-up-to, lines-from-one}
-use Rattle.layouts.proofs.row.RowLines.{items-every, lines-items, lines-length, words-rows, words-whole}
+use Rattle.layouts.proofs.row.RowLines.{items-every, lines-items, lines-length, lineOf, words-lines, words-rows, words-whole}
 use Rattle.layouts.proofs.rules.Geometry.{Between, lines-between}
 use Rattle.layouts.proofs.row.Row.{SetOfRows, row-set}
 
 module _ (job : Job) where
-  -- a line within its limits: "board, strip, stack, place 1 to 4,000", "type 1 to n", "x, y 0 to 10,000"
+  -- a line within its limits: "board, strip, stack, place 1 to 4,000", "type 1 to n", "x, y 0 to 10,000", the turn 0 or 1
+  pub record LineOk (r : Line) : Type 0 where
+    pub numbers : UpTo maxPieces (r .placement .turn)
+    pub type : (1 ≤ r .type) × (r .type ≤ length (job .items))
+    pub across : r .placement .x ≤ maxSide
+    pub up : r .placement .y ≤ maxSide
+    pub turned : r .turned ≤ 1
+
+  right-tests :
+      (r : Line)
+      → (rowRight job r ≡ true)
+      ↔ ((((1 ≤ r .placement .turn .board) × (r .placement .turn .board ≤ maxPieces))
+      × ((1 ≤ r .placement .turn .strip) × (r .placement .turn .strip ≤ maxPieces))
+      × ((1 ≤ r .placement .turn .stack) × (r .placement .turn .stack ≤ maxPieces))
+      × ((1 ≤ r .placement .turn .place) × (r .placement .turn .place ≤ maxPieces))
+      × ((1 ≤ r .type) × (r .type ≤ length (job .items)))
+      × ((0 ≤ r .placement .x) × (r .placement .x ≤ maxSide))
+      × ((0 ≤ r .placement .y) × (r .placement .y ≤ maxSide)))
+      × ((0 ≤ r .turned) × (r .turned ≤ 1)))
+  unfolding rowRight
+  right-tests r =
+      decides-and
+      (decides-seven
+      (decides-within 1 maxPieces (r .placement .turn .board))
+      (decides-within 1 maxPieces (r .placement .turn .strip))
+      (decides-within 1 maxPieces (r .placement .turn .stack))
+      (decides-within 1 maxPieces (r .placement .turn .place))
+      (decides-within 1 (length (job .items)) (r .type))
+      (decides-within 0 maxSide (r .placement .x))
+      (decides-within 0 maxSide (r .placement .y)))
+      (decides-within 0 1 (r .turned))
+
+  pub right-exact : (r : Line) → (rowRight job r ≡ true) ↔ LineOk r
+  right-exact r = (
+    λ e.
+        let (q, t) = right-tests r .0 e in
+        record {
+          numbers = record { board = q .0; strip = q .1; stack = q .2; place = q .3 };
+          type = q .4;
+          across = q .5 .1;
+          up = q .6 .1;
+          turned = t .1;
+        },
+    λ h.
+        let u = h .numbers in
+        right-tests r .1 (
+          (u .board, u .strip, u .stack, u .place, h .type, (omega arith, h .across), (omega arith, h .up)),
+          (omega arith, h .turned),
+        ),
+  )
+
+  -- layout words pass exactly if they are whole lines, each within its limits and in a permitted position
+  pub words-exact :
+      (ws : List ℕ)
+      → (layoutWords job ws ≡ pass)
+      ↔ ((length ws % wordsOfPlacement ≡ 0) × (Every LineOk (linesIn ws) × Every (λ r. OfJob job (r .item)) (rowsOf ws)))
+  unfolding layoutWords
+  words-exact ws =
+      passes-then (passes-test 1 (suc (length ws / wordsOfPlacement)) (decides-eq (length ws % wordsOfPlacement) 0))
+      (passes-then (passes-every 2 1 right-exact (linesIn ws)) (passes-every 19 1 (λ r. permitted-exact job (r .item)) (rowsOf ws)))
+
+  -- a placement within its limits
   pub record RowOk (r : Placement) : Type 0 where
     pub turned : UpTo maxPieces (r .turn)
     pub type : OfJob job (r .item)
     pub across : r .x ≤ maxSide
     pub up : r .y ≤ maxSide
 
-  right-tests :
-      (r : Placement)
-      → (rowRight job r ≡ true)
-      ↔ (((1 ≤ r .turn .board) × (r .turn .board ≤ maxPieces))
-      × ((1 ≤ r .turn .strip) × (r .turn .strip ≤ maxPieces))
-      × ((1 ≤ r .turn .stack) × (r .turn .stack ≤ maxPieces))
-      × ((1 ≤ r .turn .place) × (r .turn .place ≤ maxPieces))
-      × OfJob job (r .item)
-      × ((0 ≤ r .x) × (r .x ≤ maxSide))
-      × ((0 ≤ r .y) × (r .y ≤ maxSide)))
-  unfolding rowRight
-  right-tests r =
-      decides-seven
-      (decides-within 1 maxPieces (r .turn .board))
-      (decides-within 1 maxPieces (r .turn .strip))
-      (decides-within 1 maxPieces (r .turn .stack))
-      (decides-within 1 maxPieces (r .turn .place))
-      (decides-within 1 (length (job .items)) (r .item))
-      (decides-within 0 maxSide (r .x))
-      (decides-within 0 maxSide (r .y))
-
-  pub right-exact : (r : Placement) → (rowRight job r ≡ true) ↔ RowOk r
-  right-exact r = (
-    λ e.
-        let q = right-tests r .0 e in
-        record {
-          turned = record { board = q .0; strip = q .1; stack = q .2; place = q .3 };
-          type = q .4;
-          across = q .5 .1;
-          up = q .6 .1;
-        },
-    λ h.
-        let u = h .turned in
-        right-tests r .1 (u .board, u .strip, u .stack, u .place, h .type, (omega arith, h .across), (omega arith, h .up)),
-  )
-
-  -- layout words pass exactly if they are whole lines, each within its limits
-  pub words-exact : (ws : List ℕ) → (layoutWords job ws ≡ pass) ↔ ((length ws % wordsOfPlacement ≡ 0) × Every RowOk (rowsOf ws))
-  unfolding layoutWords
-  words-exact ws =
-      passes-then (passes-test 1 (suc (length ws / wordsOfPlacement)) (decides-eq (length ws % wordsOfPlacement) 0)) (passes-every 2 1 right-exact (rowsOf ws))
+  -- as a line of words it is within its limits too
+  row-line : (r : Placement) → RowOk r → LineOk (lineOf r)
+  row-line r h =
+      record {
+        numbers = h .turned;
+        type = h .type .type;
+        across = h .across;
+        up = h .up;
+        turned = h .type .turn .1;
+      }
 
   -- the lines of a set that keeps the rules, within 4,000 pieces, on a board of at most 10,000 by 10,000, are within their limits, ..
   pub lines-right :
@@ -114,11 +145,15 @@ module _ (job : Job) where
       → length (itemsOfSet bs) ≤ maxPieces
       → layoutWords job (placementWords (linesOf job bs)) ≡ pass
   lines-words bs wide high rules few =
+      let right : Every RowOk (linesOf job bs) = lines-right bs wide high rules few in
       words-exact (placementWords (linesOf job bs)) .1 (
         words-whole (linesOf job bs),
-        rw (words-rows (linesOf job bs)) (lines-right bs wide high rules few),
+        (
+          rw (words-lines (linesOf job bs)) (every-of-map LineOk lineOf (linesOf job bs) (every-map row-line (linesOf job bs) right)),
+          rw (words-rows (linesOf job bs)) (every-map (λ r (h : RowOk r). h .type) (linesOf job bs) right),
+        ),
       )
 
   -- words that pass the line row and the layouts row are the lines of a set that demand 3 names
   pub words-set : (k : ℕ) (ws : List ℕ) → layoutWords job ws ≡ pass → layoutsRow k job (rowsOf ws) ≡ pass → SetOfRows job (rowsOf ws)
-  words-set k ws e q = row-set job k (rowsOf ws) (every-map (λ r (h : RowOk r). h .type) (rowsOf ws) (words-exact ws .0 e .1)) q
+  words-set k ws e q = row-set job k (rowsOf ws) (words-exact ws .0 e .1 .1) q

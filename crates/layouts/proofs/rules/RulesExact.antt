@@ -6,12 +6,11 @@ use mathlib.Core.Logic.{_↔_}
 use mathlib.Core.Bool.{Bool, true, false, not, _&&_, false≢true, _||_}
 use mathlib.Core.List.{List, [], _∷_, flatMap}
 use lib.Dec.{leb, eqb}
-use lib.ListN.{length}
 use Rattle.job.specs.Lists.{any, all, sumOf, maxOf}
-use Rattle.job.specs.Verdict.{within}
 use Rattle.job.specs.Mode.{three, exact}
-use Rattle.job.specs.Job.{Job}
-use Rattle.job.proofs.Decides.{Decides, decides-le, decides-eq, decides-self, decides-then, decides-and, decides-seven, decides-if, decides-within}
+use Rattle.job.specs.Job.{Job, permitted}
+use Rattle.job.proofs.Positions.{permitted-exact}
+use Rattle.job.proofs.Decides.{Decides, decides-le, decides-eq, decides-self, decides-then, decides-and, decides-seven, decides-if}
 use Rattle.layouts.specs.Layout.{Stack, Strip, Board, widthOf, heightOf, stackWidth, stackHeight, stripWidth, stripHeight, boardHeight, single, fullStack, sameHeights, sameWidths, stageRule, boardRules, layoutRules}
 use Rattle.layouts.specs.Placement.{itemsOfStrip}
 use Rattle.layouts.specs.Rules.{Every, Some, Filled, Alike, Single, OfJob, Staged, StripOk, BoardOk, SetOk}
@@ -115,8 +114,8 @@ module _ (job : Job) where
       back h false t = rw t (two-exact s .1 (h .single t, h .level t))
 
   -- the items are of the job
-  pub types-exact : (s : Strip) → (all (all (within 1 (length (job .items)))) s ≡ true) ↔ Every (Every (OfJob job)) s
-  types-exact s = decides-all (decides-all (decides-within 1 (length (job .items)))) s
+  pub types-exact : (s : Strip) → (all (all (permitted job)) s ≡ true) ↔ Every (Every (OfJob job)) s
+  types-exact s = decides-all (decides-all (permitted-exact job)) s
 
   -- the sums of a strip and of a board
   pub across-exact : (s : Strip) → (leb (stripWidth job s) (job .width) ≡ true) ↔ (stripWidth job s ≤ job .width)

@@ -14,7 +14,7 @@ use Rattle.job.specs.Job.{Job, noItem, itemAt}
 use Rattle.job.proofs.Tests.{and-left, and-right, and-both}
 use Rattle.job.proofs.Decides.{decides-le, decides-eq, decides-self, decides-and, decides-four, decides-if}
 use Rattle.layouts.specs.Layout.{Board}
-use Rattle.layouts.specs.Placement.{Placement, noPlacement, itemsOfSet, meetsFrom, meetsDemands}
+use Rattle.layouts.specs.Placement.{Placement, noPlacement, meetsFrom, meetsDemands, typesOfSet}
 use Rattle.layouts.specs.Rectangle.{endX, endY, inside, apart, clear, noOverlap}
 use Rattle.layouts.specs.Rules.{Every, MeetsDemands, Inside, Apart, NoOverlap}
 use Rattle.layouts.proofs.lists.Every.{every-at, at-every, decides-all}
@@ -51,18 +51,18 @@ module _ (job : Job) where
   -- each item type lies in the set as often as demanded
   pub demands-exact : (bs : List Board) → (meetsDemands job bs ≡ true) ↔ MeetsDemands job bs
   unfolding meetsDemands itemAt
-  demands-exact bs = (to, λ h. each-meets (itemsOfSet bs) 1 (job .items) (back h))
+  demands-exact bs = (to, λ h. each-meets (typesOfSet bs) 1 (job .items) (back h))
     where
-      to : meetsFrom 1 (job .items) (itemsOfSet bs) ≡ true → MeetsDemands job bs
+      to : meetsFrom 1 (job .items) (typesOfSet bs) ≡ true → MeetsDemands job bs
       to e zero low top = absurd (omega arith)
-      to e (suc j) low top = meets-each (itemsOfSet bs) 1 (job .items) e j (suc j) (omega arith) (omega arith)
+      to e (suc j) low top = meets-each (typesOfSet bs) 1 (job .items) e j (suc j) (omega arith) (omega arith)
 
       back :
           MeetsDemands job bs
           → (j k : ℕ)
           → 1 + j ≡ k
           → j < length (job .items)
-          → getD (job .items) j noItem .demand ≤ occurs k (itemsOfSet bs)
+          → getD (job .items) j noItem .demand ≤ occurs k (typesOfSet bs)
       back h j k q lt = let r : suc j ≡ k = omega arith in rw (← r) (h (suc j) (omega arith) (omega arith))
 
   -- one rectangle is inside its board

@@ -7,7 +7,7 @@ use mathlib.Core.List.{List, [], _∷_}
 use lib.Dec.{eqb}
 use lib.ListN.{length}
 use Rattle.job.specs.Lists.{sumOf}
-use Rattle.job.specs.Job.{Job}
+use Rattle.job.specs.Job.{Job, typeOf}
 use Rattle.job.proofs.Sums.{bit, bit-same, bit-diff}
 use Rattle.listing.specs.Listing.{Listing, plateAt, cutAt}
 use Rattle.listing.specs.Model.{Model}
@@ -82,9 +82,9 @@ module _ (job : Job) (l : Listing) (m : Model job l) where
   boards-set [] h = refl
   boards-set (t ∷ ts) h = omega (arith, one-on-board t (h .0), boards-set ts (h .1))
 
--- the price of a cut's item
+-- the price of a cut's item, which is its type's
 abbrev pub itemCost : Listing → Prices → ℕ → ℕ
-itemCost l ps c = itemPrice ps (cutAt l c .item)
+itemCost l ps c = itemPrice ps (typeOf (cutAt l c .item))
 
 -- Weak duality: what the items of some boards cost, with accepted prices.
 module _ (l : Listing) (ps : Prices) (priced : DualFeasible l ps) where

@@ -14,7 +14,7 @@ use Rattle.layouts.proofs.trees.Pattern.{branch, rest, Pattern, branchO
 use Rattle.layouts.proofs.trees.Cuts.{IsCut, cut-fits, branch-number, rest-number}
 use Rattle.layouts.proofs.trees.Balance.{Ok, Root}
 
--- the item types of a tree of cuts
+-- the positions of a tree of cuts
 abbrev pub itemTree : Listing → Tree → Tree
 itemTree l t = tmap (λ c. cutAt l c .item) t
 

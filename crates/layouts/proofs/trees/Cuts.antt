@@ -6,7 +6,7 @@ use mathlib.Core.Bool.{Bool, true, false, cond}
 use lib.Dec.{eqb}
 use lib.ListN.{length}
 use borrow.Author.Tests.{eqb-true}
-use Rattle.job.specs.Job.{Job, itemAt}
+use Rattle.job.specs.Job.{Job, positionAt}
 use Rattle.job.specs.Admitted.{Sided}
 use Rattle.job.proofs.Sums.{bit, bit-or}
 use Rattle.listing.specs.declared.plate.Plate.{Plate}
@@ -90,14 +90,14 @@ module _ (job : Job) (l : Listing) (m : Model job l) where
           let r = number-kept _ (cutAt l c .right) (right-number c p) (omega arith) in
           let s : leftBy job l (cutAt l c) .top ≡ leftBy job l (cutAt l c) .right
           = sym (t .2) ∙ ap (plateAt l) (e ∙ sym f) ∙ r .2 in
-          stages-differ (job .mode) (itemAt job (cutAt l c .item)) (plateOf l c) (ap (λ (q : Plate). q .stage) s)
+          stages-differ (job .mode) (positionAt job (cutAt l c .item)) (plateOf l c) (ap (λ (q : Plate). q .stage) s)
 
       swapped : (t : Bool) → bit (eqb (cutAt l c .top) k) + bit (eqb (cutAt l c .right) k)
           ≡ bit (eqb (cond t (cutAt l c .top) (cutAt l c .right)) k) + bit (eqb (cond t (cutAt l c .right) (cutAt l c .top)) k)
       swapped true = refl
       swapped false = omega arith
 
-  -- a pair of a plate type and an item type is one cut only
+  -- a pair of a plate type and a position is one cut only
   pub one-cut : (c d : ℕ) → IsCut l c → IsCut l d → cutAt l c .plate ≡ cutAt l d .plate → cutAt l c .item ≡ cutAt l d .item → c ≡ d
   one-cut zero d p q e f = absurd (omega arith)
   one-cut (suc c) zero p q e f = absurd (omega arith)

@@ -1,9 +1,9 @@
--- Cut patterns: trees of item types, each permitted on the plate that it is cut from; the layout of a pattern, and the pattern of a layout.
+-- Cut patterns: trees of positions, each permitted on the plate that it is cut from; the layout of a pattern, and the pattern of a layout.
 use Prim.Native.Nat.{ℕ}
 use mathlib.Core.Bool.{cond}
 use mathlib.Core.List.{[], _∷_}
 use lib.Dec.{eqb}
-use Rattle.job.specs.Job.{Job, itemAt}
+use Rattle.job.specs.Job.{Job, positionAt}
 use Rattle.listing.specs.declared.plate.Plate.{Plate}
 use Rattle.listing.specs.Plate.{leaves}
 use Rattle.listing.specs.Listing.{Listing, plateAt, cutAt}
@@ -14,13 +14,13 @@ use Rattle.layouts.proofs.trees.Tree.{Tree, leaf, node}
 -- the residual of the next stage, and that of the plate's own stage
 abbrev pub branch : Job → Plate → ℕ → Plate
 branch job p i =
-    let r = leaves (job .mode) (itemAt job i) p in cond (eqb (p .stage) 2) (r .top) (r .right)
+    let r = leaves (job .mode) (positionAt job i) p in cond (eqb (p .stage) 2) (r .top) (r .right)
 
 abbrev pub rest : Job → Plate → ℕ → Plate
 rest job p i =
-    let r = leaves (job .mode) (itemAt job i) p in cond (eqb (p .stage) 2) (r .right) (r .top)
+    let r = leaves (job .mode) (positionAt job i) p in cond (eqb (p .stage) 2) (r .right) (r .top)
 
--- a tree of item types that can be cut from the plate
+-- a tree of positions that can be cut from the plate
 abbrev pub Pattern : Job → Plate → Tree → Type 0
 Pattern job p leaf = Unit {0}
 Pattern job p (node i a b) = CutFrom job p i × Pattern job (branch job p i) a × Pattern job (rest job p i) b

@@ -1,16 +1,17 @@
 -- The items of the layouts of trees of cuts: of each type as many as the trees have cuts of it.
 use Prim.Native.Nat.{ℕ, _+_, _<_}
 use native.Mathlib.Omega.{arith}
-use mathlib.Core.Path.{_≡_, refl, ap}
+use mathlib.Core.Path.{_≡_, refl, ap, _∙_}
 use mathlib.Core.List.{List, [], _∷_, map, flatMap}
-use Rattle.job.specs.Lists.{sumOf}
-use Rattle.job.specs.Job.{Job}
+use lib.Dec.{eqb}
+use Rattle.job.specs.Lists.{sumOf, occurs}
+use Rattle.job.specs.Job.{Job, typeOf}
 use Rattle.job.specs.Admitted.{Sided}
-use Rattle.job.proofs.Sums.{sumOf-append}
+use Rattle.job.proofs.Sums.{sumOf-append, sumOf-map, bit, occurs-sum}
 use Rattle.listing.specs.Listing.{Listing, plateAt, cutAt}
 use Rattle.listing.specs.Model.{Model}
 use Rattle.layouts.specs.Layout.{Stack, Strip, Board}
-use Rattle.layouts.specs.Placement.{itemsOfStrip, itemsOfBoard, itemsOfSet}
+use Rattle.layouts.specs.Placement.{itemsOfStrip, itemsOfBoard, itemsOfSet, typesOfSet}
 use Rattle.layouts.proofs.trees.Tree.{Tree, leaf, node, tsum, fsum}
 use Rattle.layouts.proofs.trees.Pattern.{branchOf, restOf, stackOf, stripOf, boardOf}
 use Rattle.layouts.proofs.trees.Cuts.{IsCut, plateOf}
@@ -21,6 +22,14 @@ use Rattle.layouts.proofs.trees.CutTree.{itemTree}
 -- the layout of a tree of cuts
 abbrev pub layoutOf : Listing → Tree → Board
 layoutOf l t = boardOf (itemTree l t)
+
+-- sums over the types of a set, in whichever turn they lie
+pub types-sum : (f : ℕ → ℕ) (bs : List Board) → sumOf f (typesOfSet bs) ≡ sumOf (λ q. f (typeOf q)) (itemsOfSet bs)
+unfolding typesOfSet
+types-sum f bs = sumOf-map f typeOf (itemsOfSet bs)
+
+pub types-occur : (i : ℕ) (bs : List Board) → occurs i (typesOfSet bs) ≡ sumOf (λ q. bit (eqb (typeOf q) i)) (itemsOfSet bs)
+types-occur i bs = occurs-sum i (typesOfSet bs) ∙ types-sum (λ k. bit (eqb k i)) bs
 
 module _ (f : ℕ → ℕ) where
   -- sums over the items of a strip, of a board, of a set, part by part

@@ -5,7 +5,7 @@ use inputs::Text;
 use std::fmt;
 
 /// One past the largest refusal number.
-const NUMBERS: usize = 19;
+const NUMBERS: usize = 20;
 
 pub struct Tally {
     came: [usize; NUMBERS],

@@ -8,6 +8,7 @@ use inputs::plans::random_plan;
 use inputs::prices::random_prices;
 use inputs::{Model, Random};
 use reference::buffers::{COUNTS, CUTS, PLACEMENTS, PLATES};
+use reference::layout::PLACEMENT_NUMBERS;
 use reference::{calls, Refusal};
 
 /// The most pieces of an unfolding that the definitions are asked to compute.
@@ -169,11 +170,14 @@ fn layout_words(random: &mut Random, model: &Model, damaged: bool) -> Vec<u16> {
     let mut layouts = random_layouts(random, &model.job, how < 6);
     match how {
         6 | 7 => {
-            let mut lines: Vec<_> = layouts.chunks(7).map(<[u16]>::to_vec).collect();
+            let mut lines: Vec<_> = layouts
+                .chunks(PLACEMENT_NUMBERS)
+                .map(<[u16]>::to_vec)
+                .collect();
             damage_order(random, &mut lines);
             layouts = lines.concat();
         }
-        8 => layouts = vec![1; 7 * random.pick(&[0, 4_000, 4_001])],
+        8 => layouts = [1, 1, 1, 1, 1, 0, 0, 0].repeat(random.pick(&[0, 4_000, 4_001])),
         9..=15 => damage_words(random, &mut layouts, Words::Layouts),
         _ => {}
     }

@@ -9,7 +9,7 @@ use inputs::{Model, Random};
 use reference::layout::{keeps_rules, placements};
 use reference::listing::Limits;
 use reference::plan::ensure_demands;
-use reference::{Board, Job, Listing, Placement, Prices};
+use reference::{Board, Job, Listing, Placement, Position, Prices, Stack, Strip};
 use std::collections::HashSet;
 
 /// A theorem over the walk within limits about the size of the listing, refused 6 or 7 or not.
@@ -50,7 +50,7 @@ pub fn set_theorem(random: &mut Random) -> Theorem {
     let lines = placements(&model.job, &set);
     let mut laid = vec![0; model.job.items.len() + 1];
     for line in &lines {
-        laid[usize::from(line.item)] += 1;
+        laid[usize::from(line.position.item)] += 1;
     }
     let holds = [
         set.iter().all(|board| keeps_rules(&model.job, board)),
@@ -71,8 +71,8 @@ pub fn set_theorem(random: &mut Random) -> Theorem {
     }
 }
 
-/// A theorem over the rules alone, of a set that may have an empty list or a type that the job
-/// has not.
+/// A theorem over the rules alone, of a set that may have an empty list, a type that the job has
+/// not, or an item turned without leave.
 pub fn rules_theorem(random: &mut Random) -> Theorem {
     let model = Model::random(random);
     let mut set = set_or_broken(random, &model.job);
@@ -83,7 +83,8 @@ pub fn rules_theorem(random: &mut Random) -> Theorem {
         0 => set.push(Board::new()),
         1 => set[board].push(Vec::new()),
         2 => set[board][strip].push(Vec::new()),
-        3 => set[board][strip][0][0] = random.pick(&[0, types + 1]),
+        3 => set[board][strip][0][0].item = random.pick(&[0, types + 1]),
+        5 => set[board][strip][0][0] = Position::turned(random.between(1, types)),
         4 => set.clear(),
         _ => {}
     }
@@ -163,7 +164,7 @@ fn set_or_broken(random: &mut Random, job: &Job) -> Vec<Board> {
 fn cells(job: &Job, lines: &[Placement]) -> Vec<[u16; 3]> {
     let mut cells = Vec::new();
     for line in lines {
-        let item = job.item(line.item);
+        let item = job.sides(line.position);
         for x in line.x..line.x + item.width {
             cells.extend((line.y..line.y + item.height).map(|y| [line.board, x, y]));
         }
@@ -184,8 +185,9 @@ fn is_without_overlap(job: &Job, lines: &[Placement]) -> bool {
     cells.all(|cell| covered.insert(cell))
 }
 
-/// A set as a list of lists of lists of lists.
+/// A set as a list of lists of lists of lists; an item is twice its type plus its turn.
 fn set_of(set: &[Board]) -> String {
-    let strip = |strip: &reference::Strip| list(strip.iter().map(numbers));
+    let stack = |stack: &Stack| numbers(stack.iter().map(|position| position.word()));
+    let strip = |strip: &Strip| list(strip.iter().map(stack));
     list(set.iter().map(|board| list(board.iter().map(strip))))
 }

@@ -1,13 +1,29 @@
 //! The words of demand 3, written a second time and plainly: rules, positions, rectangles.
 
-use reference::{Board, Job, Mode, Stack, Strip};
+use reference::{Board, Job, Mode, Position, Stack, Strip};
+
+/// The width and height of an item as it lies.
+fn sides(job: &Job, position: Position) -> (u16, u16) {
+    let item = &job.items[usize::from(position.item) - 1];
+    match position.turned {
+        true => (item.height, item.width),
+        false => (item.width, item.height),
+    }
+}
+
+/// Whether an item may lie so.
+fn permitted(job: &Job, position: Position) -> bool {
+    let item = &job.items[usize::from(position.item) - 1];
+    !position.turned || (item.leave && item.width != item.height)
+}
 
 /// A stack's width and height.
 fn stack_sides(job: &Job, stack: &Stack) -> (u16, u16) {
     let mut sides = (0, 0);
     for &item in stack {
-        sides.0 = sides.0.max(job.item(item).width);
-        sides.1 += job.item(item).height;
+        let (width, height) = self::sides(job, item);
+        sides.0 = sides.0.max(width);
+        sides.1 += height;
     }
     sides
 }
@@ -25,8 +41,8 @@ fn strip_sides(job: &Job, strip: &Strip) -> (u16, u16) {
 
 /// Whether a strip keeps the stage rule.
 fn stage_rule(job: &Job, strip: &Strip) -> bool {
-    let high = |item: &u16| job.item(*item).height;
-    let wide = |item: &u16| job.item(*item).width;
+    let high = |item: &Position| sides(job, *item).1;
+    let wide = |item: &Position| sides(job, *item).0;
     let (_, height) = strip_sides(job, strip);
     let all_single = strip.iter().all(|stack| stack.len() == 1);
     let led = strip
@@ -47,7 +63,7 @@ fn stage_rule(job: &Job, strip: &Strip) -> bool {
     }
 }
 
-/// Whether a set keeps the layout rules and leaves nothing empty.
+/// Whether a set keeps the layout rules, turns no piece without leave and leaves nothing empty.
 pub fn keeps_rules(job: &Job, set: &[Board]) -> bool {
     set.iter().all(|board| {
         let filled = !board.is_empty()
@@ -55,15 +71,17 @@ pub fn keeps_rules(job: &Job, set: &[Board]) -> bool {
             && board.iter().flatten().all(|stack| !stack.is_empty());
         let heights: u16 = board.iter().map(|strip| strip_sides(job, strip).1).sum();
         let strip_fits = |strip: &Strip| strip_sides(job, strip).0 <= job.width;
+        let mut pieces = board.iter().flatten().flatten();
         filled
+            && pieces.all(|&piece| permitted(job, piece))
             && board.iter().all(|strip| stage_rule(job, strip))
             && board.iter().all(strip_fits)
             && heights <= job.height
     })
 }
 
-/// The seven numbers of each item of a set, positions included.
-pub fn lines(job: &Job, set: &[Board]) -> Vec<[u16; 7]> {
+/// The eight numbers of each item of a set, x, y and turn included.
+pub fn lines(job: &Job, set: &[Board]) -> Vec<[u16; 8]> {
     let mut lines = Vec::new();
     for (b, board) in set.iter().enumerate() {
         for (s, strip) in board.iter().enumerate() {
@@ -75,8 +93,9 @@ pub fn lines(job: &Job, set: &[Board]) -> Vec<[u16; 7]> {
                 let x = strip_sides(job, &strip[..k].to_vec()).0;
                 for (p, &item) in stack.iter().enumerate() {
                     let below = stack_sides(job, &stack[..p].to_vec()).1;
-                    let turn = [b, s, k, p].map(|index| index as u16 + 1);
-                    lines.push([turn[0], turn[1], turn[2], turn[3], item, x, y + below]);
+                    let [b, s, k, p] = [b, s, k, p].map(|index| index as u16 + 1);
+                    let turn = u16::from(item.turned);
+                    lines.push([b, s, k, p, item.item, x, y + below, turn]);
                 }
             }
         }
@@ -85,9 +104,9 @@ pub fn lines(job: &Job, set: &[Board]) -> Vec<[u16; 7]> {
 }
 
 /// The set that lines describe, which must be in turn from 1.
-pub fn set_in_turn(lines: &[[u16; 7]]) -> Vec<Board> {
+pub fn set_in_turn(lines: &[[u16; 8]]) -> Vec<Board> {
     let mut set: Vec<Board> = Vec::new();
-    for &[b, s, k, p, item, _, _] in lines {
+    for &[b, s, k, p, item, _, _, turn] in lines {
         let [b, s, k, p] = [b, s, k, p].map(usize::from);
         if p == 1 && k == 1 && s == 1 {
             set.push(vec![]);
@@ -103,7 +122,10 @@ pub fn set_in_turn(lines: &[[u16; 7]]) -> Vec<Board> {
             strip.push(vec![]);
         }
         let stacks = strip.len();
-        strip[stacks - 1].push(item);
+        strip[stacks - 1].push(Position {
+            item,
+            turned: turn == 1,
+        });
         assert_eq!(
             [b, s, k, p],
             [boards, strips, stacks, strip[stacks - 1].len()]
@@ -113,11 +135,15 @@ pub fn set_in_turn(lines: &[[u16; 7]]) -> Vec<Board> {
 }
 
 /// Every rectangle lies inside its board, and no two on one board overlap.
-pub fn rectangles_apart(job: &Job, lines: &[[u16; 7]]) {
-    let edges = |line: &[u16; 7]| {
-        let item = job.item(line[4]);
+pub fn rectangles_apart(job: &Job, lines: &[[u16; 8]]) {
+    let edges = |line: &[u16; 8]| {
+        let position = Position {
+            item: line[4],
+            turned: line[7] == 1,
+        };
+        let (width, height) = sides(job, position);
         let (x, y) = (line[5], line[6]);
-        (x, y, x + item.width, y + item.height)
+        (x, y, x + width, y + height)
     };
     for (index, line) in lines.iter().enumerate() {
         let (x, y, x_end, y_end) = edges(line);
@@ -131,12 +157,31 @@ pub fn rectangles_apart(job: &Job, lines: &[[u16; 7]]) {
 }
 
 /// How often each type lies in the lines.
-pub fn laid(job: &Job, lines: &[[u16; 7]]) -> Vec<u32> {
+pub fn laid(job: &Job, lines: &[[u16; 8]]) -> Vec<u32> {
     let mut laid = vec![0; job.items.len()];
     for line in lines {
         laid[usize::from(line[4]) - 1] += 1;
     }
     laid
+}
+
+/// How often each type lies in the lines unturned, and how often turned.
+pub fn laid_in_turns(job: &Job, lines: &[[u16; 8]]) -> Vec<[u32; 2]> {
+    let mut laid = vec![[0; 2]; job.items.len()];
+    for line in lines {
+        laid[usize::from(line[4]) - 1][usize::from(line[7])] += 1;
+    }
+    laid
+}
+
+/// How often counts cut each type unturned, and how often turned, by the cuts' item words.
+pub fn cut_in_turns(job: &Job, cuts: &[[u16; 4]], counts: &[u16]) -> Vec<[u32; 2]> {
+    let mut cut_in_turns = vec![[0; 2]; job.items.len()];
+    for (cut, &count) in cuts.iter().zip(counts) {
+        let [item, turn] = [cut[1] / 2, cut[1] % 2].map(usize::from);
+        cut_in_turns[item - 1][turn] += u32::from(count);
+    }
+    cut_in_turns
 }
 
 /// Whether each type lies there at least as often as demanded.

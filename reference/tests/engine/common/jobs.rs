@@ -13,8 +13,16 @@ pub fn mode_words(mode: Mode) -> [u16; 2] {
     }
 }
 
-/// Job words from a mode, the board's sides, and width, height, demand of each type.
+/// Job words from a mode, the board's sides, and width, height, demand of each type; no type has
+/// leave to be turned.
 pub fn job(mode: Mode, board: [u16; 2], items: &[[u16; 3]]) -> Vec<u16> {
+    let without = |&[width, height, demand]: &[u16; 3]| [width, height, demand, 0];
+    let items: Vec<[u16; 4]> = items.iter().map(without).collect();
+    job_with_leave(mode, board, &items)
+}
+
+/// Job words from a mode, the board's sides, and width, height, demand, leave of each type.
+pub fn job_with_leave(mode: Mode, board: [u16; 2], items: &[[u16; 4]]) -> Vec<u16> {
     let mut words = mode_words(mode).to_vec();
     words.extend(board);
     words.push(items.len() as u16);
@@ -40,10 +48,10 @@ pub fn job_b() -> Vec<u16> {
 
 /// The words of a structured job.
 pub fn words_of(structured: &Job) -> Vec<u16> {
-    let items: Vec<[u16; 3]> = (structured.items.iter())
-        .map(|item| [item.width, item.height, item.demand])
+    let items: Vec<[u16; 4]> = (structured.items.iter())
+        .map(|item| [item.width, item.height, item.demand, u16::from(item.leave)])
         .collect();
-    job(
+    job_with_leave(
         structured.mode,
         [structured.width, structured.height],
         &items,
@@ -51,7 +59,8 @@ pub fn words_of(structured: &Job) -> Vec<u16> {
 }
 
 /// A random job: any mode, a small board, up to five types whose sides are drawn from few
-/// values, so that equal widths and heights occur and the exact modes have work to do.
+/// values, so that equal widths and heights occur and the exact modes have work to do. Most jobs
+/// have types with leave to be turned, and some of these fit the board only turned.
 pub fn random_job(random: &mut Random) -> Job {
     let mode = random.pick(&Mode::ALL);
     random_job_in(random, mode)
@@ -65,10 +74,15 @@ pub fn random_job_in(random: &mut Random, mode: Mode) -> Job {
     let widths: Vec<u16> = (0..3).map(|_| random.between(1, width)).collect();
     let heights: Vec<u16> = (0..3).map(|_| random.between(1, height)).collect();
     let types = random.between(1, 5);
-    let items = (0..types).map(|_| Item {
-        width: random.pick(&widths),
-        height: random.pick(&heights),
-        demand: random.between(1, 3),
+    let turning = !random.once_in(4);
+    let items = (0..types).map(|_| {
+        let item = Item {
+            width: random.pick(&widths),
+            height: random.pick(&heights),
+            demand: random.between(1, 3),
+            leave: false,
+        };
+        with_leave(random, item, turning)
     });
     Job {
         mode,
@@ -78,16 +92,36 @@ pub fn random_job_in(random: &mut Random, mode: Mode) -> Job {
     }
 }
 
+/// The item, in a job where types turn with leave one time in two, and then as it was or turned.
+fn with_leave(random: &mut Random, item: Item, turning: bool) -> Item {
+    let leave = turning && random.once_in(2);
+    let (width, height) = match leave && random.once_in(2) {
+        true => (item.height, item.width),
+        false => (item.width, item.height),
+    };
+    Item {
+        width,
+        height,
+        leave,
+        ..item
+    }
+}
+
 /// A random job of large sides and up to forty types, so few of which fit beside or above each
 /// other that its listing stays small; now and then it is past the limits all the same.
 pub fn random_large_job(random: &mut Random, mode: Mode) -> Job {
     let [width, height] = [0; 2].map(|_| random.between(1_000, 10_000));
     let types = random.between(1, 40);
     let least = if types > 8 { 3 } else { 6 };
-    let items = (0..types).map(|_| Item {
-        width: random.between(width / least, width),
-        height: random.between(height / least, height),
-        demand: random.between(1, 4),
+    let turning = random.once_in(3);
+    let items = (0..types).map(|_| {
+        let item = Item {
+            width: random.between(width / least, width),
+            height: random.between(height / least, height),
+            demand: random.between(1, 4),
+            leave: false,
+        };
+        with_leave(random, item, turning)
     });
     Job {
         mode,

@@ -7,7 +7,7 @@ use reference::{Bound, Listed, Refusal, Unfolded};
 pub const PLATES: usize = 6_144;
 pub const CUTS: usize = 32_768;
 pub const COUNTS: usize = 8_192;
-pub const PLACEMENTS: usize = 28_000;
+pub const PLACEMENTS: usize = 32_000;
 
 /// Words that no call writes.
 pub fn junk(length: usize) -> Vec<u16> {
@@ -76,12 +76,12 @@ impl Lent {
         } = self;
         let answer = reference::unfold(job, &counts, plates, cuts, placements);
         let pieces = answer.map_or(0, |unfolded| unfolded.pieces as usize);
-        assert!(self.placements[7 * pieces..].iter().all(|&word| word == 0));
+        assert!(self.placements[8 * pieces..].iter().all(|&word| word == 0));
         self.check_model(job, answer.is_ok());
         answer
     }
 
-    pub fn fold(&mut self, job: &[u16], layouts: &[[u16; 7]]) -> Result<u32, Refusal> {
+    pub fn fold(&mut self, job: &[u16], layouts: &[[u16; 8]]) -> Result<u32, Refusal> {
         self.fold_words(job, &layouts.concat())
     }
 
@@ -100,12 +100,12 @@ impl Lent {
     }
 
     /// The lines that the last unfolding wrote.
-    pub fn lines(&self) -> Vec<[u16; 7]> {
+    pub fn lines(&self) -> Vec<[u16; 8]> {
         let lines = self
             .placements
-            .chunks_exact(7)
+            .chunks_exact(8)
             .map(|line| line.try_into().unwrap());
-        lines.take_while(|line: &[u16; 7]| line[0] != 0).collect()
+        lines.take_while(|line: &[u16; 8]| line[0] != 0).collect()
     }
 
     /// After success plates and cuts hold the listing, after these refusals nothing.

@@ -11,7 +11,18 @@ pub mod random;
 pub mod sets;
 pub mod texts;
 
-use reference::Refusal;
+use reference::{Board, Position, Refusal, Strip};
+
+/// A strip of unturned items, by their types.
+pub fn strip(stacks: &[&[u16]]) -> Strip {
+    let stack = |types: &&[u16]| types.iter().map(|&item| Position::unturned(item)).collect();
+    stacks.iter().map(stack).collect()
+}
+
+/// A board of strips of unturned items, by their types.
+pub fn board(strips: &[&[&[u16]]]) -> Board {
+    strips.iter().map(|stacks| strip(stacks)).collect()
+}
 
 /// A refusal as the answer of a call.
 pub fn refused<T>(number: u32, place: u32) -> Result<T, Refusal> {

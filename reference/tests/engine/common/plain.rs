@@ -1,5 +1,5 @@
-//! The listing, written a second time and plainly from document 01, "Plates and cuts": over job
-//! words, with every lookup a search of the whole list.
+//! The listing, written a second time and plainly from document 01, "Plates and cuts", and from
+//! document 02, One: over job words, with every lookup a search of the whole list.
 
 type Plate = [u16; 3];
 type Cut = [u16; 4];
@@ -19,9 +19,17 @@ fn may_cut(job: &[u16], [w, h, stage]: Plate, [wi, hi]: [u16; 2]) -> bool {
     true
 }
 
-/// The sides of the item types, in order.
-fn sides(job: &[u16]) -> Vec<[u16; 2]> {
-    job[5..].chunks(3).map(|item| [item[0], item[1]]).collect()
+/// The item words of the permitted positions in the order of the walk, each with its sides.
+fn positions(job: &[u16]) -> Vec<(u16, [u16; 2])> {
+    let mut positions = Vec::new();
+    for (item, number) in job[5..].chunks(4).zip(1..) {
+        let [width, height, leave] = [item[0], item[1], item[3]];
+        positions.push((2 * number, [width, height]));
+        if leave == 1 && width != height {
+            positions.push((2 * number + 1, [height, width]));
+        }
+    }
+    positions
 }
 
 /// Top and right of a cut; waste is a plate with a side of 0.
@@ -38,19 +46,22 @@ fn leaves(job: &[u16], [w, h, stage]: Plate, [wi, hi]: [u16; 2]) -> [Plate; 2] {
 
 /// Plate types from 0 and cuts from 1, without limits.
 pub fn listing(job: &[u16]) -> (Vec<Plate>, Vec<Cut>) {
-    let items = sides(job);
+    let items = positions(job);
     let mut plates = vec![[job[2], job[3], 1]];
     let mut cuts = Vec::new();
     let mut number = 0;
     while number < plates.len() {
         let plate = plates[number];
-        for (index, &item) in items.iter().enumerate() {
+        for &(word, item) in &items {
             if !may_cut(job, plate, item) {
                 continue;
             }
             let mut kept = [0, 0];
             for (side, residual) in leaves(job, plate, item).into_iter().enumerate() {
-                if !items.iter().any(|&other| may_cut(job, residual, other)) {
+                if !items
+                    .iter()
+                    .any(|&(_, other)| may_cut(job, residual, other))
+                {
                     continue;
                 }
                 if !plates.contains(&residual) {
@@ -59,7 +70,7 @@ pub fn listing(job: &[u16]) -> (Vec<Plate>, Vec<Cut>) {
                 let met = plates.iter().position(|other| *other == residual);
                 kept[side] = met.unwrap() as u16;
             }
-            cuts.push([number as u16, index as u16 + 1, kept[0], kept[1]]);
+            cuts.push([number as u16, word, kept[0], kept[1]]);
         }
         number += 1;
     }
@@ -75,9 +86,9 @@ pub fn accepts(job: &[u16], counts: &[u16]) -> Option<u32> {
         cuts.iter().zip(counts).map(of_cut).sum()
     };
     let demands_met = job[5..]
-        .chunks(3)
+        .chunks(4)
         .zip(1..)
-        .all(|(item, number)| sum(&|cut| cut[1] == number) >= u32::from(item[2]));
+        .all(|(item, number)| sum(&|cut| cut[1] / 2 == number) >= u32::from(item[2]));
     let residuals_arise = (1..plates.len() as u16).all(|plate| {
         let leaving = sum(&|cut| cut[2] == plate) + sum(&|cut| cut[3] == plate);
         sum(&|cut| cut[0] == plate) <= leaving

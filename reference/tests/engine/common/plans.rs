@@ -21,13 +21,14 @@ pub fn random_plan(random: &mut Random, job: &Job, listing: &Listing) -> Vec<u16
             let on = listing.cuts_on(plate);
             on.start + random.below(on.len())
         } else {
-            let short = missing.iter().position(|&count| count > 0).unwrap_or(0);
-            listing.cut_of(0, short as u16 + 1).unwrap()
+            let short = missing.iter().position(|&count| count > 0).unwrap_or(0) as u16 + 1;
+            let of_type = |&index: &usize| listing.cuts[index].position.item == short;
+            listing.cuts_on(0).find(of_type).unwrap()
         };
         counts[index] += 1;
         let cut = listing.cuts[index];
         waiting.extend(cut.top.iter().chain(&cut.right));
-        let item = &mut missing[usize::from(cut.item) - 1];
+        let item = &mut missing[usize::from(cut.position.item) - 1];
         *item = item.saturating_sub(1);
     }
     counts

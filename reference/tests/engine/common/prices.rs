@@ -47,7 +47,7 @@ pub fn least_prices(random: &mut Random, job: &Job, listing: &Listing) -> Option
             let cut = listing.cuts[index];
             let kept = cut.top.iter().chain(&cut.right);
             let residuals: u32 = kept.map(|&residual| least[usize::from(residual)]).sum();
-            residuals + u32::from(items[usize::from(cut.item) - 1])
+            residuals + u32::from(items[usize::from(cut.position.item) - 1])
         };
         let highest = listing.cuts_on(number as u16).map(cost).max();
         least[number] = highest.unwrap_or(0);

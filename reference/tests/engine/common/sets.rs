@@ -1,7 +1,7 @@
 //! Random sets of layouts, made from the layout rules alone.
 
 use super::random::Random;
-use reference::{Board, Job, Mode, Strip};
+use reference::{Board, Job, Mode, Position, Strip};
 
 /// How often each type still has to be laid.
 struct Missing(Vec<u16>);
@@ -30,7 +30,7 @@ impl Missing {
 
     fn lay(&mut self, board: &Board) {
         for item in board.iter().flatten().flatten() {
-            let count = &mut self.0[usize::from(*item) - 1];
+            let count = &mut self.0[usize::from(item.item) - 1];
             *count = count.saturating_sub(1);
         }
     }
@@ -41,7 +41,12 @@ pub fn random_set(random: &mut Random, job: &Job) -> Vec<Board> {
     let mut missing = Missing::of(job);
     let mut set = Vec::new();
     while !missing.is_none() || set.is_empty() || random.once_in(5) {
-        let lead = missing.pick(random);
+        let fits = |position: &Position| job.fits(*position);
+        let leads: Vec<Position> = job
+            .positions_of(missing.pick(random))
+            .filter(fits)
+            .collect();
+        let lead = random.pick(&leads);
         let board = random_board(random, job, lead);
         missing.lay(&board);
         set.push(board);
@@ -49,8 +54,8 @@ pub fn random_set(random: &mut Random, job: &Job) -> Vec<Board> {
     set
 }
 
-/// A board whose strips come in any order; one of them is led by the given type.
-fn random_board(random: &mut Random, job: &Job, lead: u16) -> Board {
+/// A board whose strips come in any order; one of them is led by the given item.
+fn random_board(random: &mut Random, job: &Job, lead: Position) -> Board {
     let mut board = Vec::new();
     let mut room = job.height;
     let mut next = Some(lead);
@@ -60,8 +65,8 @@ fn random_board(random: &mut Random, job: &Job, lead: u16) -> Board {
         } else {
             three_stage_strip(random, job, lead)
         };
-        let single = strip.iter().map(|stack| job.item(stack[0]).height);
-        room -= single.max().unwrap().max(job.item(lead).height);
+        let single = strip.iter().map(|stack| job.sides(stack[0]).height);
+        room -= single.max().unwrap().max(job.sides(lead).height);
         board.push(strip);
         next = match random.once_in(6) {
             true => None,
@@ -72,35 +77,35 @@ fn random_board(random: &mut Random, job: &Job, lead: u16) -> Board {
     board
 }
 
-/// An item type that fits into the room and has the given width, if one is given.
+/// An item in a position that fits into the room and has the given width, if one is given.
 fn random_item(
     random: &mut Random,
     job: &Job,
     width: u16,
     height: u16,
     exact_width: Option<u16>,
-) -> Option<u16> {
-    let fitting: Vec<u16> = (1..)
-        .zip(&job.items)
-        .filter(|(_, item)| item.width <= width && item.height <= height)
-        .filter(|(_, item)| exact_width.is_none_or(|exact| item.width == exact))
-        .map(|(number, _)| number)
-        .collect();
+) -> Option<Position> {
+    let fits = |position: &Position| {
+        let sides = job.sides(*position);
+        let exact = exact_width.is_none_or(|exact| sides.width == exact);
+        sides.width <= width && sides.height <= height && exact
+    };
+    let fitting: Vec<Position> = job.positions().filter(fits).collect();
     (!fitting.is_empty()).then(|| random.pick(&fitting))
 }
 
 /// A strip of single items, not higher than the room; in 2E all as high as the leading one.
-fn two_stage_strip(random: &mut Random, job: &Job, lead: u16, room: u16) -> Strip {
+fn two_stage_strip(random: &mut Random, job: &Job, lead: Position, room: u16) -> Strip {
     let mut strip = vec![vec![lead]];
-    let mut width = job.width - job.item(lead).width;
+    let mut width = job.width - job.sides(lead).width;
     while let Some(item) = random_item(random, job, width, room, None) {
         if random.once_in(6) {
             break;
         }
-        if job.mode == Mode::TwoExact && job.item(item).height != job.item(lead).height {
+        if job.mode == Mode::TwoExact && job.sides(item).height != job.sides(lead).height {
             continue;
         }
-        width -= job.item(item).width;
+        width -= job.sides(item).width;
         strip.push(vec![item]);
     }
     random.shuffle(&mut strip);
@@ -109,28 +114,28 @@ fn two_stage_strip(random: &mut Random, job: &Job, lead: u16, room: u16) -> Stri
 
 /// A strip of stacks, none higher than the leading item, which is a stack of its own; in 3E each
 /// stack has one width.
-fn three_stage_strip(random: &mut Random, job: &Job, lead: u16) -> Strip {
+fn three_stage_strip(random: &mut Random, job: &Job, lead: Position) -> Strip {
     let mut strip = vec![vec![lead]];
-    let height = job.item(lead).height;
-    let mut width = job.width - job.item(lead).width;
+    let height = job.sides(lead).height;
+    let mut width = job.width - job.sides(lead).width;
     while let Some(first) = random_item(random, job, width, height, None) {
         if random.once_in(6) {
             break;
         }
-        let exact_width = (job.mode == Mode::ThreeExact).then(|| job.item(first).width);
+        let exact_width = (job.mode == Mode::ThreeExact).then(|| job.sides(first).width);
         let mut stack = vec![first];
-        let mut room = height - job.item(first).height;
+        let mut room = height - job.sides(first).height;
         while let Some(item) = random_item(random, job, width, room, exact_width) {
             if random.once_in(6) {
                 break;
             }
-            room -= job.item(item).height;
+            room -= job.sides(item).height;
             stack.push(item);
         }
         random.shuffle(&mut stack);
         width -= stack
             .iter()
-            .map(|&item| job.item(item).width)
+            .map(|&item| job.sides(item).width)
             .max()
             .unwrap();
         strip.push(stack);

@@ -27,23 +27,25 @@ pub fn job_text(job: &[u16]) -> Vec<u8> {
         number(job[3]),
         number(job[4]),
     ]);
-    for (item_type, item) in (1..).zip(job[5..].chunks(3)) {
+    for (item_type, item) in (1..).zip(job[5..].chunks(4)) {
         text.extend(line(&[
             2,
             item_type,
             number(item[0]),
             number(item[1]),
             number(item[2]),
+            number(item[3]),
         ]));
     }
     text
 }
 
-/// The lines of kind 3 of counts, by plate and item of each cut.
+/// The lines of kind 3 of counts, by plate and item word of each cut.
 pub fn plan_text(cuts: &[[u16; 4]], counts: &[u16]) -> Vec<u8> {
     let counted = cuts.iter().zip(counts).filter(|(_, &count)| count > 0);
     let written = counted.flat_map(|(cut, &count)| {
-        line(&[3, u32::from(cut[0]), u32::from(cut[1]), u32::from(count)])
+        let numbers = [3, cut[0], cut[1] / 2, count, cut[1] % 2];
+        line(&numbers.map(u32::from))
     });
     written.collect()
 }
@@ -65,7 +67,7 @@ pub fn price_text(prices: &Prices) -> Vec<u8> {
 }
 
 /// The lines of kind 7 of layout lines.
-pub fn layout_text(layouts: &[[u16; 7]]) -> Vec<u8> {
+pub fn layout_text(layouts: &[[u16; 8]]) -> Vec<u8> {
     let written = layouts.iter().flat_map(|numbers| {
         let mut all = vec![7];
         all.extend(numbers.map(u32::from));

@@ -6,7 +6,7 @@ use native.Mathlib.Omega.{arith}
 use denote.Ref.{now}
 use lib.ListN.{length, length-set, List·getD-eq-default}
 use Rattle.columns.proofs.GroupLaws.{number-fits, number-short}
-use Rattle.columns.proofs.LineLaws.{Reading, reading-none, reading-more, reading-not, reading-eight, reading-end}
+use Rattle.columns.proofs.LineLaws.{Reading, reading-none, reading-more, reading-not, reading-most, reading-end}
 use Rattle.columns.proofs.line.complete_line.Statement.{statement}
 use Rattle.columns.proofs.line.complete_line.Tie as tie
 use Rattle.columns.specs.Widths.{groupBytes, mostNumbers}
@@ -32,7 +32,7 @@ returns-2 : tie.Need-returns-2 Inv-loop μ-loop
 returns-2 c h =
     let l = c .before .before .before .before .loop in
     let a = c .before .before .before .before .before .before .args in
-    reading-eight (now (a .s)) (a .at) (l .i) (now (a .numbers)) (l .numbers) (l .inv .3 h) (c .if2 .taken) (rw (← l .inv .1) (c .before .if1 .left))
+    reading-most (now (a .s)) (a .at) (l .i) (now (a .numbers)) (l .numbers) (l .inv .3 h) (c .if2 .taken) (rw (← l .inv .1) (c .before .if1 .left))
 
 returns-3 : tie.Need-returns-3 Inv-loop μ-loop
 returns-3 c h =

@@ -10,6 +10,7 @@ use Rattle.job.specs.Job.{jobOf}
 use Rattle.layouts.specs.Layout.{fullStack}
 use Rattle.layouts.specs.Lines.{rowsOf}
 use Rattle.layouts.specs.Fold.{firstOf}
+use Rattle.layouts_strips.proofs.CodeStacks.{lent-small}
 use Rattle.layouts_strips.specs.First.{stackOf, stripOf}
 use Rattle.fold_counts.proofs.Fronts.{measured-full}
 use Rattle.fold_counts.proofs.CodeStrip.{front-found, front-inside, front-some, front-left}
@@ -24,6 +25,12 @@ Inv-loop job layouts lines a height p₀ p =
 
 abbrev μ-loop : tie.MeasureT-loop
 μ-loop job layouts lines a height p₀ p = lines - p
+
+item-in-requires : tie.Need-item-in-requires Inv-loop μ-loop
+item-in-requires c κs =
+    let i = c .before .before .before .loop in
+    let lent = c .before .before .before .before .before .before .pre .0 .0 .lines-lent in
+    (omega (arith, i .inv .0, lent .whole), lent-small lent (i .p) (i .inv .0))
 
 returns : tie.Need-returns Inv-loop μ-loop
 returns c =
@@ -54,7 +61,7 @@ front-item-spec =
     (λ c. (c .before .before .pre .0 .1, c .before .before .pre .1, refl))
     (λ c κs. (c .before .before .before .pre .0 .0 .lines-lent, c .loop .inv .0))
     (λ c κs. omega (arith, c .before .loop .inv .0, c .before .before .before .before .pre .0 .0 .lines-lent .few))
-    (λ c κs. omega (arith, c .before .before .before .loop .inv .0, c .before .before .before .before .before .before .pre .0 .0 .lines-lent .whole))
+    item-in-requires
     returns
     (λ c. omega (arith, c .before .before .stack-at .ensures .1 .begun, c .before .before .before .loop .inv .0))
     loop-again)

@@ -1,28 +1,35 @@
--- `larger` compares both sides with the board's.
+-- `larger` tries the item unturned and then turned.
 use mathlib.Core.Path.{_≡_}
-use mathlib.Core.List.{List}
-use Prim.Native.Nat.{ℕ, _≤_}
+use mathlib.Core.Bool.{Bool, true, false, not}
 use borrow.Author.Needs.{needs}
-use borrow.Author.Tests.{lt-ltb, le-ltb}
 use denote.Ref.{now}
-use lib.Dec.{ltb}
-use lib.ListN.{getD}
 use Rattle.job.specs.declared.item.Item.{Item}
-use Rattle.job.specs.Job.{jobOf, larger}
+use Rattle.job.specs.declared.item.Position.{Position}
+use Rattle.job.specs.Job.{Job, jobOf, unturned, turned, fits, larger}
 use Rattle.job.proofs.admit.larger.Statement.{statement}
 use Rattle.job.proofs.admit.larger.Tie as tie
 
--- an item that is not wider than the board goes by its height
-by-height : (ws : List ℕ) (it : Item) → it .width ≤ getD ws 2 0 → ltb (getD ws 3 0) (it .height) ≡ larger (jobOf ws) it
-unfolding larger jobOf
-by-height ws it h = simp (le-ltb _ _ h)
+module _ (job : Job) (it : Item) {r : Bool} {p : Position} (u : p ≡ unturned it) (f : r ≡ fits job p) where
+  -- an item that fits unturned is not larger than the board
+  first : r ≡ true → false ≡ larger job it
+  unfolding larger
+  first t = rw (← u, ← f, t)
+
+  -- else it goes by the turned position
+  second : {s : Bool} {q : Position} → r ≡ false → q ≡ turned it → s ≡ fits job q → not s ≡ larger job it
+  unfolding larger
+  second t v g = rw (← u, ← f, t, ← v, ← g)
 
 returns : tie.Need-returns
-unfolding larger jobOf
-returns c = simp (lt-ltb _ _ (c .if1 .taken))
+returns c =
+    let a = c .before .before .before .before .args in
+    first (jobOf (now (a .job))) (a .item) (c .before .before .unturned .ensures) (c .before .fits2 .ensures) (c .if1 .taken)
 
 returns-2 : tie.Need-returns-2
-returns-2 c = let a = c .before .before .before .before .before .args in by-height (now (a .job)) (a .item) (c .before .if1 .left)
+returns-2 c =
+    let d = c .before .before .before in
+    let a = d .before .before .before .args in
+    second (jobOf (now (a .job))) (a .item) (d .before .unturned .ensures) (d .fits2 .ensures) (c .before .before .if1 .left) (c .before .turned .ensures) (c .fits3 .ensures)
 
 pub larger-spec : {M : Type 1} → statement M
-larger-spec = tie.close (tie.spec (λ c. search needs) (λ c. search needs) returns returns-2)
+larger-spec = tie.close (tie.spec (λ c κs. search needs) (λ c κs. search needs) returns (λ c κs. search needs) (λ c κs. search needs) returns-2)

@@ -6,10 +6,10 @@ use denote.Ref.{now}
 use lib.ListN.{length, drop}
 use Rattle.job.specs.Verdict.{lowest}
 use Rattle.job.specs.Job.{Job}
-use Rattle.layouts.specs.Lines.{rowsOf, rowRight}
+use Rattle.layouts.specs.Lines.{linesIn, rowRight}
 use Rattle.job.proofs.CodeLowest.{lowest-end, lowest-found, lowest-next}
-use Rattle.placement.specs.PlacementRead.{noPlacement}
-use Rattle.placement.proofs.Rows.{whole-rows}
+use Rattle.placement.specs.PlacementRead.{noLine}
+use Rattle.placement.proofs.Rows.{whole-lines}
 use Rattle.layouts_lines.proofs.CodeLimits.{line-tested}
 use borrow.Author.Needs.{needs}
 use Rattle.layouts_lines.proofs.limits.lines_right.Statement.{statement}
@@ -17,7 +17,7 @@ use Rattle.layouts_lines.proofs.limits.lines_right.Tie as tie
 
 abbrev Inv-loop : tie.InvT-loop
 Inv-loop layouts lines n c₀ c =
-    (job : Job) → length (job .items) ≡ n .0 → lowest 2 (λ _ r. not (rowRight job r)) 1 (rowsOf layouts) ≡ lowest 2 (λ _ r. not (rowRight job r)) (c + 1) (drop c (rowsOf layouts))
+    (job : Job) → length (job .items) ≡ n .0 → lowest 2 (λ _ r. not (rowRight job r)) 1 (linesIn layouts) ≡ lowest 2 (λ _ r. not (rowRight job r)) (c + 1) (drop c (linesIn layouts))
 
 abbrev μ-loop : tie.MeasureT-loop
 μ-loop layouts lines n c₀ c = lines - c
@@ -30,24 +30,24 @@ returns c job e =
     let l = c .before .before .before .before .loop in
     let a = c .before .before .before .before .before .before in
     let t = c .before .before .before .loop-test .taken in
-    let rows = rowsOf (now (a .args .layouts)) in
-    let h : l .c < length rows = rw (whole-rows _ _ (a .pre)) t in
-    lowest-found rows noPlacement 2 _ (l .c + 1) (l .c) (l .inv job e) h (line-tested job (now (a .args .layouts)) (a .args .lines) (l .c) (a .pre) t (c .before .line-right .ensures job e) (c .before .before .placement-at .ensures) (c .if1 .taken))
+    let rows = linesIn (now (a .args .layouts)) in
+    let h : l .c < length rows = rw (whole-lines _ _ (a .pre)) t in
+    lowest-found rows noLine 2 _ (l .c + 1) (l .c) (l .inv job e) h (line-tested job (now (a .args .layouts)) (a .args .lines) (l .c) (a .pre) t (c .before .line-right .ensures job e) (c .before .before .placement-at .ensures) (c .if1 .taken))
 
 loop-again : tie.Need-loop-again Inv-loop μ-loop
 loop-again c job e =
     let l = c .before .before .before .before .loop in
     let a = c .before .before .before .before .before .before in
     let t = c .before .before .before .loop-test .taken in
-    let rows = rowsOf (now (a .args .layouts)) in
-    let h : l .c < length rows = rw (whole-rows _ _ (a .pre)) t in
-    lowest-next rows noPlacement 2 _ (l .c + 1) (l .c) (l .inv job e) h (line-tested job (now (a .args .layouts)) (a .args .lines) (l .c) (a .pre) t (c .before .line-right .ensures job e) (c .before .before .placement-at .ensures) (c .if1 .left))
+    let rows = linesIn (now (a .args .layouts)) in
+    let h : l .c < length rows = rw (whole-lines _ _ (a .pre)) t in
+    lowest-next rows noLine 2 _ (l .c + 1) (l .c) (l .inv job e) h (line-tested job (now (a .args .layouts)) (a .args .lines) (l .c) (a .pre) t (c .before .line-right .ensures job e) (c .before .before .placement-at .ensures) (c .if1 .left))
 
 returns-2 : tie.Need-returns-2 Inv-loop μ-loop
 returns-2 c job e =
     let l = c .before .loop in
     let a = c .before .before .before in
-    lowest-end (rowsOf (now (a .args .layouts))) noPlacement 2 _ (l .c + 1) (l .c) (l .inv job e) (rw (whole-rows _ _ (a .pre)) (c .loop-test .left))
+    lowest-end (linesIn (now (a .args .layouts))) noLine 2 _ (l .c + 1) (l .c) (l .inv job e) (rw (whole-lines _ _ (a .pre)) (c .loop-test .left))
 
 pub lines-right-spec : {M : Type 1} → statement M
 lines-right-spec =

@@ -7,6 +7,7 @@ use lib.ListN.{drop}
 use Rattle.layouts.specs.Placement.{turn}
 use Rattle.layouts.specs.Lines.{rowsOf, inTurn, turns}
 use Rattle.placement.specs.PlacementRead.{placementAt}
+use Rattle.placement.proofs.Rows.{read-placed}
 use Rattle.layouts_lines.proofs.CodeTurns.{first-read, next-read, turns-none, first-refused, first-passed, turns-end, turn-refused, turn-passed}
 use borrow.Author.Needs.{needs}
 use Rattle.layouts_lines.proofs.turns.turns_row.Statement.{statement}
@@ -26,26 +27,26 @@ returns c =
 returns-2 : tie.Need-returns-2 Inv-loop μ-loop
 returns-2 c =
     let a = c .before .before .before .before .before in
-    first-refused (now (a .args .layouts)) (a .args .lines) (a .args .k) (a .pre .0) (omega (arith, c .before .before .before .if1 .left)) (first-read (turn 1 1 1 1) (c .before .same-turn .ensures) (c .before .before .placement-at .ensures)) (c .if2 .taken)
+    first-refused (now (a .args .layouts)) (a .args .lines) (a .args .k) (a .pre .0) (omega (arith, c .before .before .before .if1 .left)) (first-read (turn 1 1 1 1) (c .before .same-turn .ensures) (read-placed (c .before .before .placement-at .ensures))) (c .if2 .taken)
 
 loop-holds : tie.Need-loop-holds Inv-loop μ-loop
 loop-holds c =
     let a = c .before .before .before .before .before in
     let some : 1 ≤ a .args .lines = omega (arith, c .before .before .before .if1 .left) in
-    (search needs, (some, first-passed (now (a .args .layouts)) (a .args .lines) (a .args .k) (a .pre .0) some (first-read (turn 1 1 1 1) (c .before .same-turn .ensures) (c .before .before .placement-at .ensures)) (c .if2 .left)))
+    (search needs, (some, first-passed (now (a .args .layouts)) (a .args .lines) (a .args .k) (a .pre .0) some (first-read (turn 1 1 1 1) (c .before .same-turn .ensures) (read-placed (c .before .before .placement-at .ensures))) (c .if2 .left)))
 
 returns-3 : tie.Need-returns-3 Inv-loop μ-loop
 returns-3 c =
     let l = c .before .before .before .before .before .loop in
     let a = c .before .before .before .before .before .before .before .before .before .before .before in
-    turn-refused (now (a .args .layouts)) (a .args .lines) (a .args .k) (a .pre .0) (l .c) (l .inv .1 .1) (c .before .before .before .before .loop-test .taken) (next-read (c .before .follows .ensures) (c .before .before .before .placement-at2 .ensures) (c .before .before .placement-at3 .ensures)) (c .if3 .taken)
+    turn-refused (now (a .args .layouts)) (a .args .lines) (a .args .k) (a .pre .0) (l .c) (l .inv .1 .1) (c .before .before .before .before .loop-test .taken) (next-read (c .before .follows .ensures) (read-placed (c .before .before .before .placement-at2 .ensures)) (read-placed (c .before .before .placement-at3 .ensures))) (c .if3 .taken)
 
 loop-again : tie.Need-loop-again Inv-loop μ-loop
 loop-again c =
     let l = c .before .before .before .before .before .loop in
     let a = c .before .before .before .before .before .before .before .before .before .before .before in
     let t = c .before .before .before .before .loop-test .taken in
-    (search needs, (omega (arith, t), turn-passed (now (a .args .layouts)) (a .args .lines) (a .args .k) (a .pre .0) (l .c) (l .inv .1 .1) t (next-read (c .before .follows .ensures) (c .before .before .before .placement-at2 .ensures) (c .before .before .placement-at3 .ensures)) (c .if3 .left)))
+    (search needs, (omega (arith, t), turn-passed (now (a .args .layouts)) (a .args .lines) (a .args .k) (a .pre .0) (l .c) (l .inv .1 .1) t (next-read (c .before .follows .ensures) (read-placed (c .before .before .before .placement-at2 .ensures)) (read-placed (c .before .before .placement-at3 .ensures))) (c .if3 .left)))
 
 returns-4 : tie.Need-returns-4 Inv-loop μ-loop
 returns-4 c =

@@ -2,7 +2,7 @@
 use mathlib.Core.Path.{sym, ap, _∙_}
 use borrow.Author.Needs.{needs}
 use Rattle.job.specs.Row.{rowVerdict}
-use Rattle.layouts_row.proofs.CodeRows.{row-stops, row-goes-on}
+use Rattle.layouts_lines.proofs.CodeChecks.{row-stops, row-goes-on}
 use Rattle.layouts_row.proofs.front.layout_checks.Statement.{statement}
 use Rattle.layouts_row.proofs.front.layout_checks.Tie as tie
 

@@ -3,7 +3,8 @@ use native.Mathlib.Omega.{arith}
 use denote.Ref.{now}
 use borrow.Author.Needs.{needs}
 use Rattle.job.specs.Job.{jobOf}
-use Rattle.layouts_row.proofs.CodeRows.{row-stops, row-goes-on, passed-whole, passed-lent, too-many, by-rows}
+use Rattle.layouts_lines.proofs.CodeChecks.{row-stops, row-goes-on}
+use Rattle.layouts_row.proofs.CodeRows.{passed-whole, passed-lent, too-many, by-rows}
 use Rattle.layouts_row.proofs.rows.layouts_row.Statement.{statement}
 use Rattle.layouts_row.proofs.rows.layouts_row.Tie as tie
 

@@ -1,6 +1,6 @@
 -- `strip_rows` makes three checks, one after the other.
 use borrow.Author.Needs.{needs}
-use Rattle.layouts_row.proofs.CodeRows.{row-stops, row-goes-on}
+use Rattle.layouts_lines.proofs.CodeChecks.{row-stops, row-goes-on}
 use Rattle.layouts_row.proofs.rows.strip_rows.Statement.{statement}
 use Rattle.layouts_row.proofs.rows.strip_rows.Tie as tie
 

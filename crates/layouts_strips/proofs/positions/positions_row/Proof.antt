@@ -8,6 +8,7 @@ use Rattle.job.specs.Job.{jobOf}
 use Rattle.layouts.specs.Placement.{linesOf}
 use Rattle.layouts.specs.Lines.{rowsOf, grouped}
 use Rattle.layouts.specs.LayoutsRow.{positioned}
+use Rattle.placement.proofs.Rows.{read-placed}
 use Rattle.layouts_strips.specs.Spots.{SpotSmall}
 use Rattle.layouts_strips.proofs.CodeSpots.{spotted, spots-begin, spots-end, off-across, off-up, spots-next}
 use borrow.Author.Needs.{needs}
@@ -36,7 +37,7 @@ returns : tie.Need-returns Inv-loop μ-loop
 returns c =
     let s = c .before .before .before .before .before .before .before .before .before in
     let l = c .before .before .before .before .before .before .loop in
-    off-across (jobOf (now (s .args .job))) (now (s .args .layouts)) (s .args .lines) (s .args .k) (l .c) (l .spot) (s .pre .0 .whole) (l .inv .0) (c .before .before .before .before .before .loop-test .taken) (c .before .before .before .before .placement-at .ensures) (c .if1 .taken)
+    off-across (jobOf (now (s .args .job))) (now (s .args .layouts)) (s .args .lines) (s .args .k) (l .c) (l .spot) (s .pre .0 .whole) (l .inv .0) (c .before .before .before .before .before .loop-test .taken) (read-placed (c .before .before .before .before .placement-at .ensures)) (c .if1 .taken)
 
 add-t12 : tie.Need-add-t12 Inv-loop μ-loop
 add-t12 c = omega (arith, c .before .before .before .before .before .before .before .before .before .before .before .pre .1, c .before .before .before .before .before .before .before .loop-test .taken)
@@ -45,7 +46,7 @@ returns-2 : tie.Need-returns-2 Inv-loop μ-loop
 returns-2 c =
     let s = c .before .before .before .before .before .before .before .before .before .before .before in
     let l = c .before .before .before .before .before .before .before .before .loop in
-    off-up (jobOf (now (s .args .job))) (now (s .args .layouts)) (s .args .lines) (s .args .k) (l .c) (l .spot) (s .pre .0 .whole) (l .inv .0) (c .before .before .before .before .before .before .before .loop-test .taken) (c .before .before .before .before .before .before .placement-at .ensures) (c .before .before .if1 .left) (c .if2 .taken)
+    off-up (jobOf (now (s .args .job))) (now (s .args .layouts)) (s .args .lines) (s .args .k) (l .c) (l .spot) (s .pre .0 .whole) (l .inv .0) (c .before .before .before .before .before .before .before .loop-test .taken) (read-placed (c .before .before .before .before .before .before .placement-at .ensures)) (c .before .before .if1 .left) (c .if2 .taken)
 
 next-spot-requires : tie.Need-next-spot-requires Inv-loop μ-loop
 next-spot-requires c κs = (c .before .before .before .before .before .before .before .before .before .before .before .pre .0, (c .before .before .before .before .before .before .before .loop-test .taken, c .before .before .before .before .before .before .before .before .loop .inv .1 .0))
@@ -61,7 +62,7 @@ loop-again c =
     let s = c .before .before .before .before .before .before .before .before .before .before .before .before in
     let l = c .before .before .before .before .before .before .before .before .before .loop in
     let t = c .before .before .before .before .before .before .before .before .loop-test .taken in (
-      spots-next (jobOf (now (s .args .job))) (now (s .args .layouts)) (s .args .lines) (s .args .k) (l .c) (l .spot) (s .pre .0 .whole) (l .inv .0) t (c .before .before .before .before .before .before .before .placement-at .ensures) (c .before .before .before .if1 .left) (c .before .if2 .left) (c .next-spot .ensures .0),
+      spots-next (jobOf (now (s .args .job))) (now (s .args .layouts)) (s .args .lines) (s .args .k) (l .c) (l .spot) (s .pre .0 .whole) (l .inv .0) t (read-placed (c .before .before .before .before .before .before .before .placement-at .ensures)) (c .before .before .before .if1 .left) (c .before .if2 .left) (c .next-spot .ensures .0),
       (c .next-spot .ensures .1, omega arith),
     )
 

@@ -7,7 +7,7 @@ use native.Mathlib.Omega.{arith}
 use borrow.Author.Needs.{needs}
 use borrow.Author.Tests.{not-true, not-false}
 use denote.Ref.{now}
-use Rattle.job.specs.Job.{jobOf, itemAt}
+use Rattle.job.specs.Job.{jobOf, positionAt}
 use Rattle.job.specs.Buffers.{platesSize}
 use Rattle.listing.specs.Plate.{mayCut, leaves}
 use Rattle.listing.specs.Listing.{entered}
@@ -22,22 +22,22 @@ abbrev words : tie.Start → List ℕ
 words s = now (s .args .job)
 
 -- the pair is permitted
-permitted : (c : tie.Else1) → mayCut (jobOf (words (c .before .before .before .before .before .before)) .mode) (itemAt (jobOf (words (c .before .before .before .before .before .before))) (c .before .before .before .before .before .before .args .i .0)) (c .before .before .before .before .before .before .args .plate) ≡ true
+permitted : (c : tie.Else1) → mayCut (jobOf (words (c .before .before .before .before .before .before)) .mode) (positionAt (jobOf (words (c .before .before .before .before .before .before))) (c .before .before .before .before .before .before .args .i .0)) (c .before .before .before .before .before .before .args .plate) ≡ true
 permitted c =
     let s = c .before .before .before .before .before .before in
-    mayCut-of (s .args .plate) (c .before .may-cut .ensures) (s .pre .0 .of-job .of-mode) (c .before .before .item-at .ensures) (not-false _ (c .if1 .left))
+    mayCut-of (s .args .plate) (c .before .may-cut .ensures) (s .pre .0 .of-job .of-mode) (c .before .before .position-at .ensures) (not-false _ (c .if1 .left))
 
 -- what the cut leaves
-left-is : (c : tie.After-cut-leaves) → c .cut-leaves .result ≡ leaves (jobOf (words (c .before .before .before .before .before .before .before .before)) .mode) (itemAt (jobOf (words (c .before .before .before .before .before .before .before .before))) (c .before .before .before .before .before .before .before .before .args .i .0)) (c .before .before .before .before .before .before .before .before .args .plate)
+left-is : (c : tie.After-cut-leaves) → c .cut-leaves .result ≡ leaves (jobOf (words (c .before .before .before .before .before .before .before .before)) .mode) (positionAt (jobOf (words (c .before .before .before .before .before .before .before .before))) (c .before .before .before .before .before .before .before .before .args .i .0)) (c .before .before .before .before .before .before .before .before .args .plate)
 left-is c =
     let s = c .before .before .before .before .before .before .before .before in
-    leaves-of (s .args .plate) (c .cut-leaves .ensures) (s .pre .0 .of-job .of-mode) (c .before .before .before .before .item-at .ensures)
+    leaves-of (s .args .plate) (c .cut-leaves .ensures) (s .pre .0 .of-job .of-mode) (c .before .before .before .before .position-at .ensures)
 
 returns : tie.Need-returns
 returns c l h =
     let s = c .before .before .before .before .before .before in
     step-none (jobOf (words s)) (s .args .j .0) (s .args .plate) (s .args .i .0) _ l h
-    (mayCut-of (s .args .plate) (c .before .may-cut .ensures) (s .pre .0 .of-job .of-mode) (c .before .before .item-at .ensures) (not-true _ (c .if1 .taken)))
+    (mayCut-of (s .args .plate) (c .before .may-cut .ensures) (s .pre .0 .of-job .of-mode) (c .before .before .position-at .ensures) (not-true _ (c .if1 .taken)))
 
 returns-2 : tie.Need-returns-2
 returns-2 c l h =

@@ -1,4 +1,4 @@
--- `is_earlier` compares the plate types, and where they are equal the item types.
+-- `is_earlier` compares the plate types, and where they are equal the positions.
 use borrow.Author.Needs.{needs}
 use Rattle.listing.specs.CutRead.{cutIn}
 use Rattle.listing_find.proofs.Narrowing.{earlier-other, earlier-same}

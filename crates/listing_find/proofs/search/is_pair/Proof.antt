@@ -1,4 +1,4 @@
--- `is_pair` compares the plate types, and then the item types.
+-- `is_pair` compares the plate types, and then the positions.
 use borrow.Author.Needs.{needs}
 use Rattle.listing.specs.CutRead.{cutIn}
 use Rattle.listing_find.proofs.Narrowing.{pair-same, pair-other}

@@ -6,7 +6,6 @@ use mathlib.Core.Path.{sym, ap, _∙_}
 use lib.Dec.{leb}
 use borrow.Author.Tests.{leb-true}
 use Rattle.job.specs.Sizes.{maxTypes, maxResiduals}
-use Rattle.listing.proofs.CodeHolds.{held-word}
 use Rattle.texts.proofs.Basics.{and-parts, within-parts}
 use Rattle.texts_reading.specs.declared.text.Place.the-variants.{Done}
 use Rattle.texts_reading.specs.Standing.{placeOf}
@@ -52,8 +51,8 @@ returns-2 c s lines p here kept =
 
 returns-3 : tie.Need-returns-3
 returns-3 c s lines p here kept =
-    let a = c .before .before .before .before .before .before .before .before .before .before .before .before .before .before .before .before .before .before .args in
-    c .before .before .before .before .take-body .ensures s lines (now (a .job)) (now (a .plates)) (sym p ∙ ap placeOf (c .before .before .before .before .before .before .before .before .before .before .enum-told2 .given .1)) here (sym (c .before .before .before .before .before .before .before .before .head-of .ensures .of-types ∙ held-word (s .job) (kept .words) 4)) kept
+    let a = c .before .before .before .before .before .before .before .before .before .before .before .before .before .before .before .before .before .args in
+    c .before .before .before .before .take-body .ensures s lines (now (a .plates)) (sym p ∙ ap placeOf (c .before .before .before .before .before .before .before .before .before .enum-told2 .given .1)) here kept
 
 returns-4 : tie.Need-returns-4
 returns-4 c s lines p here kept =
@@ -79,7 +78,6 @@ take-numbers-spec =
     (λ c. search needs)
     take-item-requires
     (λ c. search needs)
-    (λ c κs. search needs)
     (λ c κs. search needs)
     (λ c. search needs)
     take-item-price-requires

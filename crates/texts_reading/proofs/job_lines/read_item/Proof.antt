@@ -10,7 +10,7 @@ use borrow.Author.Needs.{needs}
 use Rattle.texts_reading.proofs.job_lines.read_item.Statement.{statement}
 use Rattle.texts_reading.proofs.job_lines.read_item.Tie as tie
 
-sized : (c : tie.After-struct-known) → length (now (c .before .before .before .before .before .before .args .numbers)) ≡ 5
+sized : (c : tie.After-struct-known) → length (now (c .before .before .before .before .before .before .args .numbers)) ≡ 6
 sized c =
     let a = c .before .before .before .before .before .before .args in
     shape-groups (itemLine (a .i .0)) _ (item-shape (a .i .0) (now (a .numbers)) (now (a .job)) _ (c .before .before .before .item-line .ensures) (c .before .before .if1 .left))

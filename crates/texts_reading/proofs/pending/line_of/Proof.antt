@@ -5,7 +5,7 @@ use native.Mathlib.Omega.{arith}
 use lib.ListN.{length, drop}
 use Rattle.columns.specs.declared.line.Line.{Line}
 use denote.Ref.{now}
-use Rattle.texts_reading.proofs.CodeLine.{line-unequal, line-equal, line-eight}
+use Rattle.texts_reading.proofs.CodeLine.{line-unequal, line-equal, line-most}
 use borrow.Author.Needs.{needs}
 use Rattle.columns.specs.Widths.{groupBytes, mostNumbers}
 use Rattle.texts_reading.proofs.pending.line_of.Statement.{statement}
@@ -20,7 +20,7 @@ returns-2 : tie.Need-returns-2
 returns-2 c =
     let a = c .before .before .before .args in
     let k : a .n / groupBytes ≤ mostNumbers = omega (arith, c .before .before .before .pre) in
-    (ap (λ (l : Line). length (l .numbers)) (c .line-at .ensures) ∙ line-eight (a .n / groupBytes) (drop (a .at) (now (a .s))) k, λ h. c .line-at .ensures ∙ line-equal (now (a .s)) (a .at) (a .n) h (c .before .if1 .left))
+    (ap (λ (l : Line). length (l .numbers)) (c .line-at .ensures) ∙ line-most (a .n / groupBytes) (drop (a .at) (now (a .s))) k, λ h. c .line-at .ensures ∙ line-equal (now (a .s)) (a .at) (a .n) h (c .before .if1 .left))
 
 pub line-of-spec : {M : Type 1} → statement M
 line-of-spec =

@@ -2,6 +2,7 @@
 use Prim.Native.Nat.{_-_}
 use mathlib.Core.Path.{refl}
 use lib.ListN.{length}
+use Rattle.job.specs.Job.{typeOf, turnOf}
 use Rattle.listing.specs.CutRead.{cutIn, cutRead}
 use Rattle.texts_writing.proofs.WroteLaws.{wrote-none}
 use Rattle.texts_writing.proofs.CountLaws.{line-absent, line-room, line-wrote}
@@ -16,13 +17,14 @@ returns c =
 
 put-line-requires : tie.Need-put-line-requires
 put-line-requires c κs =
-    let s = c .before .before .before .before .before .before .before .before in
-    line-room (s .args .at) (length (s .args .out .now)) (cutRead (s .args .cuts .now) (s .args .c .0 - 1)) (s .args .n) (c .before .before .before .before .before .if1 .left) (s .pre .1)
+    let s = c .before .before .before .before .before .before .before in
+    line-room (s .args .at) (length (s .args .out .now)) (cutRead (s .args .cuts .now) (s .args .c .0 - 1)) (s .args .n) (c .before .before .before .before .if1 .left) (s .pre .1)
 
 returns-2 : tie.Need-returns-2
+unfolding typeOf turnOf
 returns-2 c =
-    let cut = c .before .before .before .before .before .before .before .cut-at in
-    line-wrote (cutIn (cut .result)) _ _ (cut .ensures) (c .before .before .before .before .before .before .before .before .if1 .left) (c .before .before .put-line .ensures) refl
+    let cut = c .before .before .before .before .before .before .cut-at in
+    line-wrote (cutIn (cut .result)) _ _ (cut .ensures) (c .before .before .before .before .before .before .before .if1 .left) (c .before .before .put-line .ensures) refl
 
 pub put-count-spec : {M : Type 1} → statement M
 put-count-spec =
@@ -30,6 +32,7 @@ put-count-spec =
     (tie.spec
     returns
     (λ c κs. search needs)
+    (λ c. search needs)
     (λ c. search needs)
     (λ c. search needs)
     (λ c. search needs)

@@ -4,7 +4,7 @@ use native.Mathlib.Omega.{arith}
 use mathlib.Core.Path.{_≡_, refl, _∙_}
 use mathlib.Core.List.{flatMap}
 use lib.ListN.{length}
-use Rattle.layouts.specs.Lines.{rowsOf}
+use Rattle.layouts.specs.Lines.{linesIn, rowsOf}
 use Rattle.texts.specs.Widths.{placementLineBytes}
 use Rattle.texts_writing.specs.Wrote.{Wrote}
 use Rattle.texts_writing.proofs.WroteLaws.{wrote-none}
@@ -21,7 +21,7 @@ abbrev μ-loop : tie.MeasureT-loop
 μ-loop out₀ placements pieces at₀ i₀ out at i = pieces - i
 
 loop-holds : tie.Need-loop-holds Inv-loop μ-loop
-unfolding flatMap rowsOf
+unfolding flatMap rowsOf linesIn
 loop-holds c = (search needs, (refl, (refl, wrote-none _ _)))
 
 loop-again : tie.Need-loop-again Inv-loop μ-loop

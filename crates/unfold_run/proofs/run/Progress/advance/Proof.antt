@@ -31,7 +31,7 @@ put-placement-requires c κs =
     let go = s .pre .1 in
     let r = c .before .before .before .before .before .before .before .step in
     let few = placed-room _ _ (s .pre .0 .model) (go .whole) (go .fuel) _ _ _ _ (go .going) _ _ (told (r .last .1 .1 .1 .1 .1 .0) (r .ensures .0) (c .before .before .before .item .given .1)) in
-    omega (arith, few, go .going .room)
+    (omega (arith, few, go .going .room), c .placement-of .ensures .1)
 
 boards-after-requires : tie.Need-boards-after-requires
 boards-after-requires c κs =
@@ -65,7 +65,7 @@ returns-2 c whole fuel g =
     let r = c .before .before .before .before .before .before .before .before .before .before .before .before .step in
     let item = c .before .before .before .before .before .before .before .before .item .given in
     let put = c .before .before .before .before .put-placement in
-    going-placed _ _ (s .pre .0 .model) whole fuel _ _ _ _ g _ _ (told (r .last .1 .1 .1 .1 .1 .0) (r .ensures .0) (item .1)) (spends (item .0 .0 .plate .0)) (c .boards-after .ensures) (c .before .before .before .before .before .placement-of .ensures) (put .ensures) (put .kept .0) (omega (arith, r .ensures .1 .1, ap stepSpends (item .1)))
+    going-placed _ _ (s .pre .0 .model) whole fuel _ _ _ _ g _ _ (told (r .last .1 .1 .1 .1 .1 .0) (r .ensures .0) (item .1)) (spends (item .0 .0 .plate .0)) (c .boards-after .ensures) (c .before .before .before .before .before .placement-of .ensures .0) (put .ensures) (put .kept .0) (omega (arith, r .ensures .1 .1, ap stepSpends (item .1)))
 
 returns-3 : tie.Need-returns-3
 returns-3 c whole fuel g =

@@ -15,20 +15,20 @@ spend-requires c κs =
 cut-at-requires : tie.Need-cut-at-requires
 cut-at-requires c κs = let s = c .before .before .before .before .before .before .before .before .before .before in cut-there _ _ _ _ (s .pre .0) _ _ _ (s .pre .1 .1)
 
-item-at-requires : tie.Need-item-at-requires
-item-at-requires c κs = let s = c .before .before .before .before .before .before .before .before .before .before .before .before .before .before in item-there _ _ _ _ (s .pre .0) _ _ _ (s .pre .1 .1) _ (c .before .before .before .cut-at .ensures)
+position-at-requires : tie.Need-position-at-requires
+position-at-requires c κs = let s = c .before .before .before .before .before .before .before .before .before .before .before .before .before .before in item-there _ _ _ _ (s .pre .0) _ _ _ (s .pre .1 .1) _ (c .before .before .before .cut-at .ensures)
 
 next-requires : tie.Need-next-requires
 next-requires c κs = c .before .before .before .before .before .before .before .before .before .before .before .before .before .before .before .pre .1 .0 .turns
 
 add-wait : tie.Need-add-wait
-add-wait c = let s = c .before .before .before .before .before .before .before .before .before .before .before .before .before .before .before .before .before .before in omega (arith, across-small _ _ _ _ (s .pre .0) _ _ _ (s .pre .1 .1) _ (c .before .before .before .before .before .before .before .cut-at .ensures) _ (c .before .before .before .item-at .ensures))
+add-wait c = let s = c .before .before .before .before .before .before .before .before .before .before .before .before .before .before .before .before .before .before in omega (arith, across-small _ _ _ _ (s .pre .0) _ _ _ (s .pre .1 .1) _ (c .before .before .before .before .before .before .before .cut-at .ensures) _ (c .before .before .before .position-at .ensures))
 
 wait-requires : tie.Need-wait-requires
 wait-requires c κs = let s = c .before .before .before .before .before .before .before .before .before .before .before .before .before .before .before .before .before .before in right-there _ _ _ _ (s .pre .0) _ _ _ (s .pre .1 .1) _ (c .before .before .before .before .before .before .before .cut-at .ensures)
 
 add-wait-2 : tie.Need-add-wait-2
-add-wait-2 c = let s = c .before .before .before .before .before .before .before .before .before .before .before .before .before .before .before .before .before .before .before .before .before in omega (arith, up-small _ _ _ _ (s .pre .0) _ _ _ (s .pre .1 .1) _ (c .before .before .before .before .before .before .before .before .before .before .cut-at .ensures) _ (c .before .before .before .before .before .before .item-at .ensures))
+add-wait-2 c = let s = c .before .before .before .before .before .before .before .before .before .before .before .before .before .before .before .before .before .before .before .before .before in omega (arith, up-small _ _ _ _ (s .pre .0) _ _ _ (s .pre .1 .1) _ (c .before .before .before .before .before .before .before .before .before .before .cut-at .ensures) _ (c .before .before .before .before .before .before .position-at .ensures))
 
 wait-requires-2 : tie.Need-wait-requires-2
 wait-requires-2 c κs = let s = c .before .before .before .before .before .before .before .before .before .before .before .before .before .before .before .before .before .before .before .before .before in top-there _ _ _ _ (s .pre .0) _ _ _ (s .pre .1 .1) _ (c .before .before .before .before .before .before .before .before .before .before .cut-at .ensures)
@@ -41,7 +41,7 @@ returns c =
     let able = s .pre .1 .1 in
     let cut = c .before .before .before .before .before .before .before .before .before .before .before .before .cut-at in
     let spend = c .before .before .before .before .before .before .before .before .before .before .before .before .before .before .before .spend in (
-      done-so (now (a .job)) (now (a .plates)) (now (a .cuts)) (a .k .0) lent (now (a .counts)) (a .c .0) (pieceOf (a .p)) able (cut .result) (cut .ensures) (c .before .before .before .before .before .before .before .before .item-at .result) (c .before .before .before .before .before .before .before .before .item-at .ensures) (a .stage) (turnOf (a .self .turn)) (waitingOf (a .self .waiting)) (waitingOf (a .self .waiting)) (spend .ensures) (c .before .before .before .before .before .before .before .next .ensures) (c .before .before .before .before .wait .ensures (L (now (a .job))) (lent .plates-held)) (c .before .wait2 .ensures (L (now (a .job))) (lent .plates-held)),
+      done-so (now (a .job)) (now (a .plates)) (now (a .cuts)) (a .k .0) lent (now (a .counts)) (a .c .0) (pieceOf (a .p)) able (cut .result) (cut .ensures) (c .before .before .before .before .before .before .before .before .position-at .result) (c .before .before .before .before .before .before .before .before .position-at .ensures) (a .stage) (turnOf (a .self .turn)) (waitingOf (a .self .waiting)) (waitingOf (a .self .waiting)) (spend .ensures) (c .before .before .before .before .before .before .before .next .ensures) (c .before .before .before .before .wait .ensures (L (now (a .job))) (lent .plates-held)) (c .before .wait2 .ensures (L (now (a .job))) (lent .plates-held)),
       (spend .ensures, boards-fall (now (a .job)) (now (a .plates)) (now (a .cuts)) (a .k .0) lent (now (a .counts)) (a .c .0) (pieceOf (a .p)) able (cut .result) (cut .ensures) (spend .ensures)),
     )
 
@@ -51,7 +51,7 @@ cut-spec =
     (tie.spec
     spend-requires
     cut-at-requires
-    item-at-requires
+    position-at-requires
     next-requires
     add-wait
     wait-requires
