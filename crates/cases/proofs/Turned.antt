@@ -2,11 +2,11 @@
 use mathlib.Core.Path.{refl}
 use Rattle.cases.specs.Calls.{plates, cuts, counts, placements, listing, plan, prices, unfolding′, folding, succeeds, refuses}
 use Rattle.cases.specs.Jobs.{jobA, jobT}
-use Rattle.cases.specs.Turned.{TurnedCuts, TurnedPlans, TurnedLayouts, TurnedRules, tall, squareJob, small, lineOne, platesT, cutsT, planT, threeSquares, linesT, linesT-low-first, exactHeight, exactWidth, bothTurns}
+use Rattle.cases.specs.Turned.{TurnedCuts, TurnedPlans, TurnedLayouts, TurnedRules, tall, squareJob, small, lineOne, platesT, cutsT, planT, threeSquares, linesT, linesT-low-first, exactHeight, exactWidth, bothTurns, sameSides}
 use Rattle.cases.proofs.Opened.{computed}
 
 pub turnedCuts : TurnedCuts
-unfolding computed plates cuts listing succeeds refuses jobT tall platesT cutsT exactHeight exactWidth
+unfolding computed plates cuts listing succeeds refuses jobT tall platesT cutsT exactHeight exactWidth sameSides
 turnedCuts =
     record {
       only-turned = refl;
@@ -15,6 +15,7 @@ turnedCuts =
       with-leave = refl;
       height-turned = refl;
       width-turned = refl;
+      two-types = refl;
     }
 
 pub turnedPlans : TurnedPlans

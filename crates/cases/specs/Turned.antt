@@ -85,6 +85,10 @@ exactWidth = 3 ∷ 1 ∷ 5 ∷ 10 ∷ 2 ∷ 5 ∷ 4 ∷ 1 ∷ 1 ∷ 1 ∷ 10 ∷
 unfoldable pub bothTurns : List ℕ
 bothTurns = 3 ∷ 0 ∷ 6 ∷ 8 ∷ 2 ∷ 5 ∷ 3 ∷ 2 ∷ 1 ∷ 1 ∷ 8 ∷ 1 ∷ 0 ∷ []
 
+-- 2N, 5 by 3, an item of 3 by 2 with leave, and one of 2 by 3: turned the first has the sides of the second
+unfoldable pub sameSides : List ℕ
+sameSides = 2 ∷ 0 ∷ 5 ∷ 3 ∷ 2 ∷ 3 ∷ 2 ∷ 1 ∷ 1 ∷ 2 ∷ 3 ∷ 1 ∷ 0 ∷ []
+
 -- "A cut becomes plate, type and turn, the unturned first; a square item has no turned cut"
 pub record TurnedCuts : Type 0 where
   -- a type that fits only turned refused with 3: it has a turned cut alone
@@ -100,6 +104,17 @@ pub record TurnedCuts : Type 0 where
       listing exactHeight
       ≡ succeeds (1 ∷ 3 ∷ []) ((9 ∷ 5 ∷ 1 ∷ []) ++ (5 ∷ 5 ∷ 2 ∷ [])) ((0 ∷ 2 ∷ 0 ∷ 0 ∷ []) ++ (0 ∷ 3 ∷ 0 ∷ 1 ∷ []) ++ (1 ∷ 3 ∷ 0 ∷ 0 ∷ [])) []
   pub width-turned : listing exactWidth .answer ≡ given (7 ∷ 13 ∷ [])
+  -- one cut for two types that lie with the same sides: each has its own, and both leave the same residual
+  pub two-types :
+      listing sameSides
+      ≡ succeeds (1 ∷ 6 ∷ []) ((5 ∷ 3 ∷ 1 ∷ []) ++ (3 ∷ 3 ∷ 2 ∷ []))
+      ((0 ∷ 2 ∷ 0 ∷ 0 ∷ [])
+      ++ (0 ∷ 3 ∷ 0 ∷ 1 ∷ [])
+      ++ (0 ∷ 4 ∷ 0 ∷ 1 ∷ [])
+      ++ (1 ∷ 2 ∷ 0 ∷ 0 ∷ [])
+      ++ (1 ∷ 3 ∷ 0 ∷ 0 ∷ [])
+      ++ (1 ∷ 4 ∷ 0 ∷ 0 ∷ []))
+      []
 
 -- "both turns count towards a type's demand", and a type has one price
 pub record TurnedPlans : Type 0 where
