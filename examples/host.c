@@ -1,16 +1,17 @@
-/* A host of the engine: job A of document 01, listed, its plan and prices tested, its plan unfolded and folded again; then three
- * refusals; then the same job as texts.
+/* A host of the engine: job A of document 01, listed, its plan and prices tested, its plan unfolded, with the offcuts for the
+ * storeman's shelf, and folded again; then four refusals; then the same job as texts.
  * Build and run: tools/test-hosts. */
 #include <stdio.h>
 #include <string.h>
 
 #include "saw_engine.h"
 
-/* The lent buffers, at their full sizes, and the counts passed in; room for the answer to a text. They are static: together they are 490 KB. */
+/* The lent buffers, at their full sizes, and the counts passed in; room for the answer to a text. They are static: together they are 583 KB. */
 static uint16_t plates[SAW_PLATES];
 static uint16_t cuts[SAW_CUTS];
 static uint16_t counts[SAW_COUNTS];
 static uint16_t placements[SAW_PLACEMENTS];
+static uint16_t offcuts[SAW_OFFCUTS];
 static uint8_t out[SAW_TEXT_OUT];
 
 /* Mode 2N, board 9 by 7, item 1 of 5 by 4 (demand 2), item 2 of 3 by 3 (demand 3); no item may be turned. */
@@ -19,6 +20,8 @@ static const uint16_t job_a[] = {2, 0, 9, 7, 2, 5, 4, 2, 0, 3, 3, 3, 0};
 static const uint16_t plan_a[] = {2, 0, 1, 1, 0, 0, 1, 0};
 /* D 1; item types 1 and 2; residual types 1 to 5. */
 static const uint16_t prices_a[] = {1, 1, 0, 0, 0, 1, 0, 0};
+/* The lengths from which an offcut is worth shelving: its width is 4 or more, its height 3 or more. */
+static const uint16_t first_length = 4, second_length = 3;
 
 /* The same as a saw text, of lines 1, 2 and 3, and its two boards as a fold text, of lines 1, 2 and 7. */
 static const char job_text[] =
@@ -56,6 +59,41 @@ static void print_records(const uint16_t *words, size_t records, size_t width)
             printf(" %5u", (unsigned)words[record * width + word]);
         printf("\n");
     }
+}
+
+/* The offcuts for the shelf, so many being listed: those that are usable. */
+static void print_usable(size_t listed)
+{
+    for (size_t index = 0; index < listed; index++) {
+        const uint16_t *offcut = offcuts + 6 * index;
+        if (offcut[5] == 1)
+            printf("shelve from board %u: %u by %u, at x %u, y %u\n", (unsigned)offcut[0], (unsigned)offcut[3],
+                   (unsigned)offcut[4], (unsigned)offcut[1], (unsigned)offcut[2]);
+    }
+}
+
+/* Unfolds the counts, prints pieces and usable offcuts, and gives the number of pieces. */
+static size_t unfold(void)
+{
+    uint32_t answer[4];
+
+    saw_unfold(job_a, LENGTH(job_a), counts, LENGTH(counts), first_length, second_length, plates, LENGTH(plates), cuts, LENGTH(cuts),
+               placements, LENGTH(placements), offcuts, LENGTH(offcuts), answer);
+    print_answer("unfolding, boards and pieces", answer);
+    print_records(placements, answer[2], 8);
+    printf("offcuts: %u\n", (unsigned)answer[3]);
+    print_usable(answer[3]);
+    return answer[2];
+}
+
+/* The same with a length of 0, which is refused. */
+static void unfold_wrongly(void)
+{
+    uint32_t answer[4];
+
+    saw_unfold(job_a, LENGTH(job_a), counts, LENGTH(counts), 0, second_length, plates, LENGTH(plates), cuts, LENGTH(cuts),
+               placements, LENGTH(placements), offcuts, LENGTH(offcuts), answer);
+    print_answer("first length 0", answer);
 }
 
 /* A text of two or three parts, which are joined in `text`. */
@@ -103,13 +141,10 @@ int main(void)
     saw_test_prices(job_a, LENGTH(job_a), prices_a, LENGTH(prices_a), plates, LENGTH(plates), cuts, LENGTH(cuts), answer);
     print_answer("price test, sum and D", answer);
 
-    saw_unfold(job_a, LENGTH(job_a), counts, LENGTH(counts), plates, LENGTH(plates), cuts, LENGTH(cuts),
-               placements, LENGTH(placements), answer);
-    print_answer("unfolding, boards and pieces", answer);
-    print_records(placements, answer[2], 8);
+    size_t pieces = unfold();
 
     memset(counts, 0xff, sizeof counts);
-    saw_fold(job_a, LENGTH(job_a), placements, 8 * (size_t)answer[2], plates, LENGTH(plates), cuts, LENGTH(cuts), counts, LENGTH(counts), answer);
+    saw_fold(job_a, LENGTH(job_a), placements, 8 * pieces, plates, LENGTH(plates), cuts, LENGTH(cuts), counts, LENGTH(counts), answer);
     print_answer("folding, boards", answer);
     print_records(counts, 1, LENGTH(plan_a));
 
@@ -120,6 +155,7 @@ int main(void)
     counts[3] = 3;
     saw_test_plan(job_a, LENGTH(job_a), counts, LENGTH(counts), plates, LENGTH(plates), cuts, LENGTH(cuts), answer);
     print_answer("cut 4 at 3", answer);
+    unfold_wrongly();
 
     print_texts();
     return 0;

@@ -1,4 +1,4 @@
-/* The beam saw plan engine as a static library: the calls of document 01 with request One of document 02, for a host in C.
+/* The beam saw plan engine as a static library: the calls of document 01 with requests One and Two of document 02, for a host in C.
  *
  * Link target/staticlib/libengine.a, which `rt staticlib engine` writes for x86-64 Linux. Each function is proved to meet its contract in
  * crates/engine/src/calls.rt or, of the two texts, text_calls.rt. It allocates nothing, keeps no state between calls and always returns; of the C library it uses memcpy and memset alone.
@@ -6,7 +6,7 @@
  * What a host must keep:
  *   - A pointer and the length after it name one array of so many words, aligned for its type; a length counts words and not bytes, but of a text, whose
  *     words are bytes. It may be 0; the pointer is then still aligned and not null.
- *   - `answer` points to three words.
+ *   - `answer` points to three words, at the unfolding to four.
  *   - No two arrays of one call overlap, unless neither is written. The arrays passed as `const` are read and never change; the others are written.
  *   - No other thread writes an array of a running call, or reads one that it writes.
  *   - SAW_STACK bytes of stack are free at the call, SAW_TEXT_STACK at that of a text.
@@ -16,8 +16,10 @@
  *   answer[0]   the refusal number, 1 to 19; 0 where the call is accepted
  *   answer[1]   the first value; of a refusal the place that it names, or 4294967295 where that is above it
  *   answer[2]   the second value; 0 where there is none
+ *   answer[3]   at the unfolding alone, the third value; 0 of a refusal
  * After 5 the lent buffers are as they were; after any other refusal every word of them is 0; after success they hold their records from the first word
- * on, and 0 in every word past them. Refusal 5 names the buffer that is shorter than its full size: plates 1, cuts 2, counts 3, placements 4. */
+ * on, and 0 in every word past them. Refusal 5 names the buffer that is shorter than its full size: plates 1, cuts 2, counts 3, placements 4,
+ * offcuts 5. */
 #ifndef SAW_ENGINE_H
 #define SAW_ENGINE_H
 
@@ -28,11 +30,12 @@
 extern "C" {
 #endif
 
-/* Full sizes, in words of 16 bits: 2,048 plate types of 3 words, 8,192 cuts of 4 words, their counts, 4,000 placements of 8 words. */
+/* Full sizes, in words of 16 bits: 2,048 plate types of 3 words, 8,192 cuts of 4 words, their counts, 4,000 placements of 8 words, 8,000 offcuts of 6 words. */
 #define SAW_PLATES 6144
 #define SAW_CUTS 32768
 #define SAW_COUNTS 8192
 #define SAW_PLACEMENTS 32000
+#define SAW_OFFCUTS 48000
 
 /* Stack that a call may use, in bytes, and that a text may use. */
 #define SAW_STACK 65536
@@ -45,7 +48,7 @@ extern "C" {
 /* Words. A job: stages, exact, W, H, n, then width, height, demand, leave of each item type; leave is 1 if the type may be turned by 90 degrees, else 0. A
  * plate: width, height, stage. A cut: plate, item, top, right, where item is twice the type plus the turn (1 if turned, else 0), and 0 as top or right is a
  * residual that is not kept. Counts: one for each cut, from cut 1. Prices: D, one for each item type, one for each residual type. A placement: board, strip,
- * stack, place, type, x, y, turn. */
+ * stack, place, type, x, y, turn. An offcut: board, x, y, width, height, usable, which is 1 or 0. */
 
 /* Listing. Values: the numbers of residual types and of cuts. Plates and cuts end as the listing.
  * Refusals: 1, 2, 3, 4 of the job; 5; 6, 7 of the model. */
@@ -71,14 +74,18 @@ void saw_test_prices(const uint16_t *job, size_t job_len,
                      uint16_t *cuts, size_t cuts_len,
                      uint32_t answer[3]);
 
-/* Unfolding. Values: the numbers of boards and of pieces. Plates and cuts end as the listing, placements as the pieces in turn.
- * Refusals: those of the plan test. */
+/* Unfolding. Values: the numbers of boards, of pieces and of offcuts. Plates and cuts end as the listing, placements as the pieces in turn, offcuts as the
+ * pieces of plate that are left over, in the order in which they are. An offcut is usable if its width is at least the first length and its height at least the
+ * second; it is not turned for that.
+ * Refusals: those of the plan test; 2, place 0, also of a length that is not 1 to 10,000, after 1 and 2 of the job and before 3. */
 void saw_unfold(const uint16_t *job, size_t job_len,
                 const uint16_t *counts, size_t counts_len,
+                uint16_t first_length, uint16_t second_length,
                 uint16_t *plates, size_t plates_len,
                 uint16_t *cuts, size_t cuts_len,
                 uint16_t *placements, size_t placements_len,
-                uint32_t answer[3]);
+                uint16_t *offcuts, size_t offcuts_len,
+                uint32_t answer[4]);
 
 /* Folding. Value: the number of boards of the layouts. Plates and cuts end as the listing, counts as an accepted plan, one word for each cut. Layouts are
  * placements, eight words for each.

@@ -1,7 +1,7 @@
 //! The report: a table of all calls on the greatest inputs, and one of how they grow.
 
 use crate::count::{instructions, Counted};
-use crate::subjects::{by_cuts, input, CUTS, GREATEST, LINES, PIECES};
+use crate::subjects::{by_cuts, input, CUTS, GREATEST, LINES, OFFCUTS, PIECES};
 use crate::task::{Call, Side};
 use crate::time::{seconds, ROUNDS};
 
@@ -57,12 +57,13 @@ impl Cost {
 fn rows() -> Vec<(Call, &'static str)> {
     let mut rows = Vec::new();
     for call in Call::ALL {
-        let more: &[&str] = match call {
-            Call::List | Call::TestPlan | Call::TestPrices => &[],
-            Call::Unfold | Call::Fold => &PIECES,
-            Call::SawText | Call::FoldText => &[LINES, CUTS],
+        let more = match call {
+            Call::List | Call::TestPlan | Call::TestPrices => Vec::new(),
+            Call::Unfold => [&PIECES[..], &[OFFCUTS]].concat(),
+            Call::Fold => PIECES.to_vec(),
+            Call::SawText | Call::FoldText => vec![LINES, CUTS],
         };
-        rows.extend(GREATEST.iter().chain(more).map(|&name| (call, name)));
+        rows.extend(GREATEST.into_iter().chain(more).map(|name| (call, name)));
     }
     rows
 }
@@ -83,7 +84,8 @@ fn write_largest() {
     println!("## The greatest inputs\n");
     println!(
         "`limits ..` are jobs of [data/limits](../data/limits/README.md): `both` the greatest listings, of 2,047 \
-         residual types and 8,192 cuts, with plans of 4,000 pieces.\n"
+         residual types and 8,192 cuts, with plans of 4,000 pieces. `8,000 offcuts` is a plan of 4,000 \
+         boards, each with two pieces left over.\n"
     );
     println!(
         "| call | input | engine, µs | reference, µs | ratio | engine, 1,000 instr. | reference, 1,000 instr. | ratio | goal: at most 1.0 |"

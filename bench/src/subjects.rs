@@ -1,7 +1,9 @@
-//! The inputs of the measurements, by name: jobs of `data/`, and texts at the limits.
+//! The inputs of the measurements, by name: jobs of `data/`, the job with most offcuts, and texts at
+//! the limits.
 
 use crate::task::{Call, Input};
 use inputs::longest::{long_texts, longest, of_job};
+use inputs::subjects::most_offcuts;
 use inputs::Text;
 use reference::instances::all_jobs;
 use reference::instances::inputs::Inputs;
@@ -25,6 +27,9 @@ pub const PIECES: [&str; 4] = [
     "limits numbers 3N places",
 ];
 
+/// 4,000 boards, each cut for one item, with two pieces left over.
+pub const OFFCUTS: &str = "8,000 offcuts";
+
 /// The longest texts.
 pub const LINES: &str = "99,999 lines";
 /// Texts of 4,000 lines of kind 3.
@@ -35,7 +40,8 @@ pub fn input(call: Call, name: &str) -> Input {
     let kind = match call {
         Call::SawText => Text::Saw,
         Call::FoldText => Text::Fold,
-        _ => return words(call, &job(name)),
+        _ if name == OFFCUTS => return words(call, most_offcuts()),
+        _ => return words(call, with_inputs(job(name))),
     };
     let text = match name {
         LINES => longest(kind),
@@ -53,11 +59,16 @@ pub fn input(call: Call, name: &str) -> Input {
     }
 }
 
+/// A job with its plan, prices and layouts.
+fn with_inputs(job: Vec<u16>) -> (Vec<u16>, Inputs) {
+    let inputs = Inputs::of(&job).expect("the listing is not refused");
+    (job, inputs)
+}
+
 /// The words of a call on a job.
-fn words(call: Call, job: &[u16]) -> Input {
-    let inputs = Inputs::of(job).expect("the listing is not refused");
+fn words(call: Call, (job, inputs): (Vec<u16>, Inputs)) -> Input {
     Input {
-        job: job.to_vec(),
+        job,
         own: match call {
             Call::TestPlan | Call::Unfold => inputs.counts,
             Call::TestPrices => inputs.prices,

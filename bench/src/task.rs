@@ -2,8 +2,9 @@
 
 use differential::{engine, text_engine};
 use inputs::Text;
-use reference::buffers::{COUNTS, CUTS, PLACEMENTS, PLATES};
+use reference::buffers::{COUNTS, CUTS, OFFCUTS, PLACEMENTS, PLATES};
 use reference::calls;
+use reference::instances::outcome::LENGTHS;
 use std::hint::black_box;
 
 #[derive(Clone, Copy, PartialEq, Eq)]
@@ -70,28 +71,33 @@ pub struct Lent {
     cuts: Vec<u16>,
     counts: Vec<u16>,
     placements: Vec<u16>,
+    offcuts: Vec<u16>,
     out: Vec<u8>,
 }
 
 impl Lent {
     pub fn new() -> Lent {
-        let [plates, cuts, counts, placements] =
-            [PLATES, CUTS, COUNTS, PLACEMENTS].map(|kind| vec![0; kind.full_size]);
+        let [plates, cuts, counts, placements, offcuts] =
+            [PLATES, CUTS, COUNTS, PLACEMENTS, OFFCUTS].map(|kind| vec![0; kind.full_size]);
         Lent {
             plates,
             cuts,
             counts,
             placements,
+            offcuts,
             out: vec![0; Text::Saw.longest()],
         }
     }
 }
 
-/// Does a call once, and gives three numbers of its answer, or the bytes that a text is answered with.
+/// The numbers of a call's answer, 0 where there are fewer than four.
+pub type Answer = [u32; 4];
+
+/// Does a call once, and gives the numbers of its answer, or the bytes that a text is answered with.
 /// Instructions are counted in this function and in those that it calls.
 #[inline(never)]
 #[no_mangle]
-pub fn measured_call(side: Side, call: Call, input: &Input, lent: &mut Lent) -> [u32; 3] {
+pub fn measured_call(side: Side, call: Call, input: &Input, lent: &mut Lent) -> Answer {
     let answer = match side {
         Side::Engine => by_engine(call, input, lent),
         Side::Reference => by_reference(call, input, lent),
@@ -99,51 +105,53 @@ pub fn measured_call(side: Side, call: Call, input: &Input, lent: &mut Lent) -> 
     black_box(answer)
 }
 
-fn by_engine(call: Call, input: &Input, lent: &mut Lent) -> [u32; 3] {
+fn by_engine(call: Call, input: &Input, lent: &mut Lent) -> Answer {
     let (job, own) = (&input.job[..], &input.own[..]);
     let (plates, cuts) = (&mut lent.plates[..], &mut lent.cuts[..]);
-    match call {
+    let [number, first, second] = match call {
         Call::List => engine::list(job, plates, cuts),
         Call::TestPlan => engine::test_plan(job, own, plates, cuts),
         Call::TestPrices => engine::test_prices(job, own, plates, cuts),
-        Call::Unfold => engine::unfold(job, own, plates, cuts, &mut lent.placements),
+        Call::Unfold => {
+            let (placements, offcuts) = (&mut lent.placements, &mut lent.offcuts);
+            return engine::unfold(job, own, LENGTHS, plates, cuts, placements, offcuts);
+        }
         Call::Fold => engine::fold(job, own, plates, cuts, &mut lent.counts),
         Call::SawText => [text_engine::saw(&input.text, &mut lent.out) as u32, 0, 0],
         Call::FoldText => [text_engine::fold(&input.text, &mut lent.out) as u32, 0, 0],
-    }
+    };
+    [number, first, second, 0]
 }
 
-fn by_reference(call: Call, input: &Input, lent: &mut Lent) -> [u32; 3] {
+fn by_reference(call: Call, input: &Input, lent: &mut Lent) -> Answer {
     let (job, own) = (&input.job[..], &input.own[..]);
     let (plates, cuts) = (&mut lent.plates[..], &mut lent.cuts[..]);
     let answer = match call {
-        Call::List => calls::list(job, plates, cuts).map(|listed| [listed.residuals, listed.cuts]),
-        Call::TestPlan => calls::test_plan(job, own, plates, cuts).map(|boards| [boards, 0]),
+        Call::List => {
+            calls::list(job, plates, cuts).map(|listed| [listed.residuals, listed.cuts, 0])
+        }
+        Call::TestPlan => calls::test_plan(job, own, plates, cuts).map(|boards| [boards, 0, 0]),
         Call::TestPrices => {
-            calls::test_prices(job, own, plates, cuts).map(|bound| [bound.sum, bound.d])
+            calls::test_prices(job, own, plates, cuts).map(|bound| [bound.sum, bound.d, 0])
         }
-        Call::Unfold => calls::unfold(job, own, plates, cuts, &mut lent.placements)
-            .map(|unfolded| [unfolded.boards, unfolded.pieces]),
+        Call::Unfold => {
+            let (placements, offcuts) = (&mut lent.placements, &mut lent.offcuts);
+            calls::unfold(job, own, LENGTHS, plates, cuts, placements, offcuts)
+                .map(|unfolded| [unfolded.boards, unfolded.pieces, unfolded.offcuts])
+        }
         Call::Fold => {
-            calls::fold(job, own, plates, cuts, &mut lent.counts).map(|boards| [boards, 0])
+            calls::fold(job, own, plates, cuts, &mut lent.counts).map(|boards| [boards, 0, 0])
         }
-        Call::SawText => {
-            return [
-                black_box(reference::saw_text(&input.text)).len() as u32,
-                0,
-                0,
-            ]
-        }
-        Call::FoldText => {
-            return [
-                black_box(reference::fold_text(&input.text)).len() as u32,
-                0,
-                0,
-            ]
-        }
+        Call::SawText => return written(reference::saw_text(&input.text)),
+        Call::FoldText => return written(reference::fold_text(&input.text)),
     };
     match answer {
-        Ok([first, second]) => [0, first, second],
-        Err(refusal) => [refusal.number, refusal.place, 0],
+        Ok([first, second, third]) => [0, first, second, third],
+        Err(refusal) => [refusal.number, refusal.place, 0, 0],
     }
+}
+
+/// The bytes that a text is answered with, as an answer.
+fn written(text: Vec<u8>) -> Answer {
+    [black_box(text).len() as u32, 0, 0, 0]
 }

@@ -1,8 +1,7 @@
 //! One call on one input, by the engine and by the reference.
 
 use crate::lent::MARGIN;
-use crate::table::{Call, Input};
-use differential::engine::Answer;
+use crate::table::{Answer, Call, Input};
 use std::thread::{scope, Builder};
 
 /// SAW_STACK of include/saw_engine.h.
@@ -11,19 +10,24 @@ const STACK: usize = 65_536;
 /// The answer, if engine and reference leave the same in every word, margins included, and the
 /// engine's inputs are as they were; otherwise what differs.
 pub fn compare(call: &Call, input: &Input, on_small_stack: bool) -> Result<Answer, String> {
-    let (job, own) = (input.job.clone(), input.own.clone());
+    let words = Input {
+        job: input.job.clone(),
+        own: input.own.clone(),
+        lengths: input.lengths,
+        lent: Vec::new(),
+    };
     let mut by_engine = input.lent.clone();
     let mut by_reference = input.lent.clone();
-    let mut engine = || (call.engine)(&job, &own, &mut by_engine);
+    let mut engine = || (call.engine)(&words, &mut by_engine);
     let answer = match on_small_stack {
         true => small_stack(engine),
         false => engine(),
     };
-    let expected = (call.reference)(&input.job, &input.own, &mut by_reference);
+    let expected = (call.reference)(input, &mut by_reference);
     if answer != expected {
         return Err(format!("{answer:?}, and not {expected:?}"));
     }
-    if job != input.job || own != input.own {
+    if words.job != input.job || words.own != input.own {
         return Err("an input is changed".to_string());
     }
     for (index, (engine, reference)) in by_engine.iter().zip(&by_reference).enumerate() {

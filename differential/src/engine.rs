@@ -1,10 +1,10 @@
 //! The engine's five calls, as include/saw_engine.h declares them.
 
-/// What a call leaves: the refusal number or 0, the first value or the place, the second value.
-pub type Answer = [u32; 3];
+/// What a call leaves: the refusal number or 0, the first value or the place, and the further values.
+pub type Answer<const N: usize> = [u32; N];
 
-/// What `answer` holds before a call.
-const OLD: Answer = [0xDEAD_BEEF; 3];
+/// What each word of `answer` holds before a call.
+const OLD: u32 = 0xDEAD_BEEF;
 
 #[link(name = "engine", kind = "static", modifiers = "-bundle")]
 extern "C" {
@@ -44,12 +44,16 @@ extern "C" {
         job_len: usize,
         counts: *const u16,
         counts_len: usize,
+        first_length: u16,
+        second_length: u16,
         plates: *mut u16,
         plates_len: usize,
         cuts: *mut u16,
         cuts_len: usize,
         placements: *mut u16,
         placements_len: usize,
+        offcuts: *mut u16,
+        offcuts_len: usize,
         answer: *mut u32,
     );
     fn saw_fold(
@@ -67,15 +71,17 @@ extern "C" {
     );
 }
 
-/// Calls a function of the engine with slices: those passed in, those lent, and the answer.
+/// Calls a function of the engine: slices that are passed in, single words, slices that are lent, and
+/// the answer, whose number of words is that of the function's result here.
 macro_rules! call {
-    ($function:ident, [$($passed:expr),*], [$($lent:expr),*]) => {{
-        let mut answer = OLD;
+    ($function:ident, [$($passed:expr),*], [$($word:expr),*], [$($lent:expr),*]) => {{
+        let mut answer = [OLD; _];
         // SAFETY: each pointer and length are those of a slice, the lent slices are borrowed
-        // uniquely, and `answer` is three words.
+        // uniquely, and `answer` has the words that the header says.
         unsafe {
             $function(
                 $($passed.as_ptr(), $passed.len(),)*
+                $($word,)*
                 $($lent.as_mut_ptr(), $lent.len(),)*
                 answer.as_mut_ptr(),
             )
@@ -84,26 +90,33 @@ macro_rules! call {
     }};
 }
 
-pub fn list(job: &[u16], plates: &mut [u16], cuts: &mut [u16]) -> Answer {
-    call!(saw_list, [job], [plates, cuts])
+pub fn list(job: &[u16], plates: &mut [u16], cuts: &mut [u16]) -> Answer<3> {
+    call!(saw_list, [job], [], [plates, cuts])
 }
 
-pub fn test_plan(job: &[u16], counts: &[u16], plates: &mut [u16], cuts: &mut [u16]) -> Answer {
-    call!(saw_test_plan, [job, counts], [plates, cuts])
+pub fn test_plan(job: &[u16], counts: &[u16], plates: &mut [u16], cuts: &mut [u16]) -> Answer<3> {
+    call!(saw_test_plan, [job, counts], [], [plates, cuts])
 }
 
-pub fn test_prices(job: &[u16], prices: &[u16], plates: &mut [u16], cuts: &mut [u16]) -> Answer {
-    call!(saw_test_prices, [job, prices], [plates, cuts])
+pub fn test_prices(job: &[u16], prices: &[u16], plates: &mut [u16], cuts: &mut [u16]) -> Answer<3> {
+    call!(saw_test_prices, [job, prices], [], [plates, cuts])
 }
 
 pub fn unfold(
     job: &[u16],
     counts: &[u16],
+    [first, second]: [u16; 2],
     plates: &mut [u16],
     cuts: &mut [u16],
     placements: &mut [u16],
-) -> Answer {
-    call!(saw_unfold, [job, counts], [plates, cuts, placements])
+    offcuts: &mut [u16],
+) -> Answer<4> {
+    call!(
+        saw_unfold,
+        [job, counts],
+        [first, second],
+        [plates, cuts, placements, offcuts]
+    )
 }
 
 pub fn fold(
@@ -112,6 +125,6 @@ pub fn fold(
     plates: &mut [u16],
     cuts: &mut [u16],
     counts: &mut [u16],
-) -> Answer {
-    call!(saw_fold, [job, layouts], [plates, cuts, counts])
+) -> Answer<3> {
+    call!(saw_fold, [job, layouts], [], [plates, cuts, counts])
 }

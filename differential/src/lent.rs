@@ -12,7 +12,7 @@ pub struct Junk(Vec<u16>);
 
 impl Junk {
     pub fn new(random: &mut Random) -> Junk {
-        Junk((0..90_000).map(|_| random.between(0, 65_535)).collect())
+        Junk((0..120_000).map(|_| random.between(0, 65_535)).collect())
     }
 
     /// A buffer before the call, with its margins.

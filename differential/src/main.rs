@@ -54,6 +54,7 @@ impl Source {
             return Input {
                 job: subject.job().to_vec(),
                 own: call.own.valid(random, subject),
+                lengths: subject.valid_lengths(random),
                 lent: junk.lent_in_full(random, call.lent),
             };
         }
@@ -72,6 +73,7 @@ impl Source {
         Input {
             job,
             own: call.own.any(random, subject),
+            lengths: subject.any_lengths(random),
             lent: junk.lent(random, call.lent),
         }
     }
@@ -79,12 +81,12 @@ impl Source {
 
 /// Runs a call, and says how often it gave what.
 fn run(call: &Call, source: &mut Source, inputs: usize) -> Result<Tally, String> {
-    let mut tally = Tally::new();
+    let mut tally = Tally::new(call);
     for number in 0..inputs {
         let input = source.input(call, number);
         let answer = compare(call, &input, number < source.known.count())
             .map_err(|difference| format!("{}: {difference}", describe(call, &input)))?;
-        tally.add(answer);
+        tally.add(&answer);
     }
     tally.covers(call)?;
     Ok(tally)
@@ -92,15 +94,16 @@ fn run(call: &Call, source: &mut Source, inputs: usize) -> Result<Tally, String>
 
 /// An input in words, the first sixty of its own.
 fn describe(call: &Call, input: &Input) -> String {
-    let lengths: Vec<usize> = (input.lent.iter())
+    let sizes: Vec<usize> = (input.lent.iter())
         .map(|buffer| buffer.len() - 2 * MARGIN)
         .collect();
     let own = &input.own[..input.own.len().min(60)];
     format!(
-        "{}: job {:?}, {} words {own:?}, buffers of {lengths:?} words",
+        "{}: job {:?}, {} words {own:?}, lengths {:?}, buffers of {sizes:?} words",
         call.name,
         input.job,
         input.own.len(),
+        input.lengths,
     )
 }
 

@@ -3,26 +3,30 @@
 
 use crate::lent::MARGIN;
 use crate::own::Own;
-use differential::engine::{self, Answer};
-use reference::buffers::{Kind, COUNTS, CUTS, PLACEMENTS, PLATES};
+use differential::engine;
+use reference::buffers::{Kind, COUNTS, CUTS, OFFCUTS, PLACEMENTS, PLATES};
 use reference::{calls, Refusal};
 
-/// The job's words, the call's own words, and the lent buffers.
+/// The job's words, the call's own words, the two lengths of unfolding, and the lent buffers.
 pub struct Input {
     pub job: Vec<u16>,
     pub own: Vec<u16>,
+    pub lengths: [u16; 2],
     pub lent: Vec<Vec<u16>>,
 }
 
-/// A call, on an input; the buffers are lent to it.
-type Function = fn(&[u16], &[u16], &mut [Vec<u16>]) -> Answer;
+/// The words that a call leaves in `answer`.
+pub type Answer = Vec<u32>;
+
+/// A call, on the words of an input; the buffers are lent to it.
+type Function = fn(&Input, &mut [Vec<u16>]) -> Answer;
 
 pub struct Call {
     pub name: &'static str,
     pub own: Own,
     pub lent: &'static [Kind],
     pub refusals: &'static [u32],
-    pub largest: [u32; 2],
+    pub largest: &'static [u32],
     pub engine: Function,
     pub reference: Function,
 }
@@ -33,14 +37,16 @@ pub const CALLS: [Call; 5] = [
         own: Own::Nothing,
         lent: &[PLATES, CUTS],
         refusals: &[1, 2, 3, 4, 5, 6, 7],
-        largest: [2_047, 8_192],
-        engine: |job, _, lent| {
+        largest: &[2_047, 8_192],
+        engine: |input, lent| {
             let [plates, cuts] = lent_to(lent);
-            engine::list(job, plates, cuts)
+            engine::list(&input.job, plates, cuts).to_vec()
         },
-        reference: |job, _, lent| {
+        reference: |input, lent| {
             let [plates, cuts] = lent_to(lent);
-            words(calls::list(job, plates, cuts).map(|listed| [listed.residuals, listed.cuts]))
+            words(
+                calls::list(&input.job, plates, cuts).map(|listed| [listed.residuals, listed.cuts]),
+            )
         },
     },
     Call {
@@ -48,14 +54,14 @@ pub const CALLS: [Call; 5] = [
         own: Own::Counts,
         lent: &[PLATES, CUTS],
         refusals: &[1, 2, 3, 4, 5, 6, 7, 8, 10, 11, 12],
-        largest: [4_000, 0],
-        engine: |job, counts, lent| {
+        largest: &[4_000, 0],
+        engine: |input, lent| {
             let [plates, cuts] = lent_to(lent);
-            engine::test_plan(job, counts, plates, cuts)
+            engine::test_plan(&input.job, &input.own, plates, cuts).to_vec()
         },
-        reference: |job, counts, lent| {
+        reference: |input, lent| {
             let [plates, cuts] = lent_to(lent);
-            words(calls::test_plan(job, counts, plates, cuts).map(|boards| [boards, 0]))
+            words(calls::test_plan(&input.job, &input.own, plates, cuts).map(|boards| [boards, 0]))
         },
     },
     Call {
@@ -63,30 +69,39 @@ pub const CALLS: [Call; 5] = [
         own: Own::Prices,
         lent: &[PLATES, CUTS],
         refusals: &[1, 2, 3, 4, 5, 6, 7, 13, 14],
-        largest: [39_996_000, 9_999],
-        engine: |job, prices, lent| {
+        largest: &[39_996_000, 9_999],
+        engine: |input, lent| {
             let [plates, cuts] = lent_to(lent);
-            engine::test_prices(job, prices, plates, cuts)
+            engine::test_prices(&input.job, &input.own, plates, cuts).to_vec()
         },
-        reference: |job, prices, lent| {
+        reference: |input, lent| {
             let [plates, cuts] = lent_to(lent);
-            words(calls::test_prices(job, prices, plates, cuts).map(|bound| [bound.sum, bound.d]))
+            words(
+                calls::test_prices(&input.job, &input.own, plates, cuts)
+                    .map(|bound| [bound.sum, bound.d]),
+            )
         },
     },
     Call {
         name: "saw_unfold",
         own: Own::Counts,
-        lent: &[PLATES, CUTS, PLACEMENTS],
+        lent: &[PLATES, CUTS, PLACEMENTS, OFFCUTS],
         refusals: &[1, 2, 3, 4, 5, 6, 7, 8, 10, 11, 12],
-        largest: [4_000, 4_000],
-        engine: |job, counts, lent| {
-            let [plates, cuts, placements] = lent_to(lent);
-            engine::unfold(job, counts, plates, cuts, placements)
+        largest: &[4_000, 4_000, 8_000],
+        engine: |input, lent| {
+            let [plates, cuts, placements, offcuts] = lent_to(lent);
+            let Input {
+                job, own, lengths, ..
+            } = input;
+            engine::unfold(job, own, *lengths, plates, cuts, placements, offcuts).to_vec()
         },
-        reference: |job, counts, lent| {
-            let [plates, cuts, placements] = lent_to(lent);
-            let answer = calls::unfold(job, counts, plates, cuts, placements);
-            words(answer.map(|unfolded| [unfolded.boards, unfolded.pieces]))
+        reference: |input, lent| {
+            let [plates, cuts, placements, offcuts] = lent_to(lent);
+            let Input {
+                job, own, lengths, ..
+            } = input;
+            let answer = calls::unfold(job, own, *lengths, plates, cuts, placements, offcuts);
+            words(answer.map(|unfolded| [unfolded.boards, unfolded.pieces, unfolded.offcuts]))
         },
     },
     Call {
@@ -94,14 +109,16 @@ pub const CALLS: [Call; 5] = [
         own: Own::Layouts,
         lent: &[PLATES, CUTS, COUNTS],
         refusals: &[1, 2, 3, 4, 5, 6, 7, 10, 11, 15, 16, 17, 18, 19],
-        largest: [4_000, 0],
-        engine: |job, layouts, lent| {
+        largest: &[4_000, 0],
+        engine: |input, lent| {
             let [plates, cuts, counts] = lent_to(lent);
-            engine::fold(job, layouts, plates, cuts, counts)
+            engine::fold(&input.job, &input.own, plates, cuts, counts).to_vec()
         },
-        reference: |job, layouts, lent| {
+        reference: |input, lent| {
             let [plates, cuts, counts] = lent_to(lent);
-            words(calls::fold(job, layouts, plates, cuts, counts).map(|boards| [boards, 0]))
+            words(
+                calls::fold(&input.job, &input.own, plates, cuts, counts).map(|boards| [boards, 0]),
+            )
         },
     },
 ];
@@ -115,10 +132,11 @@ fn lent_to<const N: usize>(lent: &mut [Vec<u16>]) -> [&mut [u16]; N] {
     std::array::from_fn(|_| buffers.next().expect("each call is lent its buffers"))
 }
 
-/// An answer of the reference as three words.
-fn words(answer: Result<[u32; 2], Refusal>) -> Answer {
-    match answer {
-        Ok([first, second]) => [0, first, second],
-        Err(Refusal { number, place }) => [number, place, 0],
-    }
+/// An answer of the reference as words: 0 and its values, or the refusal, its place, and 0 in the rest.
+fn words<const N: usize>(answer: Result<[u32; N], Refusal>) -> Answer {
+    let (number, values) = match answer {
+        Ok(values) => (0, values.to_vec()),
+        Err(Refusal { number, place }) => (number, [&[place], &[0; N][1..]].concat()),
+    };
+    [vec![number], values].concat()
 }

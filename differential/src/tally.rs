@@ -1,7 +1,6 @@
 //! What a call answered: how often each number, and the largest values.
 
-use crate::table::Call;
-use differential::engine::Answer;
+use crate::table::{Answer, Call};
 use std::fmt;
 
 /// One past the largest refusal number.
@@ -9,22 +8,23 @@ const NUMBERS: usize = 20;
 
 pub struct Tally {
     came: [usize; NUMBERS],
-    largest: [u32; 2],
+    largest: Vec<u32>,
 }
 
 impl Tally {
-    pub fn new() -> Tally {
+    pub fn new(call: &Call) -> Tally {
         Tally {
             came: [0; NUMBERS],
-            largest: [0; 2],
+            largest: vec![0; call.largest.len()],
         }
     }
 
-    pub fn add(&mut self, [number, first, second]: Answer) {
-        self.came[number as usize] += 1;
-        if number == 0 {
-            let [most_first, most_second] = self.largest;
-            self.largest = [most_first.max(first), most_second.max(second)];
+    pub fn add(&mut self, answer: &Answer) {
+        self.came[answer[0] as usize] += 1;
+        if answer[0] == 0 {
+            for (largest, &value) in self.largest.iter_mut().zip(&answer[1..]) {
+                *largest = value.max(*largest);
+            }
         }
     }
 
@@ -49,12 +49,11 @@ impl Tally {
 
 impl fmt::Display for Tally {
     fn fmt(&self, f: &mut fmt::Formatter<'_>) -> fmt::Result {
-        let [first, second] = self.largest;
-        write!(
-            f,
-            "{} accepted, up to {first} {second}; refused",
-            self.came[0]
-        )?;
+        write!(f, "{} accepted, up to", self.came[0])?;
+        for value in &self.largest {
+            write!(f, " {value}")?;
+        }
+        write!(f, "; refused")?;
         let refusals = (1..).zip(&self.came[1..]).filter(|(_, &came)| came > 0);
         for (number, came) in refusals {
             write!(f, " {number}: {came}")?;

@@ -1,7 +1,8 @@
 //! What a call is about: a small random job, or a job of `data/`, which is a published instance or
-//! lies at a limit of document 01 or one past it.
+//! lies at a limit of document 01 or one past it; beside these the job with most offcuts.
 
 use crate::layouts::random_layouts;
+use crate::lengths::{any_lengths, valid_lengths};
 use crate::model::Model;
 use crate::plans::random_plan;
 use crate::prices::random_prices;
@@ -45,6 +46,21 @@ impl Subject {
         }
     }
 
+    /// Two lengths within their limits.
+    pub fn valid_lengths(&self, random: &mut Random) -> [u16; 2] {
+        valid_lengths(random, self.board())
+    }
+
+    /// Two lengths, some of them outside their limits.
+    pub fn any_lengths(&self, random: &mut Random) -> [u16; 2] {
+        any_lengths(random, self.board())
+    }
+
+    /// The board's width and height.
+    fn board(&self) -> [u16; 2] {
+        [self.job()[2], self.job()[3]]
+    }
+
     /// The words of accepted prices; any if the listing is refused.
     pub fn prices(&self, random: &mut Random) -> Vec<u16> {
         match self {
@@ -65,6 +81,14 @@ impl Subject {
     }
 }
 
+/// The words of a job, and those of the plan that leaves over most: 4,000 boards of 2 by 2, each cut
+/// for one item of 1 by 1, and 8,000 offcuts.
+pub fn most_offcuts() -> (Vec<u16>, Inputs) {
+    let job = vec![2, 0, 2, 2, 1, 1, 1, 4_000, 0];
+    let inputs = Inputs::of_singles(&job).expect("the job is listed");
+    (job, inputs)
+}
+
 /// The counts that cut each item from a board of its own, in the first of its positions that fit.
 fn single_items(model: &Model) -> Vec<u16> {
     let mut counts = vec![0; model.listing.cuts.len()];
@@ -79,7 +103,8 @@ fn single_items(model: &Model) -> Vec<u16> {
     counts
 }
 
-/// The jobs of `data/`, published ones and those at the limits.
+/// The jobs of `data/`, published ones and those at the limits, the one with most offcuts among
+/// these.
 pub struct Known {
     published: Vec<Subject>,
     limits: Vec<Subject>,
@@ -89,9 +114,11 @@ impl Known {
     /// All that there are.
     pub fn of_data() -> Known {
         let limits = limit_jobs().into_iter().map(|limit| limit.job);
+        let (job, inputs) = most_offcuts();
+        let most_offcuts = Subject::Known(job, Some(inputs));
         Known {
             published: jobs().into_iter().map(Subject::known).collect(),
-            limits: limits.map(Subject::known).collect(),
+            limits: limits.map(Subject::known).chain([most_offcuts]).collect(),
         }
     }
 

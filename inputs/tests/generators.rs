@@ -3,14 +3,18 @@
 
 use inputs::damage::{damage_job, damage_words, Words};
 use inputs::layouts::random_layouts;
+use inputs::lengths::{any_lengths, valid_lengths};
 use inputs::lines::{fold_lines, saw_lines, text_of};
 use inputs::longest::{line_of, longest};
 use inputs::plans::random_plan;
 use inputs::prices::random_prices;
+use inputs::subjects::most_offcuts;
 use inputs::text::refusal_in;
 use inputs::{Model, Random, Text};
 use reference::buffers::{COUNTS, CUTS, PLATES};
-use reference::Item;
+use reference::instances::outcome;
+use reference::unfolding::unfold;
+use reference::{Item, Lengths};
 use std::collections::BTreeSet;
 
 /// A text of a small job, damaged so many times.
@@ -188,4 +192,41 @@ fn no_line_of_the_longest_texts_is_refused_and_the_next_one_is() {
         text.extend(line_of(kind));
         assert_eq!(kind.answer(&text), b"        9        1   100000\n");
     }
+}
+
+#[test]
+fn lengths_are_reached_by_some_offcuts_and_some_are_outside_their_limits() {
+    let mut random = Random::new(7);
+    let [mut usable, mut short] = [0; 2];
+    let mut outside = BTreeSet::new();
+    for _ in 0..1_000 {
+        let model = Model::random(&mut random);
+        let board = [model.job.width, model.job.height];
+        let lengths = Lengths::from_words(valid_lengths(&mut random, board)).unwrap();
+        let plan = random_plan(&mut random, &model);
+        for offcut in unfold(&model.job, &model.listing, &plan).offcuts {
+            match offcut.is_usable(lengths) {
+                true => usable += 1,
+                false => short += 1,
+            }
+        }
+        let any = any_lengths(&mut random, board);
+        outside.extend(
+            any.into_iter()
+                .filter(|length| !(1..=10_000).contains(length)),
+        );
+    }
+    assert!(usable > 200 && short > 200, "{usable}, {short}");
+    assert_eq!(outside.into_iter().collect::<Vec<_>>(), [0, 10_001, 65_535]);
+}
+
+#[test]
+fn the_job_with_most_offcuts_has_8_000() {
+    let (job, inputs) = most_offcuts();
+    let found = outcome::of(&job, &inputs).unwrap();
+    let unfolded = found.unfolded;
+    assert_eq!(
+        [unfolded.boards, unfolded.pieces, unfolded.offcuts],
+        [4_000, 4_000, 8_000]
+    );
 }

@@ -8,6 +8,7 @@ use crate::job::Job;
 pub struct Placement {
     pub strip: usize,
     pub stack: usize,
+    pub place: usize,
     pub item: usize,
     pub turned: bool,
     pub x: usize,
@@ -56,10 +57,11 @@ impl Answer {
     /// Takes in a line of kind 7 or 8.
     fn take(&mut self, job: &Job, numbers: &[usize]) -> Result<(), String> {
         match *numbers {
-            [7, board, strip, stack, _, item, x, y, turn @ (0 | 1)] => {
+            [7, board, strip, stack, place, item, x, y, turn @ (0 | 1)] => {
                 let at = Placement {
                     strip,
                     stack,
+                    place,
                     item,
                     turned: turn == 1,
                     x,

@@ -8,7 +8,9 @@ office: from a job to a plan for the beam saw, and from the saw's answer to draw
   office plan JOB SOLUTION          write the saw's text: the job and a solver's plan
   office prices TEXT [SOLUTION]     write the text with prices from a solver's dual prices
                                     (without SOLUTION: prices by area)
-  office draw JOB OUTPUT FOLDER     draw the saw's output: a picture of each board, and boards.html
+  office draw JOB OUTPUT FOLDER [FIRST SECOND]
+                                    draw the saw's output: a picture of each board, and boards.html
+                                    (FIRST, SECOND: from which width and height an offcut is usable)
   office explain TEXT OUTPUT        say in words why the saw refused the text
   office explain TEXT NUMBER PLACE  the same, from the two numbers at the panel
   office --help                     this page; office COMMAND --help says more of a command
@@ -64,13 +66,16 @@ Without SOLUTION each item's price is its share of the board's area. Price lines
 ";
 
 const DRAW: &str = "\
-office draw JOB OUTPUT FOLDER
+office draw JOB OUTPUT FOLDER [FIRST SECOND]
 
 Draws the saw's output: board-1.svg, board-2.svg and so on, and boards.html with all of them. An
-earlier drawing in FOLDER is replaced.
+earlier drawing in FOLDER is replaced. Each board, and the job, is given its yield, offcuts and waste
+in per cent. Offcuts are shaded; those whose width is at least FIRST and whose height is at least
+SECOND (each 1 to 10,000; 1 and 1 if not given, so that all are) are usable: they are drawn darker and
+with their sides, and boards.html counts them by size.
 
   saw < priced.txt > output.txt
-  office draw job.txt output.txt boards
+  office draw job.txt output.txt boards 300 200
 ";
 
 const EXPLAIN: &str = "\

@@ -1,5 +1,6 @@
 //! Office kit of the beam saw: it reads and writes the texts of docs/FORMAT.md, lists by the
-//! reference's walk, and knows of the saw nothing else.
+//! reference's walk, finds offcuts by the reference's folding and unfolding, and knows of the saw
+//! nothing else.
 
 pub mod answer;
 pub mod columns;
@@ -11,4 +12,5 @@ pub mod listing;
 pub mod model;
 pub mod plan;
 pub mod prices;
+pub mod remains;
 pub mod solution;

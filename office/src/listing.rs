@@ -97,7 +97,7 @@ impl Listing {
 }
 
 /// The job as the reference walks it.
-fn to_walk(job: &Job) -> reference::Job {
+pub fn to_walk(job: &Job) -> reference::Job {
     let item = |item: &Item| reference::Item {
         width: word(item.width),
         height: word(item.height),
@@ -119,7 +119,7 @@ fn word(number: usize) -> u16 {
 }
 
 /// What to say of a job whose walk is refused.
-fn too_large(refusal: Refusal) -> String {
+pub fn too_large(refusal: Refusal) -> String {
     let most = match refusal.number {
         TOO_MANY_CUTS => "8,192 cuts",
         _ => "2,048 plate types",

@@ -5,6 +5,7 @@ use office::draw::page;
 use office::explain::explain;
 use office::job::Job;
 use office::listing::Listing;
+use office::remains::{self, Remains};
 use office::solution::{Names, Solution};
 use office::{help, model, plan, prices};
 use std::io::{self, Read, Write};
@@ -48,7 +49,10 @@ fn run(words: &[&str]) -> Result<String, String> {
         ["plan", job, solution] => write_plan(job, solution),
         ["prices", text] => write_prices(text, None),
         ["prices", text, solution] => write_prices(text, Some(solution)),
-        ["draw", job, output, folder] => draw(job, output, folder),
+        ["draw", job, output, folder] => draw(job, output, folder, remains::LEAST),
+        ["draw", job, output, folder, first, second] => {
+            draw(job, output, folder, remains::lengths([first, second])?)
+        }
         ["explain", text, output] => explain_output(text, output),
         ["explain", text, number, place] => explain_numbers(text, number, place),
         [] => Err(format!("a command is needed\n\n{}", help::HELP)),
@@ -144,12 +148,13 @@ fn write_prices(path: &str, solution: Option<&str>) -> Result<String, String> {
     Ok(job.text() + &plan::lines(&listing, &counts) + &prices.lines())
 }
 
-fn draw(path: &str, output: &str, folder: &str) -> Result<String, String> {
+fn draw(path: &str, output: &str, folder: &str, lengths: [usize; 2]) -> Result<String, String> {
     let job = Job::read(&text(path)?).map_err(in_file(path))?;
     let answer = Answer::read(&text(output)?, &job).map_err(in_file(output))?;
+    let remains = Remains::of(&job, &answer, lengths).map_err(in_file(output))?;
     fs::create_dir_all(folder)
         .map_err(|fault| format!("cannot make the folder {folder}: {fault}"))?;
-    let files = page(&job, &answer);
+    let files = page(&job, &answer, &remains);
     for (name, content) in &files {
         let path = format!("{folder}/{name}");
         fs::write(&path, content).map_err(|fault| format!("cannot write {path}: {fault}"))?;

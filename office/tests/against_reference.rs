@@ -1,9 +1,11 @@
-//! Random jobs: listing, plan, prices and drawings against the second implementation's calls and texts.
+//! Random jobs: listing, plan, prices, drawings and offcuts against the second implementation's calls and
+//! texts.
 
 use office::answer::Answer;
 use office::draw::page;
 use office::job::{Item, Job};
 use office::listing::Listing;
+use office::remains::Remains;
 use office::{plan, prices};
 
 /// A small source of random numbers.
@@ -100,6 +102,37 @@ fn records(listing: &Listing) -> [Vec<u16>; 2] {
     ]
 }
 
+/// The offcuts as the records of the unfolding call.
+fn offcut_words(remains: &Remains) -> Vec<u16> {
+    let boards = (1..).zip(&remains.boards);
+    let offcuts = boards.flat_map(|(board, rest)| {
+        rest.offcuts.iter().flat_map(move |offcut| {
+            let sides = [offcut.width, offcut.height, offcut.usable.into()];
+            [&[board, offcut.x, offcut.y], &sides[..]].concat()
+        })
+    });
+    offcuts.map(|word| word as u16).collect()
+}
+
+/// The offcuts that the unfolding call writes.
+fn unfolded(job: &Job, counts: &[usize], lengths: [usize; 2]) -> Vec<u16> {
+    let [mut plates, mut cuts] = [vec![0; 6_144], vec![0; 32_768]];
+    let [mut placements, mut offcuts] = [vec![0; 32_000], vec![0; 48_000]];
+    let mut counts: Vec<u16> = counts.iter().map(|&count| count as u16).collect();
+    counts.resize(8_192, 0);
+    let unfolded = reference::unfold(
+        &words(job),
+        &counts,
+        lengths.map(|length| length as u16),
+        &mut plates,
+        &mut cuts,
+        &mut placements,
+        &mut offcuts,
+    );
+    offcuts.truncate(6 * unfolded.unwrap().offcuts as usize);
+    offcuts
+}
+
 #[test]
 fn listings_are_those_of_the_listing_call() {
     let mut random = Random(1);
@@ -119,7 +152,7 @@ fn listings_are_those_of_the_listing_call() {
 #[test]
 fn plans_and_prices_are_accepted_and_drawn() {
     let mut random = Random(2);
-    let mut turned = 0;
+    let [mut turned, mut offcuts] = [0; 2];
     for round in 0..24 {
         let job = random.job();
         let listing = Listing::of(&job).unwrap();
@@ -141,12 +174,17 @@ fn plans_and_prices_are_accepted_and_drawn() {
             (answer.sum, answer.denominator),
             (prices.sum(&job), prices.denominator)
         );
-        assert_eq!(page(&job, &answer).len(), answer.boards.len() + 1);
+        let lengths = [random.between(1, job.width), random.between(1, job.height)];
+        let remains = Remains::of(&job, &answer, lengths).unwrap();
+        assert_eq!(page(&job, &answer, &remains).len(), answer.boards.len() + 1);
+        assert_eq!(offcut_words(&remains), unfolded(&job, &counts, lengths));
+        offcuts += remains.offcuts().count();
         turned += (1..=job.items.len())
             .map(|item| answer.turned_of(item))
             .sum::<usize>();
     }
     assert!(turned > 20, "{turned} items are turned");
+    assert!(offcuts > 100, "{offcuts} offcuts");
 }
 
 #[test]

@@ -88,6 +88,18 @@ fn from_a_job_to_a_drawing() {
     for name in ["board-1.svg", "board-2.svg", "boards.html"] {
         assert!(Path::new(&boards).join(name).is_file(), "{name}");
     }
+    for (lengths, told) in [
+        (&[][..], "3 offcuts, 3 usable: at least 1 wide and 1 high."),
+        (
+            &["9", "3"][..],
+            "3 offcuts, 1 usable: at least 9 wide and 3 high.",
+        ),
+    ] {
+        let words = [&["draw", &job, &output, boards.to_str().unwrap()], lengths].concat();
+        good(&words, "");
+        let page = fs::read_to_string(boards.join("boards.html")).unwrap();
+        assert!(page.contains(told), "{told}");
+    }
 }
 
 #[test]
@@ -135,6 +147,9 @@ fn wrong_arguments_are_told() {
         (&["plan", "-"], JOB, "plan is used otherwise"),
         (&["model", "/no/such/file"], "", "cannot read /no/such/file"),
         (&["explain", "-", "12", "two"], JOB, "two is not a number"),
+        (&["draw", "-", "o", "f", "4"], JOB, "draw is used otherwise"),
+        (&["draw", "-", "o", "f", "0", "4"], JOB, "a length of 0"),
+        (&["draw", "-", "o", "f", "4", "x"], JOB, "x is not a number"),
     ]);
 }
 
@@ -144,6 +159,7 @@ fn wrong_files_are_told() {
     let solution = folder.file("solution.txt", SOLUTION);
     let half = folder.file("half.txt", "s bas 8 8 f f 2\nj 1 b 1.5 0\ne o f\n");
     let few = folder.file("few.txt", "s mip 8 8 o 2\nj 1 2\ne o f\n");
+    let short = folder.file("short.txt", "7 1 1 1 1 1 0 0 0\n8 1 0 1 0\n");
     let boards = folder.0.to_str().unwrap();
     check(&[
         (&["model", "-"], "1 2 0 9 7", "standard input: line 1"),
@@ -151,6 +167,7 @@ fn wrong_files_are_told() {
         (&["plan", "-", &few], JOB, "item type 2 is cut 0 times"),
         (&["prices", "-", &solution], JOB, "item type 1 is cut 0"),
         (&["draw", "-", &solution, boards], JOB, "not a line of"),
+        (&["draw", "-", &short, boards], JOB, "no plan of this job"),
         (&["explain", "-", "12", "2"], JOB, "is it the text that"),
         (&["explain", "-", &solution], JOB, "no output of the saw"),
     ]);

@@ -31,10 +31,16 @@ pub const PLACEMENTS: Kind = Kind {
     full_size: 32_000,
 };
 
+/// Lent offcuts: 8,000 records of 6 words (document 02, Two).
+pub const OFFCUTS: Kind = Kind {
+    place: 5,
+    full_size: 48_000,
+};
+
 /// Refuses with 5 the first buffer that is shorter than its full size.
-pub fn ensure_full(lengths: &[(Kind, usize)]) -> Result<(), Refusal> {
-    for (kind, length) in lengths {
-        ensure(*length >= kind.full_size, BUFFER_TOO_SHORT, kind.place)?;
+pub fn ensure_full(sizes: &[(Kind, usize)]) -> Result<(), Refusal> {
+    for (kind, size) in sizes {
+        ensure(*size >= kind.full_size, BUFFER_TOO_SHORT, kind.place)?;
     }
     Ok(())
 }

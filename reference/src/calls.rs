@@ -1,20 +1,21 @@
 //! The five calls over words: listing, plan test, price test, unfolding and folding.
 //!
 //! Every call refuses in this order: the job's words (1, then 2), the words of prices or layouts
-//! (1, then 2, then 19), the job row (3, 4), the buffers (5), the model (6 or 7), and then the row of its
-//! own input (document 01, "Where each number is given"). Each builds its model afresh, and the
+//! (1, then 2, then 19) or the lengths of unfolding (2), the job row (3, 4), the buffers (5), the
+//! model (6 or 7), and then the row of its own input (document 01, "Where each number is given"). Each builds its model afresh, and the
 //! old contents of a lent buffer have no influence.
 
-use crate::buffers::{ensure_full, hand_back, Kind, COUNTS, CUTS, PLACEMENTS, PLATES};
+use crate::buffers::{ensure_full, hand_back, Kind, COUNTS, CUTS, OFFCUTS, PLACEMENTS, PLATES};
 use crate::folding;
 use crate::job::Job;
 use crate::layout::Placement;
 use crate::layout_lines;
 use crate::listing::{Listing, FULL};
+use crate::offcut::Lengths;
 use crate::plan;
 use crate::prices::{self, Bound, Prices};
 use crate::refusal::Refusal;
-use crate::unfolding;
+use crate::unfolding::{self, Unfolding};
 
 /// The result of the listing: the numbers of residual types and of cuts.
 #[derive(Debug, Clone, Copy, PartialEq, Eq)]
@@ -23,11 +24,23 @@ pub struct Listed {
     pub cuts: u32,
 }
 
-/// The result of unfolding: the numbers of boards and of pieces, which are items.
+/// The result of unfolding: the numbers of boards, of pieces, which are items, and of offcuts.
 #[derive(Debug, Clone, Copy, PartialEq, Eq)]
 pub struct Unfolded {
     pub boards: u32,
     pub pieces: u32,
+    pub offcuts: u32,
+}
+
+impl Unfolded {
+    /// The numbers of an unfolding.
+    pub fn of(unfolding: &Unfolding) -> Unfolded {
+        Unfolded {
+            boards: u32::from(unfolding.boards),
+            pieces: unfolding.placements.len() as u32,
+            offcuts: unfolding.offcuts.len() as u32,
+        }
+    }
 }
 
 /// Lists the plate types and cuts of a job.
@@ -35,10 +48,10 @@ pub struct Unfolded {
 /// Refuses with 1 to 4 for the job, 5 for plates or cuts, 6 or 7 for the model. After success
 /// plates and cuts hold the listing.
 pub fn list(job: &[u16], plates: &mut [u16], cuts: &mut [u16]) -> Result<Listed, Refusal> {
-    let lengths = [(PLATES, plates.len()), (CUTS, cuts.len())];
+    let sizes = [(PLATES, plates.len()), (CUTS, cuts.len())];
     let answer = || {
         let job = Job::from_words(job)?;
-        let listing = model(&job, &lengths)?;
+        let listing = model(&job, &sizes)?;
         let listed = Listed {
             residuals: listing.residual_types() as u32,
             cuts: listing.cuts.len() as u32,
@@ -58,14 +71,14 @@ pub fn test_plan(
     plates: &mut [u16],
     cuts: &mut [u16],
 ) -> Result<u32, Refusal> {
-    let lengths = [
+    let sizes = [
         (PLATES, plates.len()),
         (CUTS, cuts.len()),
         (COUNTS, counts.len()),
     ];
     let answer = || {
         let job = Job::from_words(job)?;
-        let listing = model(&job, &lengths)?;
+        let listing = model(&job, &sizes)?;
         let counts = plan::counts_of_words(&listing, counts)?;
         let boards = plan::test(&job, &listing, counts)?;
         Ok((boards, [listing.plate_words(), listing.cut_words()]))
@@ -83,49 +96,60 @@ pub fn test_prices(
     plates: &mut [u16],
     cuts: &mut [u16],
 ) -> Result<Bound, Refusal> {
-    let lengths = [(PLATES, plates.len()), (CUTS, cuts.len())];
+    let sizes = [(PLATES, plates.len()), (CUTS, cuts.len())];
     let answer = || {
         let job = Job::from_words(job)?;
         prices::test_words(prices)?;
-        let listing = model(&job, &lengths)?;
+        let listing = model(&job, &sizes)?;
         let bound = Prices::from_words(prices, &job, &listing)?.test(&job, &listing)?;
         Ok((bound, [listing.plate_words(), listing.cut_words()]))
     };
     hand_back(answer(), [plates, cuts])
 }
 
-/// Unfolds a plan into placements, and gives the numbers of boards and pieces.
+/// Unfolds a plan into placements and offcuts, of which those are marked that reach two lengths,
+/// and gives the numbers of boards, pieces and offcuts.
 ///
-/// Refuses as the plan test does, with 5 also for the placements. After success plates and cuts
-/// hold the listing and placements eight words for each item.
+/// Refuses as the plan test does, with 2, place 0, also for a length (after the job's own 1 and 2)
+/// and with 5 also for placements and offcuts. After success plates and cuts hold the listing,
+/// placements eight words for each item and offcuts six for each piece left over.
 pub fn unfold(
     job: &[u16],
     counts: &[u16],
+    lengths: [u16; 2],
     plates: &mut [u16],
     cuts: &mut [u16],
     placements: &mut [u16],
+    offcuts: &mut [u16],
 ) -> Result<Unfolded, Refusal> {
-    let lengths = [
+    let sizes = [
         (PLATES, plates.len()),
         (CUTS, cuts.len()),
         (COUNTS, counts.len()),
         (PLACEMENTS, placements.len()),
+        (OFFCUTS, offcuts.len()),
     ];
     let answer = || {
         let job = Job::from_words(job)?;
-        let listing = model(&job, &lengths)?;
+        let lengths = Lengths::from_words(lengths)?;
+        let listing = model(&job, &sizes)?;
         let counts = plan::counts_of_words(&listing, counts)?;
         plan::test(&job, &listing, counts)?;
         let unfolding = unfolding::unfold(&job, &listing, counts);
-        let unfolded = Unfolded {
-            boards: u32::from(unfolding.boards),
-            pieces: unfolding.placements.len() as u32,
-        };
-        let words = unfolding.placements.iter().flat_map(Placement::words);
-        let contents = [listing.plate_words(), listing.cut_words(), words.collect()];
-        Ok((unfolded, contents))
+        let placed = unfolding.placements.iter().flat_map(Placement::words);
+        let left_over = unfolding
+            .offcuts
+            .iter()
+            .flat_map(|offcut| offcut.words(lengths));
+        let contents = [
+            listing.plate_words(),
+            listing.cut_words(),
+            placed.collect(),
+            left_over.collect(),
+        ];
+        Ok((Unfolded::of(&unfolding), contents))
     };
-    hand_back(answer(), [plates, cuts, placements])
+    hand_back(answer(), [plates, cuts, placements, offcuts])
 }
 
 /// Folds layouts into counts, and gives the number of boards.
@@ -140,7 +164,7 @@ pub fn fold(
     cuts: &mut [u16],
     counts: &mut [u16],
 ) -> Result<u32, Refusal> {
-    let lengths = [
+    let sizes = [
         (PLATES, plates.len()),
         (CUTS, cuts.len()),
         (COUNTS, counts.len()),
@@ -148,7 +172,7 @@ pub fn fold(
     let answer = || {
         let job = Job::from_words(job)?;
         let lines = layout_lines::lines_of_words(layouts, &job)?;
-        let listing = model(&job, &lengths)?;
+        let listing = model(&job, &sizes)?;
         let set = layout_lines::test(&job, &lines, 1)?;
         let contents = [
             listing.plate_words(),
@@ -161,8 +185,8 @@ pub fn fold(
 }
 
 /// The rows that every call shares after the line row: job, buffers, model.
-fn model(job: &Job, lengths: &[(Kind, usize)]) -> Result<Listing, Refusal> {
+fn model(job: &Job, sizes: &[(Kind, usize)]) -> Result<Listing, Refusal> {
     job.admit()?;
-    ensure_full(lengths)?;
+    ensure_full(sizes)?;
     Listing::walk(job, FULL)
 }

@@ -1,5 +1,6 @@
-//! A simple way to a set of layouts: strips filled one after another, highest items first. No
-//! part of document 01; it gives the tests plans for jobs that are too large to try all.
+//! Simple ways to a set of layouts: strips filled one after another, highest items first; or each
+//! item on a board of its own. No part of document 01; they give the tests plans for jobs that are
+//! too large to try all.
 
 use crate::job::Job;
 use crate::layout::{Board, Stack, Strip};
@@ -18,6 +19,23 @@ pub fn set(job: &Job) -> Vec<Board> {
         }
         set.push(board);
     }
+}
+
+/// A set of layouts that has each demanded item of an admitted job on a board of its own, in the
+/// first of its positions that fit.
+pub fn singles(job: &Job) -> Vec<Board> {
+    let mut set = Vec::new();
+    for (number, item) in (1..).zip(&job.items) {
+        let fitting = job
+            .positions_of(number)
+            .find(|&position| job.fits(position));
+        let position = fitting.expect("a position of each item fits the board");
+        set.resize(
+            set.len() + usize::from(item.demand),
+            vec![vec![vec![position]]],
+        );
+    }
+    set
 }
 
 /// The items that are still to be laid.

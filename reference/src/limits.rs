@@ -1,4 +1,4 @@
-//! The limits of document 01, each with the section that sets it, and of document 02, One.
+//! The limits of document 01, each with the section that sets it, and of document 02, One and Two.
 
 use std::ops::RangeInclusive;
 
@@ -44,6 +44,9 @@ pub const COORDINATE: RangeInclusive<u32> = 0..=10_000;
 
 /// Leave to turn an item type, and the turn of a cut or of a layout line (document 02, One).
 pub const TURN: RangeInclusive<u32> = 0..=1;
+
+/// The two lengths from which an offcut is usable (document 02, Two).
+pub const LENGTH: RangeInclusive<u32> = 1..=10_000;
 
 /// The line of a text that is refused whatever it holds ("Texts").
 pub const FORBIDDEN_LINE: usize = 100_000;

@@ -19,6 +19,11 @@ pub struct Residuals {
 }
 
 impl Plate {
+    /// Width times height.
+    pub fn area(&self) -> u64 {
+        u64::from(self.width) * u64::from(self.height)
+    }
+
     /// Whether an item that lies with these sides may be cut from this plate: it fits, and in 2E
     /// at stage 2 it is just as high, in 3E at stage 3 just as wide as the plate.
     pub fn admits(&self, mode: Mode, item: Sides) -> bool {

@@ -1,13 +1,18 @@
-//! Unfolding: from the counts of a plan to the items' places on boards (document 01, "Unfolding").
+//! Unfolding: from the counts of a plan to the items' places on boards (document 01, "Unfolding"),
+//! and to the pieces left over (document 02, Two).
 
 use crate::job::Job;
 use crate::layout::Placement;
 use crate::listing::Listing;
+use crate::offcut::Offcut;
 
-/// The placements of an unfolding, the boards opened, and the counts that were not spent.
+/// The placements of an unfolding, each with the index (from 0) of the cut that it is from, the
+/// pieces left over in their order, the boards opened, and the counts that were not spent.
 #[derive(Debug, Clone, PartialEq, Eq)]
 pub struct Unfolding {
     pub placements: Vec<Placement>,
+    pub cuts: Vec<usize>,
+    pub offcuts: Vec<Offcut>,
     pub boards: u16,
     pub left: Vec<u16>,
 }
@@ -18,6 +23,21 @@ struct Piece {
     plate: u16,
     x: u16,
     y: u16,
+}
+
+impl Piece {
+    /// The piece as an offcut of a board.
+    fn left_over(&self, listing: &Listing, board: u16) -> Offcut {
+        let sides = listing.plates[usize::from(self.plate)];
+        Offcut {
+            board,
+            x: self.x,
+            y: self.y,
+            plate: self.plate,
+            width: sides.width,
+            height: sides.height,
+        }
+    }
 }
 
 /// The pieces waiting: at most one of each stage.
@@ -77,6 +97,8 @@ impl Turn {
 pub fn unfold(job: &Job, listing: &Listing, counts: &[u16]) -> Unfolding {
     let mut unfolding = Unfolding {
         placements: Vec::new(),
+        cuts: Vec::new(),
+        offcuts: Vec::new(),
         boards: 0,
         left: counts.to_vec(),
     };
@@ -88,7 +110,7 @@ pub fn unfold(job: &Job, listing: &Listing, counts: &[u16]) -> Unfolding {
 }
 
 /// Cuts up one board: the piece of the highest stage is taken until nothing waits; the lowest
-/// cut on its type with a count left is done, and without one the piece is left over.
+/// cut on its type with a count left is done, and without one the piece is left over, an offcut.
 fn unfold_board(job: &Job, listing: &Listing, unfolding: &mut Unfolding) {
     let mut turn = Turn {
         board: unfolding.boards,
@@ -99,9 +121,11 @@ fn unfold_board(job: &Job, listing: &Listing, unfolding: &mut Unfolding) {
     let mut waiting = Waiting::board();
     while let Some(piece) = waiting.take_highest() {
         let Some(index) = lowest_left(listing, &unfolding.left, piece.plate) else {
+            unfolding.offcuts.push(piece.left_over(listing, turn.board));
             continue;
         };
         unfolding.left[index] -= 1;
+        unfolding.cuts.push(index);
         let cut = listing.cuts[index];
         turn.advance(listing.plates[usize::from(piece.plate)].stage);
         unfolding.placements.push(Placement {

@@ -1,6 +1,6 @@
 -- Words with several faults, by computation.
 use mathlib.Core.Path.{refl}
-use Rattle.cases.specs.Calls.{plates, cuts, counts, placements, listing, plan, prices, unfolding′, folding}
+use Rattle.cases.specs.Calls.{plates, cuts, counts, placements, offcuts, listing, plan, prices, unfolding′, folding}
 use Rattle.cases.specs.Jobs.{jobA, jobB, linesA, alone}
 use Rattle.cases.specs.Readings.{jobE}
 use Rattle.cases.specs.Refusals.{shortPlates, shortCuts, shortCounts, shortPlacements}
@@ -24,12 +24,13 @@ wordFaults =
       plates-first-unfolding = refl;
       cuts-second-unfolding = refl;
       counts-third-unfolding = refl;
+      placements-fourth-unfolding = refl;
       plates-first-folding = refl;
       cuts-second-folding = refl;
     }
 
 pub planFaults : PlanFaults
-unfolding computed plates cuts placements plan unfolding′ jobA
+unfolding computed plates cuts placements offcuts plan unfolding′ jobA
 planFaults =
     record {
       past-last-unfolding = refl;

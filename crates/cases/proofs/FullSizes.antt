@@ -23,6 +23,7 @@ fullSizes =
       unfolding-cuts = refl;
       unfolding-counts = refl;
       unfolding-placements = refl;
+      unfolding-offcuts = refl;
       folding-full = refl;
       folding-plates = refl;
       folding-cuts = refl;
@@ -31,5 +32,6 @@ fullSizes =
       longer-plates = refl;
       longer-cuts = refl;
       longer-placements = refl;
+      longer-offcuts = refl;
       longer-counts = refl;
     }

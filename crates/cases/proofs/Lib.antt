@@ -19,3 +19,4 @@ pub mod Tests
 pub mod Hypotheses
 pub mod Turned
 pub mod TurnedTexts
+pub mod Offcuts

@@ -1,6 +1,6 @@
 -- The limits of words, by computation.
 use mathlib.Core.Path.{refl}
-use Rattle.cases.specs.Calls.{plates, cuts, counts, placements, listing, plan, prices, unfolding′, folding}
+use Rattle.cases.specs.Calls.{plates, cuts, counts, placements, offcuts, listing, plan, prices, unfolding′, folding}
 use Rattle.cases.specs.Jobs.{jobA, jobT, alone}
 use Rattle.cases.specs.Limits.{JobLimits, ModelLimits, PlanLimits, LayoutLimits, oneType, fortyTypes, fullDemands}
 use Rattle.cases.proofs.Opened.{computed}
@@ -38,7 +38,7 @@ modelLimits =
     }
 
 pub planLimits : PlanLimits
-unfolding computed plates cuts placements plan prices unfolding′ jobA alone
+unfolding computed plates cuts placements offcuts plan prices unfolding′ jobA alone
 planLimits =
     record {
       total-greatest = refl;

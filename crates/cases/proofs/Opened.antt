@@ -7,6 +7,7 @@ use Rattle.job.specs.Buffers.{filled, sized}
 use Rattle.job.specs.Mode.{three, exact, modeOf}
 use Rattle.job.specs.Job.{itemAt, unturned, turned, typeOf, turnOf, positionsOf, positions, positionAt, itemsOf, jobOf, boardRight, itemRight, jobWords, fits, larger, demanded, admission}
 use Rattle.listing.specs.Plate.{same, exactFit, mayCut, leaves, kept}
+use Rattle.listing.specs.Waste.{unkept, trim, wasteOf}
 use Rattle.listing.specs.Listing.{plateAt, cutAt, numberIn, entered, cutDone, limited, pair, overItems, overPlates, walkWithin, walk, modelRow, listingOf, residualTypes}
 use Rattle.listing.specs.Records.{plateWords, cutWords}
 use Rattle.listing.specs.ListCall.{listVerdict, listAnswer, platesEnd, cutsEnd}
@@ -18,10 +19,12 @@ use Rattle.layouts.specs.Layout.{widthOf, heightOf, stackWidth, stackHeight, st
 use Rattle.layouts.specs.Placement.{placementWords, stackLines, stripLines, boardLines, setLines, linesOf, itemsOfStrip, itemsOfBoard, itemsOfSet, typesOfSet, meetsFrom, meetsDemands}
 use Rattle.layouts.specs.Rectangle.{endX, endY, inside, apart, clear, noOverlap}
 use Rattle.layouts.specs.Unfold.{spent, search, highest, waitAt, wait, nextTurn, done, step, openBoard, placing, run, stepsFor, unfolded}
+use Rattle.layouts.specs.Offcuts.{chosen, events, eventsOf, placedIn, cutsIn, cutsOn, typesOver, offcut, offcutsIn, offcutsOf, usable, offcutWords}
+use Rattle.layouts.specs.Balance.{itemsOn, offcutsOn, wasteBy}
 use Rattle.layouts.specs.Lines.{linesIn, rowsOf, rowRight, layoutWords, sameTurn, follows, inTurn, turns, levelOf, begun, inStrip, inBoard, inSet, beside, before, grouped, setOf}
 use Rattle.layouts.specs.LayoutsRow.{laidBoard, laidSet, lowestStrip, breaksStage, pastBoard, positioned, lacks, layoutsRow}
 use Rattle.layouts.specs.Fold.{insertBy, falling, firstOf, without, toFront, ordered, cutFrom, cutOf, stackCuts, stripCuts, boardCuts, setCuts, folded}
-use Rattle.layouts.specs.UnfoldCall.{unfoldVerdict, unfoldingOf, unfoldAnswer, placementsEnd}
+use Rattle.layouts.specs.UnfoldCall.{lengthsRight, lengthsRow, unfoldVerdict, unfoldingOf, offcutsFrom, unfoldAnswer, placementsEnd, offcutsEnd}
 use Rattle.layouts.specs.FoldCall.{foldVerdict, foldAnswer, countsEnd}
 use Rattle.columns.specs.Group.{mark, lead, group, digitsAfter, same as same·columns, numberOf, put}
 use Rattle.columns.specs.Line.{groups, lineOf, numbersOf, readLine}
@@ -32,5 +35,5 @@ use Rattle.texts.specs.SawText.{sawAdmits, afterItemPrice, afterPlatePrice, bod
 use Rattle.texts.specs.FoldText.{foldAdmits, foldAfter, foldComplete, foldRows, countLines, foldLines, foldWritten, foldText}
 
 unfoldable pub computed : ℕ
-unfolding flatMap any all sumOf maxOf occurs tally lowest filled sized three exact modeOf itemAt unturned turned typeOf turnOf positionsOf positions positionAt itemsOf jobOf boardRight itemRight jobWords fits larger demanded admission same exactFit mayCut leaves kept plateAt cutAt numberIn entered cutDone limited pair overItems overPlates walkWithin walk modelRow listingOf residualTypes plateWords cutWords listVerdict listAnswer platesEnd cutsEnd countOf ofItem ofPosition onPlate leavesPlate boards total short overdrawn countsRow planRow pricesOf priceWords itemPrice residualPrice priceLimit worth overLimit modelSized pricesSized pricesRow priced priceSum fewest planVerdict planAnswer priceVerdict priceAnswer widthOf heightOf stackWidth stackHeight stripHeight stripWidth boardHeight single fullStack sameHeights sameWidths stageRule boardRules layoutRules placementWords stackLines stripLines boardLines setLines linesOf itemsOfStrip itemsOfBoard itemsOfSet typesOfSet meetsFrom meetsDemands endX endY inside apart clear noOverlap spent search highest waitAt wait nextTurn done step openBoard placing run stepsFor unfolded linesIn rowsOf rowRight layoutWords sameTurn follows inTurn turns levelOf begun inStrip inBoard inSet beside before grouped setOf laidBoard laidSet lowestStrip breaksStage pastBoard positioned lacks layoutsRow insertBy falling firstOf without toFront ordered cutFrom cutOf stackCuts stripCuts boardCuts setCuts folded unfoldVerdict unfoldingOf unfoldAnswer placementsEnd foldVerdict foldAnswer countsEnd mark lead group digitsAfter same·columns numberOf put groups lineOf numbersOf readLine begins formed eachWithin values numbersRow lineRow lineRead byteTaken byteRead fed textRow written afterType sawAdmits afterItemPrice afterPlatePrice bodyRead sawAfter sawComplete namedCut cutsNamed cutsRising countFor countsFrom planCounts priceLinesRow sawRows placementLine resultLine sawLines sawWritten sawText foldAdmits foldAfter foldComplete foldRows countLines foldLines foldWritten foldText
+unfolding flatMap any all sumOf maxOf occurs tally lowest filled sized three exact modeOf itemAt unturned turned typeOf turnOf positionsOf positions positionAt itemsOf jobOf boardRight itemRight jobWords fits larger demanded admission same exactFit mayCut leaves kept unkept trim wasteOf plateAt cutAt numberIn entered cutDone limited pair overItems overPlates walkWithin walk modelRow listingOf residualTypes plateWords cutWords listVerdict listAnswer platesEnd cutsEnd countOf ofItem ofPosition onPlate leavesPlate boards total short overdrawn countsRow planRow pricesOf priceWords itemPrice residualPrice priceLimit worth overLimit modelSized pricesSized pricesRow priced priceSum fewest planVerdict planAnswer priceVerdict priceAnswer widthOf heightOf stackWidth stackHeight stripHeight stripWidth boardHeight single fullStack sameHeights sameWidths stageRule boardRules layoutRules placementWords stackLines stripLines boardLines setLines linesOf itemsOfStrip itemsOfBoard itemsOfSet typesOfSet meetsFrom meetsDemands endX endY inside apart clear noOverlap spent search highest waitAt wait nextTurn done step openBoard placing run stepsFor unfolded chosen events eventsOf placedIn cutsIn cutsOn typesOver offcut offcutsIn offcutsOf usable offcutWords itemsOn offcutsOn wasteBy linesIn rowsOf rowRight layoutWords sameTurn follows inTurn turns levelOf begun inStrip inBoard inSet beside before grouped setOf laidBoard laidSet lowestStrip breaksStage pastBoard positioned lacks layoutsRow insertBy falling firstOf without toFront ordered cutFrom cutOf stackCuts stripCuts boardCuts setCuts folded lengthsRight lengthsRow unfoldVerdict unfoldingOf offcutsFrom unfoldAnswer placementsEnd offcutsEnd foldVerdict foldAnswer countsEnd mark lead group digitsAfter same·columns numberOf put groups lineOf numbersOf readLine begins formed eachWithin values numbersRow lineRow lineRead byteTaken byteRead fed textRow written afterType sawAdmits afterItemPrice afterPlatePrice bodyRead sawAfter sawComplete namedCut cutsNamed cutsRising countFor countsFrom planCounts priceLinesRow sawRows placementLine resultLine sawLines sawWritten sawText foldAdmits foldAfter foldComplete foldRows countLines foldLines foldWritten foldText
 computed = 0

@@ -1,12 +1,12 @@
 -- The wrong readings, shut out by computation.
 use mathlib.Core.Path.{refl}
-use Rattle.cases.specs.Calls.{plates, cuts, counts, placements, listing, plan, prices, unfolding′, folding, succeeds, refuses}
+use Rattle.cases.specs.Calls.{plates, cuts, counts, placements, offcuts, listing, plan, prices, unfolding′, folding, succeeds, refuses}
 use Rattle.cases.specs.Jobs.{jobA, planA, platesA, cutsA, alone}
 use Rattle.cases.specs.Readings.{Readings, jobC, platesC, cutsC, jobD, jobN, platesN, cutsN, jobE, platesE, cutsE, jobF, linesF, jobG, linesA-low-first}
 use Rattle.cases.proofs.Opened.{computed}
 
 pub readings : Readings
-unfolding computed plates cuts counts placements listing plan prices unfolding′ folding succeeds refuses jobA planA platesA cutsA alone jobC platesC cutsC jobD jobN platesN cutsN jobE platesE cutsE jobF linesF jobG linesA-low-first
+unfolding computed plates cuts counts placements offcuts listing plan prices unfolding′ folding succeeds refuses jobA planA platesA cutsA alone jobC platesC cutsC jobD jobN platesN cutsN jobE platesE cutsE jobF linesF jobG linesA-low-first
 readings =
     record {
       strip-height = refl;

@@ -1,12 +1,12 @@
 -- The refusals of the calls, by computation.
 use mathlib.Core.Path.{refl}
-use Rattle.cases.specs.Calls.{plates, cuts, counts, placements, listing, plan, prices, unfolding′, folding, succeeds, refuses}
+use Rattle.cases.specs.Calls.{plates, cuts, counts, placements, offcuts, listing, plan, prices, unfolding′, folding, succeeds, refuses}
 use Rattle.cases.specs.Jobs.{jobA, jobA2E, planA, linesA, jobB, alone}
 use Rattle.cases.specs.Refusals.{Refusals, shortPlates, shortCuts, shortCounts, shortPlacements, tooMany, manyTypes}
 use Rattle.cases.proofs.Opened.{computed}
 
 pub refusals : Refusals
-unfolding computed plates cuts counts placements listing plan prices unfolding′ folding succeeds refuses jobA jobA2E planA linesA jobB alone shortPlates shortCuts shortCounts shortPlacements tooMany manyTypes
+unfolding computed plates cuts counts placements offcuts listing plan prices unfolding′ folding succeeds refuses jobA jobA2E planA linesA jobB alone shortPlates shortCuts shortCounts shortPlacements tooMany manyTypes
 refusals =
     record {
       job-empty = refl;

@@ -16,7 +16,7 @@ use Rattle.plan.specs.PlanCall.{planVerdict}
 use Rattle.plan.specs.PriceCall.{priceVerdict}
 use Rattle.layouts.specs.Lines.{layoutWords}
 use Rattle.layouts.specs.LayoutsRow.{layoutsRow}
-use Rattle.layouts.specs.UnfoldCall.{unfoldVerdict}
+use Rattle.layouts.specs.UnfoldCall.{lengthsRight, lengthsRow, unfoldVerdict}
 use Rattle.layouts.specs.FoldCall.{foldVerdict}
 use Rattle.texts.specs.Shape.{Shape, formed, eachWithin, values, numbersRow}
 use Rattle.texts.specs.Reader.{started, fed, textRow, written}
@@ -48,11 +48,12 @@ unfolding numbersRow
 line-row line s ss ns e = rw (e, numbersRow)
 
 pub withinRows : WithinRows
-unfolding chain jobWords layoutWords admission planRow priceLinesRow pricesRow layoutsRow
+unfolding chain jobWords layoutWords lengthsRight lengthsRow admission planRow priceLinesRow pricesRow layoutsRow
 withinRows =
     record {
       job-words = λ ws. chained _;
       layout-words = λ job ws. chained _;
+      lengths = λ first second. chained _;
       text-line = λ line s ss ns e. line-row line s ss ns e ∙ chained _;
       job = λ job. chained _;
       model-refused = row-stopped;
@@ -69,7 +70,7 @@ rowsOfCalls =
       listing = λ ws plates cuts. chained _;
       plan = λ ws counts plates cuts. chained _;
       prices = λ ws prices plates cuts. chained _;
-      unfolding′ = λ ws counts plates cuts placements. chained _;
+      unfolding′ = λ ws first second counts plates cuts placements offcuts. chained _;
       folding = λ ws layouts plates cuts counts. chained _;
     }
 

@@ -1,12 +1,12 @@
 -- The table of cases (a) to (m), by computation.
 use mathlib.Core.Path.{refl}
-use Rattle.cases.specs.Calls.{plates, cuts, counts, placements, listing, plan, prices, unfolding′, succeeds, refuses}
+use Rattle.cases.specs.Calls.{plates, cuts, counts, placements, offcuts, listing, plan, prices, unfolding′, succeeds, refuses}
 use Rattle.cases.specs.Jobs.{jobA, platesA, cutsA, planA, pricesA, jobA2E, platesA2E, cutsA2E, jobB, platesB, cutsB, planB, linesB, alone}
 use Rattle.cases.specs.Table.{Table}
 use Rattle.cases.proofs.Opened.{computed}
 
 pub table : Table
-unfolding computed plates cuts counts placements listing plan prices unfolding′ succeeds refuses jobA platesA cutsA planA pricesA jobA2E platesA2E cutsA2E jobB platesB cutsB planB linesB alone
+unfolding computed plates cuts counts placements offcuts listing plan prices unfolding′ succeeds refuses jobA platesA cutsA planA pricesA jobA2E platesA2E cutsA2E jobB platesB cutsB planB linesB alone
 table =
     record {
       a = refl;

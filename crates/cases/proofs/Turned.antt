@@ -1,6 +1,6 @@
 -- Turned items, by computation.
 use mathlib.Core.Path.{refl}
-use Rattle.cases.specs.Calls.{plates, cuts, counts, placements, listing, plan, prices, unfolding′, folding, succeeds, refuses}
+use Rattle.cases.specs.Calls.{plates, cuts, counts, placements, offcuts, listing, plan, prices, unfolding′, folding, succeeds, refuses}
 use Rattle.cases.specs.Jobs.{jobA, jobT}
 use Rattle.cases.specs.Turned.{TurnedCuts, TurnedPlans, TurnedLayouts, TurnedRules, tall, squareJob, small, lineOne, platesT, cutsT, planT, threeSquares, linesT, linesT-low-first, exactHeight, exactWidth, bothTurns, sameSides}
 use Rattle.cases.proofs.Opened.{computed}
@@ -19,7 +19,7 @@ turnedCuts =
     }
 
 pub turnedPlans : TurnedPlans
-unfolding computed plates cuts placements plan prices unfolding′ succeeds refuses jobT tall platesT cutsT planT threeSquares linesT
+unfolding computed plates cuts placements offcuts plan prices unfolding′ succeeds refuses jobT tall platesT cutsT planT threeSquares linesT
 turnedPlans =
     record {
       both-turns = refl;

@@ -2,7 +2,7 @@
 use Prim.Native.Nat.{ℕ}
 use mathlib.Core.List.{List, []}
 use lib.ListN.{replicate}
-use Rattle.job.specs.Buffers.{Answer, given, refused, filled, platesSize, cutsSize, countsSize, placementsSize}
+use Rattle.job.specs.Buffers.{Answer, given, refused, filled, platesSize, cutsSize, countsSize, placementsSize, offcutsSize}
 use Rattle.listing.specs.ListCall.{listVerdict, listAnswer, platesEnd, cutsEnd}
 use Rattle.plan.specs.PlanCall.{planVerdict, planAnswer}
 use Rattle.plan.specs.PriceCall.{priceVerdict, priceAnswer}
@@ -29,6 +29,9 @@ counts = replicate countsSize 7
 unfoldable pub placements : List ℕ
 placements = replicate placementsSize 7
 
+unfoldable pub offcuts : List ℕ
+offcuts = replicate offcutsSize 7
+
 -- the calls; counts that are passed in are filled up with zeros to their full size
 unfoldable pub listing : List ℕ → Outcome
 listing ws =
@@ -46,12 +49,13 @@ prices ws ps =
     let v = priceVerdict ws ps plates cuts in
     record { answer = priceAnswer ws ps plates cuts; plates = platesEnd v ws plates; cuts = cutsEnd v ws cuts; third = [] }
 
+-- with two lengths of 1 (request Two); the offcuts as they end are in `Offcuts`
 unfoldable pub unfolding′ : List ℕ → List ℕ → Outcome
 unfolding′ ws ns =
     let ms = filled countsSize ns in
-    let v = unfoldVerdict ws ms plates cuts placements in
+    let v = unfoldVerdict ws 1 1 ms plates cuts placements offcuts in
     record {
-      answer = unfoldAnswer ws ms plates cuts placements;
+      answer = unfoldAnswer ws 1 1 ms plates cuts placements offcuts;
       plates = platesEnd v ws plates;
       cuts = cutsEnd v ws cuts;
       third = placementsEnd v ws ms placements;

@@ -31,5 +31,5 @@ pub record Example : Type 0 where
   pub listed : listing job6 ≡ succeeds (6 ∷ 10 ∷ []) plates6 cuts6 []
   pub accepted : plan job6 plan6 ≡ succeeds (3 ∷ []) plates6 cuts6 []
   -- three boards, ten pieces, every count spent
-  pub unfolded : unfolding′ job6 plan6 .answer ≡ given (3 ∷ 10 ∷ [])
+  pub unfolded : unfolding′ job6 plan6 .answer ≡ given (3 ∷ 10 ∷ 3 ∷ [])
   pub spent : unfoldingOf job6 plan6 .last .counts ≡ replicate 10 0

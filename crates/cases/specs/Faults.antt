@@ -32,15 +32,16 @@ pub record WordFaults : Type 0 where
   pub lowest-large : listing twoLarge .answer ≡ refused 3 2
   -- buffers before the job
   pub job-before-buffers-plan : planAnswer (alone 10 7) shortCounts [] [] ≡ refused 3 1
-  pub job-before-buffers-unfolding : unfoldAnswer (alone 10 7) [] [] [] [] ≡ refused 3 1
+  pub job-before-buffers-unfolding : unfoldAnswer (alone 10 7) 1 1 [] [] [] [] [] ≡ refused 3 1
   pub job-before-buffers-folding : foldAnswer (alone 10 7) [] [] [] [] ≡ refused 3 1
-  -- buffer 2 before 1, 3 before 2, or 4 before 3
+  -- buffer 2 before 1, 3 before 2, 4 before 3, or 5 before 4
   pub plates-first-plan : planAnswer jobA shortCounts shortPlates shortCuts ≡ refused 5 1
   pub cuts-second-plan : planAnswer jobA shortCounts plates shortCuts ≡ refused 5 2
   pub plates-first-prices : priceAnswer jobA [] shortPlates shortCuts ≡ refused 5 1
-  pub plates-first-unfolding : unfoldAnswer jobA shortCounts shortPlates shortCuts shortPlacements ≡ refused 5 1
-  pub cuts-second-unfolding : unfoldAnswer jobA shortCounts plates shortCuts shortPlacements ≡ refused 5 2
-  pub counts-third-unfolding : unfoldAnswer jobA shortCounts plates cuts shortPlacements ≡ refused 5 3
+  pub plates-first-unfolding : unfoldAnswer jobA 1 1 shortCounts shortPlates shortCuts shortPlacements [] ≡ refused 5 1
+  pub cuts-second-unfolding : unfoldAnswer jobA 1 1 shortCounts plates shortCuts shortPlacements [] ≡ refused 5 2
+  pub counts-third-unfolding : unfoldAnswer jobA 1 1 shortCounts plates cuts shortPlacements [] ≡ refused 5 3
+  pub placements-fourth-unfolding : unfoldAnswer jobA 1 1 counts plates cuts shortPlacements [] ≡ refused 5 4
   pub plates-first-folding : foldAnswer jobA linesA shortPlates shortCuts shortCounts ≡ refused 5 1
   pub cuts-second-folding : foldAnswer jobA linesA plates shortCuts shortCounts ≡ refused 5 2
 

@@ -1,4 +1,4 @@
--- Document 01, "Where each number is given": "5 shorter than full size (lent plates 6,144 words, cuts 32,768, counts lent or passed in 8,192, lent placements 28,000)", since request One 32,000,
+-- Document 01, "Where each number is given": "5 shorter than full size (lent plates 6,144 words, cuts 32,768, counts lent or passed in 8,192, lent placements 28,000)", since request One 32,000, and request Two's lent offcuts 48,000,
 -- of each call and each of its buffers, with the sizes as figures; buffers that are longer; each field says what it shuts out.
 use Prim.Native.Nat.{ℕ}
 use mathlib.Core.Path.{_≡_}
@@ -8,7 +8,7 @@ use Rattle.job.specs.Buffers.{given, refused}
 use Rattle.listing.specs.ListCall.{listVerdict, listAnswer, platesEnd, cutsEnd}
 use Rattle.plan.specs.PlanCall.{planAnswer}
 use Rattle.plan.specs.PriceCall.{priceAnswer}
-use Rattle.layouts.specs.UnfoldCall.{unfoldVerdict, unfoldAnswer, placementsEnd}
+use Rattle.layouts.specs.UnfoldCall.{unfoldVerdict, unfoldAnswer, placementsEnd, offcutsEnd}
 use Rattle.layouts.specs.FoldCall.{foldVerdict, foldAnswer, countsEnd}
 use Rattle.cases.specs.Jobs.{jobA, planA, pricesA, linesA}
 
@@ -35,23 +35,26 @@ pub record FullSizes : Type 0 where
   pub prices-full : priceAnswer jobA pricesA (sevens 6144) (sevens 32768) ≡ given (2 ∷ 1 ∷ [])
   pub prices-plates : priceAnswer jobA pricesA (sevens 6143) (sevens 32768) ≡ refused 5 1
   pub prices-cuts : priceAnswer jobA pricesA (sevens 6144) (sevens 32767) ≡ refused 5 2
-  -- the same of the unfolding, and placements of 31,999 or 32,001 words
-  pub unfolding-full : unfoldAnswer jobA (countsA 8184) (sevens 6144) (sevens 32768) (sevens 32000) ≡ given (2 ∷ 5 ∷ [])
-  pub unfolding-plates : unfoldAnswer jobA (countsA 8184) (sevens 6143) (sevens 32768) (sevens 32000) ≡ refused 5 1
-  pub unfolding-cuts : unfoldAnswer jobA (countsA 8184) (sevens 6144) (sevens 32767) (sevens 32000) ≡ refused 5 2
-  pub unfolding-counts : unfoldAnswer jobA (countsA 8183) (sevens 6144) (sevens 32768) (sevens 32000) ≡ refused 5 3
-  pub unfolding-placements : unfoldAnswer jobA (countsA 8184) (sevens 6144) (sevens 32768) (sevens 31999) ≡ refused 5 4
+  -- the same of the unfolding, placements of 31,999 or 32,001 words, and request Two's offcuts of 47,999 or 48,001
+  pub unfolding-full : unfoldAnswer jobA 1 1 (countsA 8184) (sevens 6144) (sevens 32768) (sevens 32000) (sevens 48000) ≡ given (2 ∷ 5 ∷ 3 ∷ [])
+  pub unfolding-plates : unfoldAnswer jobA 1 1 (countsA 8184) (sevens 6143) (sevens 32768) (sevens 32000) (sevens 48000) ≡ refused 5 1
+  pub unfolding-cuts : unfoldAnswer jobA 1 1 (countsA 8184) (sevens 6144) (sevens 32767) (sevens 32000) (sevens 48000) ≡ refused 5 2
+  pub unfolding-counts : unfoldAnswer jobA 1 1 (countsA 8183) (sevens 6144) (sevens 32768) (sevens 32000) (sevens 48000) ≡ refused 5 3
+  pub unfolding-placements : unfoldAnswer jobA 1 1 (countsA 8184) (sevens 6144) (sevens 32768) (sevens 31999) (sevens 48000) ≡ refused 5 4
+  pub unfolding-offcuts : unfoldAnswer jobA 1 1 (countsA 8184) (sevens 6144) (sevens 32768) (sevens 32000) (sevens 47999) ≡ refused 5 5
   -- the same of the folding, whose counts are lent
   pub folding-full : foldAnswer jobA linesA (sevens 6144) (sevens 32768) (sevens 8192) ≡ given (2 ∷ [])
   pub folding-plates : foldAnswer jobA linesA (sevens 6143) (sevens 32768) (sevens 8192) ≡ refused 5 1
   pub folding-cuts : foldAnswer jobA linesA (sevens 6144) (sevens 32767) (sevens 8192) ≡ refused 5 2
   pub folding-counts : foldAnswer jobA linesA (sevens 6144) (sevens 32768) (sevens 8191) ≡ refused 5 3
   -- counts past their full size that are not read: word 8,193 is 8 too
-  pub past-size : unfoldAnswer jobA (replicate 8192 0 ++ (1 ∷ [])) (sevens 6144) (sevens 32768) (sevens 32000) ≡ refused 8 8193
+  pub past-size : unfoldAnswer jobA 1 1 (replicate 8192 0 ++ (1 ∷ [])) (sevens 6144) (sevens 32768) (sevens 32000) (sevens 48000) ≡ refused 8 8193
   -- "after success unused words are 0": a buffer that is longer and keeps a word past its full size
   pub longer-plates : drop 6143 (platesEnd (listVerdict jobA (sevens 6145) (sevens 32768)) jobA (sevens 6145)) ≡ (0 ∷ 0 ∷ [])
   pub longer-cuts : drop 32767 (cutsEnd (listVerdict jobA (sevens 6144) (sevens 32769)) jobA (sevens 32769)) ≡ (0 ∷ 0 ∷ [])
   pub longer-placements :
-      drop 31999 (placementsEnd (unfoldVerdict jobA (countsA 8184) (sevens 6144) (sevens 32768) (sevens 32001)) jobA (countsA 8184) (sevens 32001)) ≡ (0 ∷ 0 ∷ [])
+      drop 31999 (placementsEnd (unfoldVerdict jobA 1 1 (countsA 8184) (sevens 6144) (sevens 32768) (sevens 32001) (sevens 48000)) jobA (countsA 8184) (sevens 32001)) ≡ (0 ∷ 0 ∷ [])
+  pub longer-offcuts :
+      drop 47999 (offcutsEnd (unfoldVerdict jobA 1 1 (countsA 8184) (sevens 6144) (sevens 32768) (sevens 32000) (sevens 48001)) jobA 1 1 (countsA 8184) (sevens 48001)) ≡ (0 ∷ 0 ∷ [])
   pub longer-counts :
       drop 8191 (countsEnd (foldVerdict jobA linesA (sevens 6144) (sevens 32768) (sevens 8193)) jobA linesA (sevens 8193)) ≡ (0 ∷ 0 ∷ [])

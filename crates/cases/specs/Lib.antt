@@ -22,3 +22,4 @@ pub mod Tests
 pub mod Hypotheses
 pub mod Turned
 pub mod TurnedTexts
+pub mod Offcuts

@@ -23,7 +23,7 @@ pub record Output : Type 0 where
   -- the printed lines are a fold text, and give the plan's lines back
   pub folded-back : foldText (jobLinesA ++ printedA) ≡ planLinesA
   -- the same at the level of the calls
-  pub unfolded : unfolding′ jobA planA ≡ succeeds (2 ∷ 5 ∷ []) platesA cutsA (filled placementsSize linesA)
+  pub unfolded : unfolding′ jobA planA ≡ succeeds (2 ∷ 5 ∷ 3 ∷ []) platesA cutsA (filled placementsSize linesA)
   pub folded : folding jobA linesA ≡ succeeds (2 ∷ []) platesA cutsA (filled countsSize planA)
   -- what demand 3 says of these layouts
   pub rules : layoutRules (jobOf jobA) (setOf linesA) ≡ true

@@ -72,14 +72,14 @@ pub record Readings : Type 0 where
   pub strip-height : listing jobC ≡ succeeds (4 ∷ 8 ∷ []) platesC cutsC []
   pub strip-height-plan : plan jobC (1 ∷ 0 ∷ 0 ∷ 1 ∷ 0 ∷ 0 ∷ 0 ∷ 1 ∷ []) ≡ succeeds (1 ∷ []) platesC cutsC []
   -- counts spent plate type by plate type in rising number, before all pieces of a type exist: cut 4 is done on the type 2 that cut 1 leaves and on the one that cut 5 leaves
-  pub type-by-type : unfolding′ jobA (1 ∷ 1 ∷ 0 ∷ 2 ∷ 1 ∷ 0 ∷ 0 ∷ 0 ∷ []) ≡ succeeds (2 ∷ 5 ∷ []) platesA cutsA (filled placementsSize ((1 ∷ 1 ∷ 1 ∷ 1 ∷ 1 ∷ 0 ∷ 0 ∷ 0 ∷ []) ++ (1 ∷ 1 ∷ 2 ∷ 1 ∷ 2 ∷ 5 ∷ 0 ∷ 0 ∷ []) ++ (2 ∷ 1 ∷ 1 ∷ 1 ∷ 2 ∷ 0 ∷ 0 ∷ 0 ∷ []) ++ (2 ∷ 2 ∷ 1 ∷ 1 ∷ 1 ∷ 0 ∷ 3 ∷ 0 ∷ []) ++ (2 ∷ 2 ∷ 2 ∷ 1 ∷ 2 ∷ 5 ∷ 3 ∷ 0 ∷ [])))
+  pub type-by-type : unfolding′ jobA (1 ∷ 1 ∷ 0 ∷ 2 ∷ 1 ∷ 0 ∷ 0 ∷ 0 ∷ []) ≡ succeeds (2 ∷ 5 ∷ 2 ∷ []) platesA cutsA (filled placementsSize ((1 ∷ 1 ∷ 1 ∷ 1 ∷ 1 ∷ 0 ∷ 0 ∷ 0 ∷ []) ++ (1 ∷ 1 ∷ 2 ∷ 1 ∷ 2 ∷ 5 ∷ 0 ∷ 0 ∷ []) ++ (2 ∷ 1 ∷ 1 ∷ 1 ∷ 2 ∷ 0 ∷ 0 ∷ 0 ∷ []) ++ (2 ∷ 2 ∷ 1 ∷ 1 ∷ 1 ∷ 0 ∷ 3 ∷ 0 ∷ []) ++ (2 ∷ 2 ∷ 2 ∷ 1 ∷ 2 ∷ 5 ∷ 3 ∷ 0 ∷ [])))
   pub type-by-type-spent : unfoldingOf jobA (1 ∷ 1 ∷ 0 ∷ 2 ∷ 1 ∷ 0 ∷ 0 ∷ 0 ∷ []) .last .counts ≡ replicate 8 0
   -- in three stages: a right plate of the item's height at stage 2, a top of the plate's width at stage 2 or 3
   pub three-stages : listing jobN ≡ succeeds (12 ∷ 21 ∷ []) platesN cutsN []
   -- 3E without its rule, or with one at stage 2
   pub three-exact : listing jobE ≡ succeeds (7 ∷ 14 ∷ []) platesE cutsE []
   -- another cut done than the lowest-numbered
-  pub lowest-cut : unfolding′ jobA (1 ∷ 1 ∷ 0 ∷ 0 ∷ 1 ∷ 0 ∷ 1 ∷ 1 ∷ []) ≡ succeeds (2 ∷ 5 ∷ []) platesA cutsA (filled placementsSize ((1 ∷ 1 ∷ 1 ∷ 1 ∷ 1 ∷ 0 ∷ 0 ∷ 0 ∷ []) ++ (2 ∷ 1 ∷ 1 ∷ 1 ∷ 2 ∷ 0 ∷ 0 ∷ 0 ∷ []) ++ (2 ∷ 1 ∷ 2 ∷ 1 ∷ 2 ∷ 3 ∷ 0 ∷ 0 ∷ []) ++ (2 ∷ 1 ∷ 3 ∷ 1 ∷ 2 ∷ 6 ∷ 0 ∷ 0 ∷ []) ++ (2 ∷ 2 ∷ 1 ∷ 1 ∷ 1 ∷ 0 ∷ 3 ∷ 0 ∷ [])))
+  pub lowest-cut : unfolding′ jobA (1 ∷ 1 ∷ 0 ∷ 0 ∷ 1 ∷ 0 ∷ 1 ∷ 1 ∷ []) ≡ succeeds (2 ∷ 5 ∷ 3 ∷ []) platesA cutsA (filled placementsSize ((1 ∷ 1 ∷ 1 ∷ 1 ∷ 1 ∷ 0 ∷ 0 ∷ 0 ∷ []) ++ (2 ∷ 1 ∷ 1 ∷ 1 ∷ 2 ∷ 0 ∷ 0 ∷ 0 ∷ []) ++ (2 ∷ 1 ∷ 2 ∷ 1 ∷ 2 ∷ 3 ∷ 0 ∷ 0 ∷ []) ++ (2 ∷ 1 ∷ 3 ∷ 1 ∷ 2 ∷ 6 ∷ 0 ∷ 0 ∷ []) ++ (2 ∷ 2 ∷ 1 ∷ 1 ∷ 1 ∷ 0 ∷ 3 ∷ 0 ∷ [])))
   -- a price rule on a residual as "at most D": cut 3, item 2 on type 1, comes to 1, which is D, and the price of type 1 is 0
   pub residual-limit : prices jobA (1 ∷ 0 ∷ 1 ∷ 0 ∷ 0 ∷ 0 ∷ 0 ∷ 0 ∷ []) ≡ refuses 14 3 []
   -- the price of a residual left out, or of one of the two

@@ -13,7 +13,7 @@ use Rattle.plan.specs.PlanCall.{planAnswer}
 use Rattle.plan.specs.PriceCall.{priceAnswer}
 use Rattle.layouts.specs.UnfoldCall.{unfoldVerdict, unfoldAnswer, placementsEnd}
 use Rattle.layouts.specs.FoldCall.{foldVerdict, foldAnswer, countsEnd}
-use Rattle.cases.specs.Calls.{plates, cuts, counts, placements, listing, plan, prices, unfolding′, folding, refuses}
+use Rattle.cases.specs.Calls.{plates, cuts, counts, placements, offcuts, listing, plan, prices, unfolding′, folding, refuses}
 use Rattle.cases.specs.Jobs.{jobA, jobA2E, linesA, jobB, alone}
 
 -- one word less than the plates' full size
@@ -66,11 +66,11 @@ pub record Refusals : Type 0 where
   pub short-plates : listAnswer jobA shortPlates shortCuts ≡ refused 5 1
   pub short-cuts : listAnswer jobA plates shortCuts ≡ refused 5 2
   pub short-counts : planAnswer jobA shortCounts plates cuts ≡ refused 5 3
-  pub short-placements : unfoldAnswer jobA counts plates cuts shortPlacements ≡ refused 5 4
+  pub short-placements : unfoldAnswer jobA 1 1 counts plates cuts shortPlacements offcuts ≡ refused 5 4
   pub short-lent-counts : foldAnswer jobA linesA plates cuts shortCounts ≡ refused 5 3
   -- after 5 every lent buffer is as it was
   pub unchanged : platesEnd (listVerdict jobA plates shortCuts) jobA plates ≡ plates
-  pub unchanged-placements : placementsEnd (unfoldVerdict jobA counts plates shortCuts placements) jobA counts placements ≡ placements
+  pub unchanged-placements : placementsEnd (unfoldVerdict jobA 1 1 counts plates shortCuts placements offcuts) jobA counts placements ≡ placements
   -- 6 and 7 at small limits: job A has 6 plate types and 8 cuts
   pub types-enough : walkWithin 5 8 (jobOf jobA) ≡ stopped 6
   pub cuts-enough : walkWithin 6 7 (jobOf jobA) ≡ stopped 7

@@ -2,12 +2,12 @@
 -- for every input of each call and each text. The rows stand in the table's order, with its numbers, sizes and limits as figures.
 use Prim.Native.Nat.{ℕ, suc, _+_, _-_, _*_, _/_, _%_}
 use mathlib.Core.Path.{_≡_}
-use mathlib.Core.Bool.{true, false, not}
+use mathlib.Core.Bool.{true, false, not, _&&_}
 use mathlib.Core.List.{List, [], _∷_, _++_}
 use mathlib.Core.Option.{some}
 use lib.Dec.{ltb, eqb}
 use lib.ListN.{length, getD, drop, replicate}
-use Rattle.job.specs.Verdict.{Verdict, pass, refuse, refuseIf, lowest}
+use Rattle.job.specs.Verdict.{Verdict, pass, refuse, refuseIf, within, lowest}
 use Rattle.job.specs.Buffers.{ends, sized}
 use Rattle.job.specs.Job.{Job, permitted, jobOf, boardRight, itemRight, jobWords, larger, demanded, admission}
 use Rattle.listing.specs.Listing.{Listing, going, stopped, walk, modelRow, listingOf}
@@ -19,7 +19,7 @@ use Rattle.plan.specs.PriceCall.{priceVerdict}
 use Rattle.layouts.specs.Placement.{Placement, linesOf}
 use Rattle.layouts.specs.Lines.{linesIn, rowsOf, rowRight, layoutWords, turns, grouped}
 use Rattle.layouts.specs.LayoutsRow.{laidSet, lowestStrip, breaksStage, pastBoard, positioned, lacks, layoutsRow}
-use Rattle.layouts.specs.UnfoldCall.{unfoldVerdict}
+use Rattle.layouts.specs.UnfoldCall.{lengthsRow, unfoldVerdict}
 use Rattle.layouts.specs.FoldCall.{foldVerdict}
 use Rattle.texts.specs.Shape.{Shape, formed, eachWithin, values, numbersRow}
 use Rattle.texts.specs.Reader.{started, fed, textRow, written}
@@ -56,6 +56,11 @@ pub record WithinRows : Type 0 where
       ∷ lowest 2 (λ _ r. not (rowRight job r)) 1 (linesIn ws)
       ∷ lowest 19 (λ _ r. not (permitted job (r .item))) 1 (rowsOf ws)
       ∷ [])
+  -- the lengths of an unfolding: request Two's 2
+  pub lengths :
+      (first second : ℕ)
+      → lengthsRow first second
+      ≡ fromTheTop (refuseIf (not (within 1 10000 first && within 1 10000 second)) 2 0 ∷ [])
   -- a line of a text that is of the form, and "1" has not been given: 2, then request One's 19, on this line alone
   pub text-line :
       (line : ℕ) (s : Shape) (ss : List Shape) (ns : List ℕ)
@@ -147,17 +152,19 @@ pub record RowsOfCalls : Type 0 where
       ∷ pricesSized (jobOf ws) (listingOf (jobOf ws)) prices
       ∷ pricesRow (listingOf (jobOf ws)) (pricesOf (jobOf ws) prices)
       ∷ [])
-  -- as the plan test, with buffer 4
+  -- as the plan test, with request Two's lengths in the line row, after the job's words, and buffers 4 and 5
   pub unfolding′ :
-      (ws counts plates cuts placements : List ℕ)
-      → unfoldVerdict ws counts plates cuts placements
+      (ws : List ℕ) (first second : ℕ) (counts plates cuts placements offcuts : List ℕ)
+      → unfoldVerdict ws first second counts plates cuts placements offcuts
       ≡ fromTheTop
       (jobWords ws
+      ∷ lengthsRow first second
       ∷ admission (jobOf ws)
       ∷ sized 1 6144 plates
       ∷ sized 2 32768 cuts
       ∷ sized 3 8192 counts
       ∷ sized 4 32000 placements
+      ∷ sized 5 48000 offcuts
       ∷ modelRow (jobOf ws)
       ∷ countsRow (listingOf (jobOf ws)) counts
       ∷ planRow (jobOf ws) (listingOf (jobOf ws)) counts

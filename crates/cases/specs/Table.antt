@@ -28,7 +28,7 @@ pub record Table : Type 0 where
   -- job B: 4 residual types, 6 cuts
   pub k : listing jobB ≡ succeeds (4 ∷ 6 ∷ []) platesB cutsB []
   -- counts 1 0 1 0 0 1: one board, positions (0,0), (3,0), (3,2)
-  pub l : unfolding′ jobB planB ≡ succeeds (1 ∷ 3 ∷ []) platesB cutsB (filled placementsSize linesB)
+  pub l : unfolding′ jobB planB ≡ succeeds (1 ∷ 3 ∷ 0 ∷ []) platesB cutsB (filled placementsSize linesB)
   -- an item of 9 by 7 on job A's board is admitted; one of 10 by 7 is 3
   pub m : listing (alone 9 7) ≡ succeeds (0 ∷ 1 ∷ []) (9 ∷ 7 ∷ 1 ∷ []) (0 ∷ 2 ∷ 0 ∷ 0 ∷ []) []
   pub m-larger : listing (alone 10 7) ≡ refuses 3 1 []

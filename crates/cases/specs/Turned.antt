@@ -121,7 +121,7 @@ pub record TurnedPlans : Type 0 where
   -- demands counted for each turn alone: type 1 is demanded twice
   pub both-turns : plan jobT planT ≡ succeeds (2 ∷ []) platesT cutsT []
   -- a turned piece that lies unturned
-  pub lies-turned : unfolding′ jobT planT ≡ succeeds (2 ∷ 5 ∷ []) platesT cutsT (filled placementsSize linesT)
+  pub lies-turned : unfolding′ jobT planT ≡ succeeds (2 ∷ 5 ∷ 1 ∷ []) platesT cutsT (filled placementsSize linesT)
   -- a price rule for unturned cuts alone, or a price for each turn
   pub turned-price : prices (tall 1) (1 ∷ 2 ∷ []) ≡ refuses 14 1 []
   pub one-price : prices jobT (1 ∷ 2 ∷ 0 ∷ 0 ∷ 0 ∷ 2 ∷ 0 ∷ 0 ∷ 0 ∷ []) ≡ refuses 14 1 []

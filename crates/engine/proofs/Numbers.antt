@@ -16,6 +16,7 @@ use Rattle.listing.specs.Listing.{Listing, modelRow, residualTypes}
 use Rattle.listing.proofs.Limits.{row-cases}
 use Rattle.plan.specs.Plan.{total, short, overdrawn, countsRow, planRow}
 use Rattle.plan.specs.Prices.{Prices, priceWords, pricesSized, pricesRow}
+use Rattle.layouts.specs.UnfoldCall.{lengthsRight, lengthsRow}
 
 -- some checks refuse with a number above 0 alone
 pub record Above (v : Verdict) : Type 0 where
@@ -53,6 +54,10 @@ words-above ws =
     let types = lowest 2 (λ _ it. not (itemRight it)) 1 (jobOf ws .items) in
     above-then (refuseIf wrong-length 1 0) (refuseIf (not (boardRight ws)) 2 0 then types) (above-if wrong-length 1 0 (omega arith))
     (above-then (refuseIf (not (boardRight ws)) 2 0) types (above-if (not (boardRight ws)) 2 0 (omega arith)) (above-lowest 2 _ 1 (jobOf ws .items) (omega arith)))
+
+pub lengths-above : (first second : ℕ) → Above (lengthsRow first second)
+unfolding lengthsRow
+lengths-above first second = above-if (not (lengthsRight first second)) 2 0 (omega arith)
 
 pub admission-above : (job : Job) → Above (admission job)
 unfolding admission

@@ -1,5 +1,5 @@
 // The calls, as a host calls them. `answer` ends as three words: the refusal number, 0 where accepted; the first value, or the place that is named; the
-// second value, or 0. The lent buffers end as those of the call do.
+// second value, or 0. That of the unfolding ends as four: the third value, or 0, is the last. The lent buffers end as those of the call do.
 ghost use mathlib.Core.Path.{_≡_};
 ghost use mathlib.Core.Logic.{_↔_};
 ghost use Rattle.job.specs.Job.{jobOf};
@@ -9,12 +9,14 @@ ghost use Rattle.listing.specs.ListCall.{listVerdict, listAnswer, platesEnd, cu
 ghost use Rattle.plan.specs.PlanCall.{planVerdict, planAnswer};
 ghost use Rattle.plan.specs.PriceCall.{priceVerdict, priceAnswer};
 ghost use Rattle.plan.specs.Exactly.{PlanRight, PricesRight};
-ghost use Rattle.layouts.specs.UnfoldCall.{unfoldVerdict, unfoldAnswer, placementsEnd};
+ghost use Rattle.layouts.specs.UnfoldCall.{unfoldVerdict, unfoldAnswer, placementsEnd, offcutsEnd};
 ghost use Rattle.layouts.specs.FoldCall.{foldVerdict, foldAnswer, countsEnd};
 ghost use Rattle.layouts.specs.Promises.{UnfoldPromise, FoldPromise, PricePromise};
-ghost use Rattle.answers.specs.AnswerWords.{answerWords, WordsAccept, WhereAccepted};
+ghost use Rattle.answers.specs.AnswerWords.{answerWords, fourWords, WordsAccept, WhereAccepted, WhereUnfolded};
 use answers::words::accept;
+use answers::words::accept_four;
 use answers::words::refuse;
+use answers::words::refuse_four;
 use fold_call::call::FoldAnswer;
 use fold_call::call::fold;
 use listing_call::call::Listed;
@@ -85,26 +87,42 @@ pub extern "C" fn saw_test_prices(
     }
 }
 
-// The unfolding call: the values are the numbers of boards and of pieces. Where it is accepted the values and the placements are
-// those of a set of layouts that is what demand 3 says.
+// The unfolding call: the values are the numbers of boards, of pieces and of offcuts. `first` and `second` are the two set lengths, which the width and
+// the height of a usable offcut reach. Where it is accepted the values, the placements and the offcuts are those of a set of layouts that is what demand 3
+// says.
 #[no_mangle]
 pub extern "C" fn saw_unfold(
     job: &[u16],
     counts: &[u16],
+    first: u16,
+    second: u16,
     plates: &mut [u16],
     cuts: &mut [u16],
     placements: &mut [u16],
-    answer: &mut [u32; 3],
+    offcuts: &mut [u16],
+    answer: &mut [u32; 4],
 )
-    ensures { λ _. ⌜ now (answer .exit) ≡ answerWords (unfoldAnswer (now (job .entry)) (now (counts .entry)) (now (plates .entry)) (now (cuts .entry)) (now (placements .entry))) ⌝ }
-    ensures { λ _. ⌜ now (plates .exit) ≡ platesEnd (unfoldVerdict (now (job .entry)) (now (counts .entry)) (now (plates .entry)) (now (cuts .entry)) (now (placements .entry))) (now (job .entry)) (now (plates .entry)) ⌝ }
-    ensures { λ _. ⌜ now (cuts .exit) ≡ cutsEnd (unfoldVerdict (now (job .entry)) (now (counts .entry)) (now (plates .entry)) (now (cuts .entry)) (now (placements .entry))) (now (job .entry)) (now (cuts .entry)) ⌝ }
-    ensures { λ _. ⌜ now (placements .exit) ≡ placementsEnd (unfoldVerdict (now (job .entry)) (now (counts .entry)) (now (plates .entry)) (now (cuts .entry)) (now (placements .entry))) (now (job .entry)) (now (counts .entry)) (now (placements .entry)) ⌝ }
-    ensures { λ _. ⌜ WhereAccepted (now (answer .exit)) (UnfoldPromise (now (job .entry)) (now (counts .entry)) (now (placements .exit))) ⌝ }
+    ensures { λ _. ⌜ now (answer .exit) ≡ fourWords (unfoldAnswer (now (job .entry)) first second (now (counts .entry)) (now (plates .entry)) (now (cuts .entry)) (now (placements .entry)) (now (offcuts .entry))) ⌝ }
+    ensures { λ _. ⌜ now (plates .exit) ≡ platesEnd (unfoldVerdict (now (job .entry)) first second (now (counts .entry)) (now (plates .entry)) (now (cuts .entry)) (now (placements .entry)) (now (offcuts .entry))) (now (job .entry)) (now (plates .entry)) ⌝ }
+    ensures { λ _. ⌜ now (cuts .exit) ≡ cutsEnd (unfoldVerdict (now (job .entry)) first second (now (counts .entry)) (now (plates .entry)) (now (cuts .entry)) (now (placements .entry)) (now (offcuts .entry))) (now (job .entry)) (now (cuts .entry)) ⌝ }
+    ensures { λ _. ⌜ now (placements .exit) ≡ placementsEnd (unfoldVerdict (now (job .entry)) first second (now (counts .entry)) (now (plates .entry)) (now (cuts .entry)) (now (placements .entry)) (now (offcuts .entry))) (now (job .entry)) (now (counts .entry)) (now (placements .entry)) ⌝ }
+    ensures { λ _. ⌜ now (offcuts .exit) ≡ offcutsEnd (unfoldVerdict (now (job .entry)) first second (now (counts .entry)) (now (plates .entry)) (now (cuts .entry)) (now (placements .entry)) (now (offcuts .entry))) (now (job .entry)) first second (now (counts .entry)) (now (offcuts .entry)) ⌝ }
+    ensures { λ _. ⌜ WhereUnfolded (now (answer .exit)) (UnfoldPromise (now (job .entry)) first second (now (counts .entry)) (now (placements .exit)) (now (offcuts .exit))) ⌝ }
 {
-    match unfold(job, counts, plates, cuts, placements) {
-        Unfolded::Done(boards, pieces) => accept(answer, boards as u32, pieces as u32),
-        Unfolded::Refused(number, place) => refuse(answer, number, place),
+    match unfold(
+        job,
+        first,
+        second,
+        counts,
+        plates,
+        cuts,
+        placements,
+        offcuts,
+    ) {
+        Unfolded::Done(boards, pieces, left) => {
+            accept_four(answer, boards as u32, pieces as u32, left as u32)
+        }
+        Unfolded::Refused(number, place) => refuse_four(answer, number, place),
     }
 }
 

@@ -5,7 +5,7 @@ use mathlib.Core.List.{List, _++_}
 use lib.Dec.{ltb, eqb}
 use lib.ListN.{length, replicate}
 use Rattle.job.specs.Verdict.{Verdict, pass, refuse, refuseIf}
-pub use Rattle.job.specs.Sizes.{platesSize, cutsSize, countsSize, placementsSize}
+pub use Rattle.job.specs.Sizes.{platesSize, cutsSize, countsSize, placementsSize, offcutsSize}
 
 -- a call's results, or the refusal's number and the place that it names
 pub data Answer : Type 0 where
@@ -25,6 +25,6 @@ abbrev pub ends : Verdict → List ℕ → List ℕ → List ℕ
 ends pass buffer ws = filled (length buffer) ws
 ends (refuse number place) buffer ws = elim (eqb number 5) [ true ↦ buffer | false ↦ replicate (length buffer) 0 ]
 
--- 5: a lent buffer is shorter than its full size. The place names `which` it is: 1 plates, 2 cuts, 3 counts, 4 placements
+-- 5: a lent buffer is shorter than its full size. The place names `which` it is: 1 plates, 2 cuts, 3 counts, 4 placements, 5 offcuts (request Two)
 unfoldable pub sized : ℕ → ℕ → List ℕ → Verdict
 sized which size buffer = refuseIf (ltb (length buffer) size) 5 which

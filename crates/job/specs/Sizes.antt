@@ -15,6 +15,10 @@ maxTypes = 40
 abbrev pub maxPieces : ℕ
 maxPieces = 4000
 
+-- request Two: the most offcuts, two for each counted cut of a plan
+abbrev pub maxOffcuts : ℕ
+maxOffcuts = 8000
+
 -- "at most 2,048 plate types, type 0 among them, and 8,192 cuts"
 abbrev pub maxPlates : ℕ
 maxPlates = 2048
@@ -50,6 +54,10 @@ wordsOfCut = 4
 abbrev pub wordsOfPlacement : ℕ
 wordsOfPlacement = 8
 
+-- request Two, the words of an offcut: board, x, y, width, height, usable
+abbrev pub wordsOfOffcut : ℕ
+wordsOfOffcut = 6
+
 -- the words of a job of n item types
 abbrev pub jobSize : ℕ → ℕ
 jobSize n = wordsOfHead + wordsOfItem * n
@@ -74,6 +82,10 @@ countsSize = maxCuts
 
 abbrev pub placementsSize : ℕ
 placementsSize = wordsOfPlacement * maxPieces
+
+-- request Two: the offcuts are "a fifth buffer of 48,000 words"
+abbrev pub offcutsSize : ℕ
+offcutsSize = wordsOfOffcut * maxOffcuts
 
 -- the words of the longest list of prices: D, one for each item type, one for each residual type
 abbrev pub pricesSize : ℕ

@@ -1,13 +1,14 @@
 // The buffers that calls are lent: whether they are of full size, and what a refusal leaves in them.
 ghost use mathlib.Core.Path.{_≡_};
 ghost use Rattle.job.specs.Verdict.{refuse, _then_};
-ghost use Rattle.job.specs.Buffers.{ends, sized, platesSize, cutsSize, countsSize, placementsSize};
+ghost use Rattle.job.specs.Buffers.{ends, sized, platesSize, cutsSize, countsSize, placementsSize, offcutsSize};
 ghost use Rattle.job.specs.Row.{rowVerdict};
 ghost use mathlib.Core.List.{List};
 ghost use Prim.Native.Nat.{ℕ};
 use crate::row::Row;
 use crate::sizes::COUNTS_SIZE;
 use crate::sizes::CUTS_SIZE;
+use crate::sizes::OFFCUTS_SIZE;
 use crate::sizes::PLACEMENTS_SIZE;
 use crate::sizes::PLATES_SIZE;
 use crate::words::clear;
@@ -45,7 +46,7 @@ pub fn counts_sized(plates: &[u16], cuts: &[u16], counts: &[u16]) -> Row
 }
 
 // Plates, cuts, counts and placements.
-pub fn placements_sized(plates: &[u16], cuts: &[u16], counts: &[u16], placements: &[u16]) -> Row
+fn placements_sized(plates: &[u16], cuts: &[u16], counts: &[u16], placements: &[u16]) -> Row
     ensures { λ r. ⌜ rowVerdict r ≡ (sized 1 platesSize (now (plates .entry)) then sized 2 cutsSize (now (cuts .entry)) then sized 3 countsSize (now (counts .entry)) then sized 4 placementsSize (now (placements .entry))) ⌝ }
 {
     let first = counts_sized(plates, cuts, counts);
@@ -53,6 +54,23 @@ pub fn placements_sized(plates: &[u16], cuts: &[u16], counts: &[u16], placements
         return first;
     };
     sized(4, PLACEMENTS_SIZE, placements)
+}
+
+// Plates, cuts, counts, placements and offcuts.
+pub fn offcuts_sized(
+    plates: &[u16],
+    cuts: &[u16],
+    counts: &[u16],
+    placements: &[u16],
+    offcuts: &[u16],
+) -> Row
+    ensures { λ r. ⌜ rowVerdict r ≡ (sized 1 platesSize (now (plates .entry)) then sized 2 cutsSize (now (cuts .entry)) then sized 3 countsSize (now (counts .entry)) then sized 4 placementsSize (now (placements .entry)) then sized 5 offcutsSize (now (offcuts .entry))) ⌝ }
+{
+    let first = placements_sized(plates, cuts, counts, placements);
+    let Row::Passes = first else {
+        return first;
+    };
+    sized(5, OFFCUTS_SIZE, offcuts)
 }
 
 // What a refusal leaves in an output buffer: after 5 it is unchanged, after another number every word is 0.

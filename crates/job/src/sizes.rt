@@ -9,6 +9,9 @@ pub const MAX_TYPES: u16 = 40;
 // The greatest demand, and the most that demands, counts or pieces come to in all.
 pub const MAX_PIECES: u16 = 4000;
 
+// The most offcuts, two for each counted cut of a plan.
+pub const MAX_OFFCUTS: u16 = 8000;
+
 // The most plate types, type 0 among them.
 pub const MAX_PLATES: u16 = 2048;
 
@@ -47,6 +50,9 @@ pub const CUT_WORDS: usize = 4;
 // The words of a placement and of a layout line: board, strip, stack, place, type, x, y, turn.
 pub const PLACEMENT_WORDS: usize = 8;
 
+// The words of an offcut: board, x, y, width, height, usable.
+pub const OFFCUT_WORDS: usize = 6;
+
 // The words of the longest job.
 pub const JOB_SIZE: usize = HEAD_WORDS + ITEM_WORDS * (MAX_TYPES as usize);
 
@@ -61,6 +67,9 @@ pub const COUNTS_SIZE: usize = MAX_CUTS as usize;
 
 // The full size of lent placements.
 pub const PLACEMENTS_SIZE: usize = PLACEMENT_WORDS * (MAX_PIECES as usize);
+
+// The full size of lent offcuts.
+pub const OFFCUTS_SIZE: usize = OFFCUT_WORDS * (MAX_OFFCUTS as usize);
 
 // The words of the longest list of prices: D, one for each item type, one for each residual type.
 pub const PRICES_SIZE: usize = MAX_TYPES as usize + MAX_PLATES as usize;

@@ -4,6 +4,7 @@ pub mod trees
 pub mod patterns
 pub mod rules
 pub mod machine
+pub mod offcuts
 pub mod fold
 pub mod row
 pub mod demand

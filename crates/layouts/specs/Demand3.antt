@@ -1,14 +1,15 @@
--- Demand 3, in its own words, for every job whose listing is not refused: every accepted plan unfolds into layouts that keep the rules; every set of
--- layouts that keeps the rules folds into an accepted plan; every accepted price list bounds every such set. `Demand3` is the whole of it.
+-- Demand 3, in its own words, for every job whose listing is not refused: every accepted plan unfolds into layouts that keep the rules, with the offcuts
+-- and the area balance of request Two; every set of layouts that keeps the rules folds into an accepted plan; every accepted price list bounds every such
+-- set. `Demand3` is the whole of it.
 use Prim.Native.Nat.{ℕ, _*_, _-_, _≤_, _<_}
 use mathlib.Core.Path.{_≡_}
 use mathlib.Core.Logic.{_⊎_}
-use mathlib.Core.Bool.{true}
+use mathlib.Core.Bool.{true, false}
 use mathlib.Core.List.{List}
 use lib.ListN.{length, replicate}
 use Rattle.job.specs.Lists.{all, nonEmpty, occurs}
 use Rattle.job.specs.Verdict.{Verdict, pass, refuse, _then_}
-use Rattle.job.specs.Buffers.{filled, placementsSize}
+use Rattle.job.specs.Buffers.{filled, placementsSize, offcutsSize}
 use Rattle.job.specs.Job.{Job, jobOf, jobWords, admission, maxPieces}
 use Rattle.job.specs.Admitted.{PositionsExact}
 use Rattle.listing.specs.Listing.{Listing, modelRow, listingOf}
@@ -21,7 +22,10 @@ use Rattle.layouts.specs.Unfold.{Run, unfolded}
 use Rattle.layouts.specs.Lines.{layoutWords, turns, setOf}
 use Rattle.layouts.specs.LayoutsRow.{layoutsRow}
 use Rattle.layouts.specs.Fold.{folded}
-use Rattle.layouts.specs.UnfoldCall.{unfoldVerdict}
+use Rattle.layouts.specs.Offcuts.{Event, eventsOf, offcutsIn, offcutWords}
+use Rattle.layouts.specs.Balance.{AreaBalance}
+use Rattle.layouts.specs.Parts.{OffcutsLie}
+use Rattle.layouts.specs.UnfoldCall.{lengthsRight, unfoldVerdict}
 use Rattle.layouts.specs.FoldCall.{foldVerdict}
 use Rattle.layouts.specs.Exact.{TestsExact, InOrder}
 
@@ -49,8 +53,8 @@ module _ (job : Job) (l : Listing) where
   abbrev pub Priced : List ℕ → Type 0
   Priced prices = (priceWords prices then pricesSized job l prices then pricesRow l (pricesOf job prices)) ≡ pass
 
-  -- the set of layouts that a plan unfolds into
-  pub record UnfoldsTo (counts : List ℕ) (set : List Board) : Type 0 where
+  -- the set of layouts that a plan unfolds into, and what the steps of the unfolding do, es
+  pub record UnfoldsTo (counts : List ℕ) (set : List Board) (es : List Event) : Type 0 where
     -- it keeps the rules of the mode, meets every demand and has at most 4,000 pieces
     pub named : Named set
     -- rectangles inside their boards, no two overlapping
@@ -68,20 +72,26 @@ module _ (job : Job) (l : Listing) where
     pub in-turn : turns 1 (linesOf job set) ≡ pass
     -- folding it gives back the counts, word for word
     pub back : filled (length counts) (folded job l set) ≡ counts
+    -- request Two: the area balance of every board, what is left over of each type, the number of offcuts
+    pub balance : AreaBalance job l counts (linesOf job set) es
+    -- its offcuts are inside their boards, and none overlaps another or an item
+    pub offcuts-lie : OffcutsLie job (linesOf job set) (offcutsIn l es)
 
-  -- what the unfolding r of a plan gives
-  pub record Unfolds (counts : List ℕ) (r : Run) : Type 0 where
+  -- what the unfolding r of a plan gives, and its steps, es
+  pub record Unfolds (counts : List ℕ) (r : Run) (es : List Event) : Type 0 where
     -- every count ends at 0
     pub spent : r .last .counts ≡ replicate (length counts) 0
     -- the placements are the lines of a set of layouts, which their words are read as
     pub set : List Board
     pub lines : r .placements ≡ linesOf job set
     pub read : setOf (placementWords (r .placements)) ≡ set
-    pub unfolds-to : UnfoldsTo counts set
+    pub unfolds-to : UnfoldsTo counts set es
     -- the result's boards and pieces are the set's; the pieces fit the buffer
     pub boards-given : r .last .turn .board ≡ length set
     pub pieces-given : length (r .placements) ≡ length (itemsOfSet set)
     pub room : length (placementWords (r .placements)) ≤ placementsSize
+    -- and the offcuts theirs, whatever the two lengths (request Two)
+    pub offcuts-room : (first second : ℕ) → length (offcutWords first second (offcutsIn l es)) ≤ offcutsSize
 
   -- the plan that a set folds into
   pub record FoldsTo (set : List Board) (counts : List ℕ) : Type 0 where
@@ -133,12 +143,20 @@ module _ (ws : List ℕ) where
     pub unfolds :
         (counts : List ℕ)
         → Accepted J L counts
-        → Unfolds J L counts (unfolded J L counts)
+        → Unfolds J L counts (unfolded J L counts) (eventsOf J L counts)
     pub unfolds-but-for-five :
         (counts : List ℕ)
         → Accepted J L counts
-        → (plates cuts placements : List ℕ)
-        → OnlyFive (unfoldVerdict ws counts plates cuts placements)
+        → (first second : ℕ)
+        → lengthsRight first second ≡ true
+        → (plates cuts placements offcuts : List ℕ)
+        → OnlyFive (unfoldVerdict ws first second counts plates cuts placements offcuts)
+    -- request Two: for lengths outside their limits 2, place 0, "the one refusal besides 5 that demand 3 then leaves an unfolding"
+    pub lengths-refused :
+        (first second : ℕ)
+        → lengthsRight first second ≡ false
+        → (counts plates cuts placements offcuts : List ℕ)
+        → unfoldVerdict ws first second counts plates cuts placements offcuts ≡ refuse 2 0
     -- for every set of layouts that it names
     pub folds :
         (set : List Board)

@@ -1,8 +1,9 @@
--- The definitions of this crate: sets of layouts and the words of demand 3, unfolding, folding, the two calls, demand 3 and what the calls promise by it.
+-- The definitions of this crate: sets of layouts and the words of demand 3, unfolding and what it leaves over, folding, the two calls, demand 3 and what the calls promise by it.
 pub mod Layout
 pub mod Placement
 pub mod Rectangle
 pub mod Unfold
+pub mod Offcuts
 pub mod Lines
 pub mod LayoutsRow
 pub mod Fold
@@ -10,5 +11,7 @@ pub mod UnfoldCall
 pub mod FoldCall
 pub mod Rules
 pub mod Exact
+pub mod Balance
+pub mod Parts
 pub mod Demand3
 pub mod Promises

@@ -7,20 +7,26 @@ use Rattle.job.specs.Buffers.{filled}
 use Rattle.layouts.specs.Layout.{Board}
 use Rattle.layouts.specs.Placement.{placementWords, linesOf, itemsOfSet}
 use Rattle.layouts.specs.Lines.{setOf}
+use Rattle.layouts.specs.Offcuts.{Event, offcutsIn, offcutWords}
 use Rattle.layouts.specs.Demand3.{J, L, Named, UnfoldsTo, FoldsTo, Bounds}
 
 -- `ws` are the job's words
 module _ (ws : List ℕ) where
-  -- unfolding: of the counts passed in, the placements as they end, and "boards and pieces"
-  pub record UnfoldPromise (counts placements : List ℕ) (boards pieces : ℕ) : Type 0 where
+  -- unfolding: of the two lengths and the counts passed in, the placements and the offcuts as they end, "boards and pieces", and the number of offcuts
+  pub record UnfoldPromise (first second : ℕ) (counts placements offcuts : List ℕ) (boards pieces left : ℕ) : Type 0 where
     -- there is a set of layouts; the placements end as its lines, and past them as zeros
     pub set : List Board
     pub lines : placements ≡ filled (length placements) (placementWords (linesOf (J ws) set))
     -- "the result's boards and pieces are the set's"
     pub boards-given : boards ≡ length set
     pub pieces-given : pieces ≡ length (itemsOfSet set)
-    -- it is the set that an accepted plan unfolds into: inside its boards, with no overlap, as many boards and as often each type as the plan has
-    pub unfolds-to : UnfoldsTo (J ws) (L ws) counts set
+    -- request Two: cuts are done and pieces left over; the offcuts end as the words of these pieces, and past them as zeros; "unfolding also gives their number"
+    pub events : List Event
+    pub pieces-over : offcuts ≡ filled (length offcuts) (offcutWords first second (offcutsIn (L ws) events))
+    pub offcuts-given : left ≡ length (offcutsIn (L ws) events)
+    -- it is the set that an accepted plan unfolds into: inside its boards, with no overlap, as many boards and as often each type as the plan has;
+    -- on each board items, offcuts and waste make W×H, at most 8,000 offcuts lie inside their boards, and none overlaps another or an item
+    pub unfolds-to : UnfoldsTo (J ws) (L ws) counts set events
 
   -- folding: of the layouts passed in, the counts as they end, and "boards"
   pub record FoldPromise (layouts counts : List ℕ) (boards : ℕ) : Type 0 where

@@ -2,6 +2,7 @@
 pub mod CodeHolds
 pub mod Plates
 pub mod Residuals
+pub mod Waste
 pub mod Kept
 pub mod Numbers
 pub mod Steps

@@ -1,5 +1,6 @@
--- The definitions of this crate: plates and cuts, the walk that numbers them, what the listing of a job is, their records in lent buffers, the listing call.
+-- The definitions of this crate: plates and cuts and what a cut wastes, the walk that numbers them, what the listing of a job is, their records in lent buffers, the listing call.
 pub mod Plate
+pub mod Waste
 pub mod Listing
 pub mod Model
 pub mod Numbering

@@ -32,7 +32,7 @@ module _ (ws plates cuts counts : List ℕ) (k : ℕ) (lent : ModelLent ws plate
       let u = unfolds (J ws) (L ws) (lent .model) (admitted-sided (J ws) (lent .admitted)) counts none-past feasible in
       omega (arith, u .pieces, feasible .few)
 
-  module _ (used pieces : ℕ) (done : given (used ∷ pieces ∷ []) ≡ given (results ws counts)) where
+  module _ (used pieces left : ℕ) (done : given (used ∷ pieces ∷ left ∷ []) ≡ given (results ws counts)) where
     used-is : used ≡ unfoldingOf ws counts .last .turn .board
     used-is = cc
 

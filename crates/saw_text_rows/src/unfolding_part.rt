@@ -18,8 +18,10 @@ use job::counters::CutNumber;
 use texts_writing::output::write_unfolding;
 use unfold_call::call::Unfolded;
 use unfold_call::call::unfold_plan;
+use unfold_offcut::Lengths;
 
-// Unfolds an accepted plan, which opens a number of boards, over a listing of k cuts, and writes its lines 7 and line 8; their end is handed back.
+// Unfolds an accepted plan, which opens a number of boards, over a listing of k cuts, and writes its lines 7 and line 8; their end is handed back. A saw
+// text lists no offcut, so the list that is lent has no room for any.
 pub fn write_plan(
     job: &[u16],
     counts: &[u16],
@@ -39,9 +41,24 @@ pub fn write_plan(
     ensures { λ r. ⌜ Wrote (now (out .entry)) 0 (flatMap placementLine (unfoldingOf (now (job .entry)) (now (counts .entry)) .placements) ++ summaryLine (unfoldingOf (now (job .entry)) (now (counts .entry)) .last .turn .board) sum d) r (now (out .exit)) ⌝ }
     ensures { λ _. ⌜ Holds (now (placements .exit)) (placementWords (unfoldingOf (now (job .entry)) (now (counts .entry)) .placements)) ⌝ }
 {
-    match unfold_plan(job, counts, plates, cuts, k, boards, placements) {
+    let lengths = Lengths {
+        first: 1,
+        second: 1,
+    };
+    let mut unlisted = [0u16; 1];
+    match unfold_plan(
+        job,
+        counts,
+        plates,
+        cuts,
+        k,
+        boards,
+        lengths,
+        placements,
+        &mut unlisted,
+    ) {
         Unfolded::Refused(_, _) => 0,
-        Unfolded::Done(used, pieces) => {
+        Unfolded::Done(used, pieces, _) => {
             write_unfolding(out, placements, pieces as usize, used, sum, d)
         }
     }

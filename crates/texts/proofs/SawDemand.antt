@@ -14,6 +14,7 @@ use Rattle.plan.specs.Plan.{onPlate, boards, total, countsRow, planRow}
 use Rattle.plan.proofs.PlanExact.{plan-exact, counts-exact, countOf-total}
 use Rattle.layouts.specs.Layout.{Board}
 use Rattle.layouts.specs.Placement.{placementWords}
+use Rattle.layouts.specs.Offcuts.{eventsOf}
 use Rattle.layouts.specs.Lines.{layoutWords, setOf}
 use Rattle.layouts.specs.LayoutsRow.{layoutsRow}
 use Rattle.layouts.specs.Fold.{setCuts, folded}
@@ -54,7 +55,7 @@ module _ (s : Saw) (held : SawWhole s) (rows : sawRows s ≡ pass) where
   demand = demands (s .job) (held .job) (accepted-rows s rows .admitted) (accepted-rows s rows .listed)
 
   -- its unfolding
-  saw-unfolds : Unfolds job l ns (sawRun s)
+  saw-unfolds : Unfolds job l ns (sawRun s) (eventsOf job l ns)
   saw-unfolds = demand .unfolds ns plan
 
   few : total ns ≤ maxPieces

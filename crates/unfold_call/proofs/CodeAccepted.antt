@@ -6,7 +6,7 @@ use mathlib.Core.Path.{_≡_, sym, _∙_, ap}
 use mathlib.Core.List.{List, [], _∷_}
 use lib.ListN.{length, getD, take, drop, take-append-drop}
 use lib.Seq.{length-take-le}
-use Rattle.job.specs.Sizes.{maxPieces, countsSize}
+use Rattle.job.specs.Sizes.{maxPieces, maxOffcuts, countsSize, offcutsSize}
 use Rattle.job.specs.Verdict.{pass, _then_}
 use Rattle.job.specs.Buffers.{given, answer}
 use Rattle.job.specs.Job.{Job, jobOf, jobWords, admission}
@@ -27,15 +27,19 @@ use Rattle.plan.specs.Feasible.{Feasible, NonePast}
 use Rattle.plan.proofs.PlanExact.{plan-exact, counts-exact}
 use Rattle.layouts.specs.Placement.{placementWords}
 use Rattle.layouts.specs.Unfold.{Run, run, unfolded}
-use Rattle.layouts.specs.UnfoldCall.{unfoldingOf}
+use Rattle.layouts.specs.Offcuts.{events, offcutsIn, offcutsOf, offcutWords}
+use Rattle.layouts.specs.UnfoldCall.{unfoldingOf, offcutsFrom}
 use Rattle.layouts.specs.Demand3.{J, L}
 use Rattle.layouts.proofs.machine.MachineEnds.{start, steps-enough, unfolds}
+use Rattle.layouts.proofs.offcuts.AreaBalance.{area-balance}
+use Rattle.layouts.proofs.offcuts.Enough.{offcuts-enough}
 use Rattle.unfold_waiting.specs.Turns.{maxSteps}
+use Rattle.unfold_offcut.specs.declared.Lengths.{Lengths}
 use Rattle.unfold_step.specs.Ready.{ModelLent}
 use Rattle.unfold_run.specs.declared.run.Ran.{Ran}
-use Rattle.unfold_run.specs.Going.{Gives, started}
+use Rattle.unfold_run.specs.Going.{Gives, started, startedOffcuts}
 use Rattle.unfold_call.specs.UnfoldSays.{results}
-use Rattle.unfold_call.proofs.Longer.{longerRun, boards-longer, run-longer}
+use Rattle.unfold_call.proofs.Longer.{longerRun, boards-longer, run-longer, offcuts-longer}
 
 module _ (ws : List ℕ) (checked : (jobWords ws then admission (jobOf ws)) ≡ pass) where
   pub job-words : jobWords ws ≡ pass
@@ -124,6 +128,18 @@ module _ (ws : List ℕ) (admitted : Admitted (jobOf ws)) (model : Model (jobOf 
       let e : length (started job l copied .placements) ≡ total counts = ap (λ (r : Run). length (r .placements)) (sym whole) ∙ unfolds job l model sided counts none-past feasible .pieces in
       omega (arith, feasible .few)
 
+  -- it leaves the same pieces over, and there is room for them
+  copied-offcuts : startedOffcuts job l copied ≡ offcutsFrom ws counts
+  unfolding offcutsFrom
+  copied-offcuts =
+      sym (offcuts-longer job l past maxSteps (start copied) copied-counted)
+      ∙ ap (λ (ns : List ℕ). offcutsIn l (events maxSteps job l (start ns))) (take-append-drop countsSize counts)
+      ∙ offcuts-enough job l model sided counts none-past feasible maxSteps (omega (arith, feasible .few))
+
+  copied-few-offcuts : length (startedOffcuts job l copied) ≤ maxOffcuts
+  unfolding offcutsFrom offcutsOf
+  copied-few-offcuts = rw copied-offcuts (area-balance job l model sided counts none-past feasible .few-offcuts)
+
   -- what the run of the copy asks, and what it gives
   module _ {left : List ℕ} (e : left ≡ copied) where
     pub copy-counted : (k : ℕ) → length (l .cuts) ≡ k → k ≤ length left
@@ -135,12 +151,19 @@ module _ (ws : List ℕ) (admitted : Admitted (jobOf ws)) (model : Model (jobOf 
     pub copy-few : length (started job l left .placements) ≤ maxPieces
     copy-few = rw e copied-few
 
-    module _ (r : Ran) (buffer : List ℕ) (g : Gives (started job l left) r buffer) where
-      pub copy-results : given (r .boards ∷ r .pieces ∷ []) ≡ given (results ws counts)
+    pub copy-few-offcuts : length (startedOffcuts job l left) ≤ maxOffcuts
+    copy-few-offcuts = rw e copied-few-offcuts
+
+    module _ (lengths : Lengths) (r : Ran) (buffer list : List ℕ) (g : Gives lengths (started job l left) (startedOffcuts job l left) r buffer list) where
+      pub copy-results : given (r .boards ∷ r .pieces ∷ r .offcuts ∷ []) ≡ given (results ws counts)
       copy-results =
           let b : r .boards ≡ unfoldingOf ws counts .last .turn .board = g .boards-given ∙ ap (λ (ns : List ℕ). started job l ns .last .turn .board) e ∙ copied-last in
           let n : r .pieces ≡ length (unfoldingOf ws counts .placements) = g .pieces-given ∙ ap (λ (ns : List ℕ). length (started job l ns .placements)) e ∙ ap length copied-placements in
-          rw (b, n)
+          let o : r .offcuts ≡ length (offcutsFrom ws counts) = g .offcuts-given ∙ ap (λ (ns : List ℕ). length (startedOffcuts job l ns)) e ∙ ap length copied-offcuts in
+          rw (b, n, o)
 
       pub copy-words : Holds buffer (placementWords (unfoldingOf ws counts .placements))
       copy-words = rw (← copied-placements, ← e) (g .words-given)
+
+      pub copy-list : offcutsSize ≤ length list → Holds list (offcutWords (lengths .first) (lengths .second) (offcutsFrom ws counts))
+      copy-list full = rw (← copied-offcuts, ← e) (g .offcuts-listed full)

@@ -1,4 +1,5 @@
--- Words past the last cut play no part: the unfolding of counts with more words behind them is that of the counts, with these words behind what is left.
+-- Words past the last cut play no part: the unfolding of counts with more words behind them is that of the counts, with these words behind what is left;
+-- and the same pieces are left over (request Two).
 use Prim.Native.Nat.{ℕ, zero, suc, _-_, _≤_, _<_}
 use native.Mathlib.Omega.{arith}
 use mathlib.Core.Path.{_≡_, refl, sym, _∙_, ap}
@@ -15,8 +16,10 @@ use Rattle.listing.specs.Listing.{Cut, Listing}
 use Rattle.plan.specs.Plan.{countOf, onPlate, boards}
 use Rattle.plan.proofs.PlanExact.{countOf-take}
 use Rattle.layouts.specs.Unfold.{State, search, spent, Step, placed, leftOver, idle, done, step, openBoard, Run, placing, run}
+use Rattle.layouts.specs.Offcuts.{Offcut, events, offcut, offcutsIn}
 use Rattle.layouts.proofs.machine.Search.{found-cut}
 use Rattle.layouts.proofs.machine.MachineSteps.{step-ends}
+use Rattle.layouts.proofs.offcuts.Steps.{offcuts-ended, offcuts-placed, offcuts-over, offcuts-open}
 use Rattle.unfold_step.proofs.Steps.{step-idle, step-over, step-cut, step-by, step-length, run-placed, run-over, run-open}
 
 search-longer : (j k : ℕ) (cs : List Cut) (ns zs : List ℕ) → length cs ≤ length ns → search j k cs (ns ++ zs) ≡ search j k cs ns
@@ -85,3 +88,28 @@ module _ (job : Job) (l : Listing) (zs : List ℕ) where
   unfolding run
   run-longer zero st h = refl
   run-longer (suc fuel) st h = by-step fuel st h (run-longer fuel) (step job l st) refl
+
+  -- what is left over, with one step more
+  module _ (fuel : ℕ) (st : State) (h : length (l .cuts) ≤ length (st .counts)) (rest : (st′ : State) → length (l .cuts) ≤ length (st′ .counts) → offcutsIn l (events fuel job l (longer st′)) ≡ offcutsIn l (events fuel job l st′)) where
+    over-by-boards : step job l st ≡ idle → (boards l (st .counts) ≤ 0) ⊎ (0 < boards l (st .counts)) → offcutsIn l (events (suc fuel) job l (longer st)) ≡ offcutsIn l (events (suc fuel) job l st)
+    unfolding openBoard
+    over-by-boards e (inl n) =
+        offcuts-ended job l (longer st) (step-longer st h ∙ ap longerStep e) (boards-longer st h ∙ omega arith) (suc fuel) ∙ sym (offcuts-ended job l st e (omega arith) (suc fuel))
+    over-by-boards e (inr n) =
+        offcuts-open job l (longer st) fuel (step-longer st h ∙ ap longerStep e) (rw (boards-longer st h) n) ∙ rest (openBoard st) h ∙ sym (offcuts-open job l st fuel e n)
+
+    over-by-step : (s : Step) → step job l st ≡ s → offcutsIn l (events (suc fuel) job l (longer st)) ≡ offcutsIn l (events (suc fuel) job l st)
+    over-by-step (placed p st′) e =
+        let n : length (st′ .counts) ≡ length (st .counts) = rw e at (step-length job l st) in
+        offcuts-placed job l (longer st) fuel p (longer st′) (step-longer st h ∙ ap longerStep e) ∙ rest st′ (omega arith) ∙ sym (offcuts-placed job l st fuel p st′ e)
+    over-by-step (leftOver p st′) e =
+        let n : length (st′ .counts) ≡ length (st .counts) = rw e at (step-length job l st) in
+        offcuts-over job l (longer st) fuel p (longer st′) (step-longer st h ∙ ap longerStep e)
+        ∙ ap (λ (os : List Offcut). offcut l (st .turn .board) p ∷ os) (rest st′ (omega arith))
+        ∙ sym (offcuts-over job l st fuel p st′ e)
+    over-by-step idle e = over-by-boards e (at-most-or-above (boards l (st .counts)) 0)
+
+  pub offcuts-longer : (fuel : ℕ) (st : State) → length (l .cuts) ≤ length (st .counts) → offcutsIn l (events fuel job l (longer st)) ≡ offcutsIn l (events fuel job l st)
+  unfolding events
+  offcuts-longer zero st h = refl
+  offcuts-longer (suc fuel) st h = over-by-step fuel st h (offcuts-longer fuel) (step job l st) refl

@@ -1,2 +1,3 @@
 -- The laws of this crate's code, on plain values.
 pub mod CodeRun
+pub mod CodeLeaving

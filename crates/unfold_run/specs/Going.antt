@@ -1,16 +1,18 @@
--- How far a run has come: what is written so far and what is left to do make the whole unfolding.
+-- How far a run has come: what is written so far and what is left to do make the whole unfolding, with its offcuts (request Two).
 use Prim.Native.Nat.{ℕ, suc, _-_, _≤_}
 use mathlib.Core.Path.{_≡_}
 use mathlib.Core.List.{List, _++_}
 use lib.ListN.{length}
-use Rattle.job.specs.Sizes.{maxPieces, placementsSize}
+use Rattle.job.specs.Sizes.{maxPieces, maxOffcuts, placementsSize, offcutsSize}
 use Rattle.job.specs.Job.{Job}
 use Rattle.listing.specs.Listing.{Listing}
 use Rattle.listing.specs.Holds.{Holds}
 use Rattle.plan.specs.Plan.{boards}
 use Rattle.layouts.specs.Placement.{turn, Placement, placementWords}
 use Rattle.layouts.specs.Unfold.{nothingWaits, State, Run, run}
+use Rattle.layouts.specs.Offcuts.{events, Offcut, offcutsIn, offcutWords}
 use Rattle.unfold_waiting.specs.Turns.{TurnTo, maxSteps}
+use Rattle.unfold_offcut.specs.declared.Lengths.{Lengths}
 use Rattle.unfold_step.specs.Meaning.{stateOf}
 use Rattle.unfold_step.specs.Ready.{Within}
 use Rattle.unfold_run.specs.declared.run.Progress.{Progress}
@@ -39,28 +41,50 @@ pub record Going (job : Job) (l : Listing) (whole : Run) (fuel : ℕ) (st : Stat
   pub few-items : length (whole .placements) ≤ maxPieces
   pub room : placementsSize ≤ length buffer
 
-module _ (job : Job) (l : Listing) (whole : Run) where
+-- `os` are the offcuts of the whole unfolding; of `n` pieces that are left over so far the list has the words, if it is of full size
+pub record Leaving (job : Job) (l : Listing) (lengths : Lengths) (os : List Offcut) (fuel : ℕ) (st : State) (n : ℕ) (list : List ℕ) : Type 0 where
+  -- the pieces left over so far
+  pub over : List Offcut
+  pub listed : offcutsSize ≤ length list → Holds list (offcutWords (lengths .first) (lengths .second) over)
+  pub as-many : length over ≡ n
+  -- they and those that the steps left leave over are all
+  pub to-come : over ++ offcutsIn l (events fuel job l st) ≡ os
+  -- there is room for all of them
+  pub few-offcuts : length os ≤ maxOffcuts
+
+module _ (job : Job) (l : Listing) (lengths : Lengths) (whole : Run) (os : List Offcut) where
   -- the same of the code's values, with the counts that are left
-  abbrev pub GoingAt : ℕ → Progress → List ℕ → List ℕ → Type 0
-  GoingAt fuel at ns buffer = Going job l whole fuel (stateOf (at .state) ns) (at .boards) (at .pieces) buffer
+  abbrev pub GoingAt : ℕ → Progress → List ℕ → List ℕ → List ℕ → Type 0
+  GoingAt fuel at ns buffer list =
+      Going job l whole fuel (stateOf (at .state) ns) (at .boards) (at .pieces) buffer × Leaving job l lengths os fuel (stateOf (at .state) ns) (at .offcuts) list
 
   -- after a step: the run goes on, or has ended where it stood
-  abbrev pub Advanced : ℕ → Progress → Advance → List ℕ → List ℕ → Type 0
-  Advanced fuel at (On next) ns buffer = GoingAt fuel next ns buffer
-  Advanced fuel at Ended ns buffer = GoingAt 0 at ns buffer
+  abbrev pub Advanced : ℕ → Progress → Advance → List ℕ → List ℕ → List ℕ → Type 0
+  Advanced fuel at (On next) ns buffer list = GoingAt fuel next ns buffer list
+  Advanced fuel at Ended ns buffer list = GoingAt 0 at ns buffer list
 
 -- some steps of some unfolding are left
-pub record GoesOn (job : Job) (l : Listing) (at : Progress) (ns buffer : List ℕ) : Type 0 where
+pub record GoesOn (job : Job) (l : Listing) (lengths : Lengths) (at : Progress) (ns buffer list : List ℕ) : Type 0 where
   pub whole : Run
+  pub os : List Offcut
   pub fuel : ℕ
-  pub going : GoingAt job l whole (suc fuel) at ns buffer
+  pub going : GoingAt job l lengths whole os (suc fuel) at ns buffer list
 
--- what a run gives: the boards, the pieces, and the words of the placements
-pub record Gives (whole : Run) (r : Ran) (buffer : List ℕ) : Type 0 where
+-- what a run gives: the boards, the pieces and the offcuts, the words of the placements, and in a list of full size the words of the offcuts
+pub record Gives (lengths : Lengths) (whole : Run) (os : List Offcut) (r : Ran) (buffer list : List ℕ) : Type 0 where
   pub boards-given : r .boards ≡ whole .last .turn .board
   pub pieces-given : r .pieces ≡ length (whole .placements)
+  pub offcuts-given : r .offcuts ≡ length os
   pub words-given : Holds buffer (placementWords (whole .placements))
+  pub offcuts-listed : offcutsSize ≤ length list → Holds list (offcutWords (lengths .first) (lengths .second) os)
 
--- the run of some counts, within the budget of steps
+-- before the first step
+abbrev pub startOf : List ℕ → State
+startOf ns = record { counts = ns; waiting = nothingWaits; turn = turn 0 0 0 0 }
+
+-- the run of some counts, within the budget of steps, and its offcuts
 abbrev pub started : Job → Listing → List ℕ → Run
-started job l ns = run maxSteps job l (record { counts = ns; waiting = nothingWaits; turn = turn 0 0 0 0 })
+started job l ns = run maxSteps job l (startOf ns)
+
+abbrev pub startedOffcuts : Job → Listing → List ℕ → List Offcut
+startedOffcuts job l ns = offcutsIn l (events maxSteps job l (startOf ns))

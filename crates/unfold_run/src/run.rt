@@ -1,29 +1,34 @@
 // The run of an unfolding: step after step, board after board, within a budget of steps.
 ghost use mathlib.Core.Path.{_≡_};
-ghost use mathlib.Core.List.{[]};
+ghost use mathlib.Core.List.{List, []};
 ghost use Prim.Native.Nat.{ℕ, suc, _-_, _≤_};
 ghost use lib.ListN.{length};
-ghost use Rattle.job.specs.Sizes.{maxPieces, placementsSize};
+ghost use Rattle.job.specs.Sizes.{maxPieces, maxOffcuts, placementsSize};
 ghost use Rattle.listing.specs.Holds.{Holds};
 ghost use Rattle.plan.specs.Plan.{boards as boardsOf};
 ghost use Rattle.layouts.specs.Unfold.{Run};
+ghost use Rattle.layouts.specs.Offcuts.{Offcut};
 ghost use Rattle.layouts.specs.Demand3.{J, L};
 ghost use Rattle.unfold_step.specs.Meaning.{spends};
 ghost use Rattle.unfold_step.specs.Ready.{ModelLent};
-ghost use Rattle.unfold_run.specs.Going.{GoingAt, GoesOn, Advanced, Gives, started};
+ghost use Rattle.unfold_run.specs.Going.{GoingAt, GoesOn, Advanced, Gives, started, startedOffcuts};
 use job::counters::CutNumber;
 use job::counters::PlateType;
 use placement::put_placement;
+use unfold_offcut::Lengths;
+use unfold_offcut::list_offcut;
+use unfold_offcut::offcut_of;
 use unfold_step::placements::placement_of;
 use unfold_step::state::State;
 use unfold_step::state::Step;
 use unfold_waiting::turn::MAX_STEPS;
 
-// Where a run stands: its state, the boards that are left to be opened, and the items placed.
+// Where a run stands: its state, the boards that are left to be opened, the items placed, and the pieces left over.
 pub struct Progress {
     pub state: State,
     pub boards: u16,
     pub pieces: u16,
+    pub offcuts: u16,
 }
 
 // What a step makes of a run: it goes on, or has ended.
@@ -32,10 +37,11 @@ pub enum Advance {
     Ended,
 }
 
-// The boards used and the items placed.
+// The boards used, the items placed, and the pieces left over.
 pub struct Ran {
     pub boards: u16,
     pub pieces: u16,
+    pub offcuts: u16,
 }
 
 // The boards that are left after a cut on a plate type.
@@ -57,16 +63,19 @@ impl Progress {
         plates: &[u16],
         cuts: &[u16],
         k: CutNumber,
+        lengths: Lengths,
         counts: &mut [u16],
         placements: &mut [u16],
+        offcuts: &mut [u16],
     ) -> Advance
         requires { ⌜ ModelLent (now job) (now plates) (now cuts) (k .0) ⌝ }
-        requires { ⌜ GoesOn (J (now job)) (L (now job)) self (now counts) (now placements) ⌝ }
-        ensures { λ r. ⌜ ((whole : Run) (fuel : ℕ) → GoingAt (J (now (job .entry))) (L (now (job .entry))) whole (suc fuel) self (now (counts .entry)) (now (placements .entry)) → Advanced (J (now (job .entry))) (L (now (job .entry))) whole fuel self r (now (counts .exit)) (now (placements .exit))) ⌝ }
+        requires { ⌜ GoesOn (J (now job)) (L (now job)) lengths self (now counts) (now placements) (now offcuts) ⌝ }
+        ensures { λ r. ⌜ ((whole : Run) (os : List Offcut) (fuel : ℕ) → GoingAt (J (now (job .entry))) (L (now (job .entry))) lengths whole os (suc fuel) self (now (counts .entry)) (now (placements .entry)) (now (offcuts .entry)) → Advanced (J (now (job .entry))) (L (now (job .entry))) lengths whole os fuel self r (now (counts .exit)) (now (placements .exit)) (now (offcuts .exit))) ⌝ }
     {
         let state = self.state;
         let boards = self.boards;
         let pieces = self.pieces;
+        let over = self.offcuts;
         match state.step(job, plates, cuts, k, counts) {
             Step::Placed(item, next) => {
                 put_placement(placements, pieces, placement_of(item));
@@ -75,13 +84,19 @@ impl Progress {
                     state: next,
                     boards: boards_after(boards, plate),
                     pieces: pieces + 1,
+                    offcuts: over,
                 })
             }
-            Step::LeftOver(_, next) => Advance::On(Progress {
-                state: next,
-                boards,
-                pieces,
-            }),
+            Step::LeftOver(piece, next) => {
+                let board = state.turn.board;
+                list_offcut(offcuts, over, offcut_of(plates, board, piece), lengths);
+                Advance::On(Progress {
+                    state: next,
+                    boards,
+                    pieces,
+                    offcuts: over + 1,
+                })
+            }
             Step::Idle => {
                 if boards == 0 {
                     return Advance::Ended;
@@ -90,39 +105,54 @@ impl Progress {
                     state: state.open_board(),
                     boards,
                     pieces,
+                    offcuts: over,
                 })
             }
         }
     }
 }
 
-// The whole unfolding of counts that open a number of boards.
+// The whole unfolding of counts that open a number of boards. Its offcuts are listed where the list is of full size; their number is given in any case.
 pub fn run(
     job: &[u16],
     plates: &[u16],
     cuts: &[u16],
     k: CutNumber,
+    lengths: Lengths,
     counts: &mut [u16],
     boards: u16,
     placements: &mut [u16],
+    offcuts: &mut [u16],
 ) -> Ran
     requires { ⌜ ModelLent (now job) (now plates) (now cuts) (k .0) ⌝ }
     requires { ⌜ (k .0 ≤ length (now counts)) × (boards ≡ boardsOf (L (now job)) (now counts)) ⌝ }
     requires { ⌜ (Holds (now placements) []) × (placementsSize ≤ length (now placements)) ⌝ }
-    requires { ⌜ length (started (J (now job)) (L (now job)) (now counts) .placements) ≤ maxPieces ⌝ }
-    ensures { λ r. ⌜ Gives (started (J (now (job .entry))) (L (now (job .entry))) (now (counts .entry))) r (now (placements .exit)) ⌝ }
+    requires { ⌜ (length (started (J (now job)) (L (now job)) (now counts) .placements) ≤ maxPieces) × (length (startedOffcuts (J (now job)) (L (now job)) (now counts)) ≤ maxOffcuts) ⌝ }
+    requires { ⌜ Holds (now offcuts) [] ⌝ }
+    ensures { λ r. ⌜ Gives lengths (started (J (now (job .entry))) (L (now (job .entry))) (now (counts .entry))) (startedOffcuts (J (now (job .entry))) (L (now (job .entry))) (now (counts .entry))) r (now (placements .exit)) (now (offcuts .exit)) ⌝ }
 {
     let mut at = Progress {
         state: State::start(),
         boards,
         pieces: 0,
+        offcuts: 0,
     };
     let mut fuel: u16 = MAX_STEPS;
     while 0 < fuel {
-        let Advance::On(next) = at.advance(job, plates, cuts, k, counts, placements) else {
+        let Advance::On(next) = at.advance(
+            job,
+            plates,
+            cuts,
+            k,
+            lengths,
+            counts,
+            placements,
+            offcuts,
+        ) else {
             return Ran {
                 boards: at.state.turn.board,
                 pieces: at.pieces,
+                offcuts: at.offcuts,
             };
         };
         at = next;
@@ -131,5 +161,6 @@ pub fn run(
     Ran {
         boards: at.state.turn.board,
         pieces: at.pieces,
+        offcuts: at.offcuts,
     }
 }

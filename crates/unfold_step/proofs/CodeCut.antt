@@ -51,7 +51,7 @@ module _ (ws plates cuts : List ℕ) (k : ℕ) (lent : ModelLent ws plates cuts 
   cuts-there = omega (arith, held-room (lent .cuts-held), cut-words-length (l .cuts), lent .cuts-number)
 
   -- and those of a plate type
-  plate-there : (j : ℕ) → j < length (l .plates) → RecordIn wordsOfPlate j plates
+  pub plate-there : (j : ℕ) → j < length (l .plates) → RecordIn wordsOfPlate j plates
   plate-there j h = omega (arith, held-room (lent .plates-held), plate-words-length (l .plates))
 
   module _ (ns : List ℕ) (c : ℕ) (p : Piece) (able : Cuttable job l ns c p) where

@@ -144,3 +144,13 @@ module _ (job : Job) (l : Listing) (m : Model job l) where
         step-by job l st (StepKeeps n) (λ _. tt)
         (λ u e f. record { within = taken-in (st .waiting) u e w .1; turns = record { board-to = omega arith; strip-to = omega arith; stack-to = omega arith; place-to = omega arith } })
         done-keeps
+
+  -- the piece that a step leaves over lies inside the board
+  abbrev OverIn : Step → Type 0
+  OverIn (placed p st′) = Unit {0}
+  OverIn (leftOver p st′) = InBoard job l p
+  OverIn idle = Unit {0}
+
+  pub over-in : (st : State) (p : Piece) (st′ : State) → Within job l (st .waiting) → step job l st ≡ leftOver p st′ → InBoard job l p
+  unfolding done
+  over-in st p st′ w e = rw e at (step-by job l st OverIn (λ _. tt) (λ u f _. taken-in (st .waiting) u f w .0) (λ _ _ _ _. tt))

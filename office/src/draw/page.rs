@@ -1,10 +1,12 @@
-//! All boards on one HTML page, with a table of the item types before them.
+//! All boards on one HTML page, with tables of the item types and of the usable offcuts before them.
 
-use super::svg::{board_file, colour, Drawing, STYLE};
+use super::svg::{board_file, colour, Board, Drawing, STYLE};
 use crate::answer::{Answer, Placement};
 use crate::columns::thousands;
 use crate::job::Job;
-use std::collections::HashMap;
+use crate::remains::{Offcut, Remains};
+use reference::Balance;
+use std::collections::{BTreeMap, HashMap};
 use std::fmt::Write;
 
 /// The page's own style; boards out of sight are not laid out until they are scrolled to.
@@ -20,65 +22,70 @@ svg { max-width: 100%; height: auto }
 ";
 
 /// The files of a drawing: a picture for each board, and the page.
-pub fn page(job: &Job, answer: &Answer) -> Vec<(String, String)> {
+pub fn page(job: &Job, answer: &Answer, remains: &Remains) -> Vec<(String, String)> {
     let drawing = Drawing::of(job);
-    let titles = titles(job, answer);
+    let titles = titles(answer, remains);
     let mut files = Vec::new();
     let mut page = String::from(HEAD);
     let _ = writeln!(
         page,
         "<svg class=\"board\" width=\"0\" height=\"0\" style=\"position: absolute\">{STYLE}</svg>"
     );
-    summary(&mut page, job, answer);
+    summary(&mut page, job, answer, remains);
     let [width, height] = drawing.size();
-    for (number, (title, placements)) in (1..).zip(titles.iter().zip(&answer.boards)) {
+    let boards = titles.iter().zip(&answer.boards).zip(&remains.boards);
+    for (number, ((title, placements), rest)) in (1..).zip(boards) {
+        let board = Board {
+            title,
+            placements,
+            offcuts: &rest.offcuts,
+        };
         let size = format!("contain-intrinsic-size: {width:.0}px {height:.0}px");
         let _ = writeln!(page, "<figure id=\"board-{number}\" style=\"{size}\">");
-        page.push_str(&drawing.board(title, placements, ""));
+        page.push_str(&drawing.board(&board, ""));
         page.push_str("</figure>\n");
-        files.push((
-            format!("board-{number}.svg"),
-            board_file(&drawing, title, placements),
-        ));
+        files.push((format!("board-{number}.svg"), board_file(&drawing, &board)));
     }
     page.push_str("</body></html>\n");
     files.push(("boards.html".into(), page));
     files
 }
 
-/// The title of each board: its pieces, the share of its area that they use, and the first board that
-/// is laid out alike.
-fn titles(job: &Job, answer: &Answer) -> Vec<String> {
+/// The title of each board: its pieces, what becomes of its area, and the first board that is laid
+/// out alike.
+fn titles(answer: &Answer, remains: &Remains) -> Vec<String> {
     let boards = answer.boards.len();
     let mut first: HashMap<&[Placement], usize> = HashMap::new();
     let mut titles = Vec::new();
-    for (number, placements) in (1..).zip(&answer.boards) {
+    for (number, (placements, rest)) in (1..).zip(answer.boards.iter().zip(&remains.boards)) {
         let alike = *first.entry(placements).or_insert(number);
         let alike = if alike < number {
-            format!(", as board {alike}")
+            format!("; as board {alike}")
         } else {
             String::new()
         };
         let pieces = counted(placements.len(), "piece");
-        let used = percent(used_area(job, placements), job.width * job.height);
+        let areas = shares(&rest.areas);
         titles.push(format!(
-            "Board {number} of {boards}: {pieces}, {used} used{alike}"
+            "Board {number} of {boards}: {pieces}; {areas}{alike}"
         ));
     }
     titles
 }
 
-/// The area that a board's items cover.
-fn used_area(job: &Job, placements: &[Placement]) -> usize {
-    let area = |placement: &Placement| {
-        let item = job.item(placement.item);
-        item.width * item.height
-    };
-    placements.iter().map(area).sum()
+/// What becomes of the area of a board, or of all boards, in per cent.
+fn shares(areas: &Balance) -> String {
+    let share = |part: u64| percent(part, areas.whole());
+    format!(
+        "yield {}, offcuts {}, waste {}",
+        share(areas.items),
+        share(areas.offcuts),
+        share(areas.waste)
+    )
 }
 
 /// A share in percent, with one decimal.
-fn percent(part: usize, whole: usize) -> String {
+fn percent(part: u64, whole: u64) -> String {
     format!("{:.1} %", 100.0 * part as f64 / whole as f64)
 }
 
@@ -88,15 +95,9 @@ fn counted(number: usize, thing: &str) -> String {
     format!("{} {thing}{plural}", thousands(number))
 }
 
-/// Boards, pieces and bound, and the table of item types.
-fn summary(page: &mut String, job: &Job, answer: &Answer) {
+/// Boards, pieces, areas and bound, and the tables of item types and of usable offcuts.
+fn summary(page: &mut String, job: &Job, answer: &Answer, remains: &Remains) {
     let boards = counted(answer.boards.len(), "board");
-    let area = job.width * job.height * answer.boards.len();
-    let used: usize = answer
-        .boards
-        .iter()
-        .map(|placements| used_area(job, placements))
-        .sum();
     let _ = writeln!(
         page,
         "<h1>{boards} of {} by {} mm, mode {}</h1>",
@@ -107,16 +108,17 @@ fn summary(page: &mut String, job: &Job, answer: &Answer) {
     let pieces = counted(answer.pieces(), "piece");
     let _ = writeln!(
         page,
-        "<p>{pieces}; {} of the boards' area is used, {} is waste or offcuts (hatched).",
-        percent(used, area),
-        percent(area - used, area)
+        "<p>{pieces}; of the boards' area: {}.",
+        shares(&remains.areas())
     );
     page.push_str(
         "Red lines are the edges of strips, dashed ones those of stacks; \
-         the number beside a strip is its height. A dark corner marks a turned item.</p>\n",
+         the number beside a strip is its height. A dark corner marks a turned item. \
+         Offcuts are shaded, usable ones darker and with their sides; waste is hatched.</p>\n",
     );
     let _ = writeln!(page, "<p>{}</p>", bound(answer));
     table(page, job, answer);
+    offcuts(page, remains);
 }
 
 /// The table of item types.
@@ -136,6 +138,35 @@ fn table(page: &mut String, job: &Job, answer: &Answer) {
         let cells = format!("{width}{height}<td>{turns}</td>{}", rest.concat());
         let fill = format!("style=\"background: {}\"", colour(item_type));
         let _ = writeln!(page, "<tr><td {fill}>{item_type}</td>{cells}</tr>");
+    }
+    page.push_str("</table>\n");
+}
+
+/// How many offcuts there are and how many are usable, and the table of these by their sides, the
+/// largest areas first.
+fn offcuts(page: &mut String, remains: &Remains) {
+    let mut sizes: BTreeMap<[usize; 2], usize> = BTreeMap::new();
+    for Offcut { width, height, .. } in remains.offcuts().filter(|offcut| offcut.usable) {
+        *sizes.entry([*width, *height]).or_default() += 1;
+    }
+    let all = counted(remains.offcuts().count(), "offcut");
+    let usable = thousands(sizes.values().sum());
+    let [first, second] = remains.lengths;
+    let _ = writeln!(
+        page,
+        "<p>{all}, {usable} usable: at least {first} wide and {second} high.</p>"
+    );
+    if sizes.is_empty() {
+        return;
+    }
+    let head = ["width", "height", "usable offcuts"];
+    let head = head.map(|name| format!("<th>{name}</th>")).concat();
+    let _ = writeln!(page, "<table><tr>{head}</tr>");
+    let mut sizes: Vec<_> = sizes.into_iter().collect();
+    sizes.sort_by_key(|([width, height], _)| std::cmp::Reverse(width * height));
+    for ([width, height], number) in sizes {
+        let cells = [width, height, number].map(|number| format!("<td>{number}</td>"));
+        let _ = writeln!(page, "<tr>{}</tr>", cells.concat());
     }
     page.push_str("</table>\n");
 }

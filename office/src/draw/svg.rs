@@ -1,10 +1,12 @@
-//! A board as an SVG picture: items with type and size, waste hatched, the edges of strips and stacks
-//! as lines, the sides of the board and the heights of strips beside it. Letters that do not fit are
-//! left out; each item also carries its data as a title, which browsers show under the pointer.
+//! A board as an SVG picture: items with type and size, offcuts shaded, the usable ones with their
+//! size, waste hatched, the edges of strips and stacks as lines, the sides of the board and the heights
+//! of strips beside it. Letters that do not fit are left out; each item and each offcut also carries its
+//! data as a title, which browsers show under the pointer.
 
 use super::label::{self, Area};
 use crate::answer::Placement;
 use crate::job::Job;
+use crate::remains::Offcut;
 use std::collections::BTreeMap;
 use std::fmt::Write;
 
@@ -28,6 +30,8 @@ const CORNER: f64 = 9.0;
 pub const STYLE: &str = "<style>
 .board text { font-family: Arial, Helvetica, \"DejaVu Sans\", sans-serif; text-anchor: middle; fill: #111 }
 .board .waste { fill: url(#hatching); stroke: #111; stroke-width: 1.5 }
+.board .offcut { fill: #f2f7ee; stroke: #7a9a6a; stroke-width: 1; stroke-dasharray: 2 2 }
+.board .usable { fill: #cfe6bf }
 .board .item { stroke: #333; stroke-width: 1 }
 .board .turned { fill: #333 }
 .board .strip { stroke: #b00020; stroke-width: 2 }
@@ -39,6 +43,13 @@ pub const STYLE: &str = "<style>
 <path d=\"M-2,2 L2,-2 M0,8 L8,0 M6,10 L10,6\" stroke=\"#bbb\" stroke-width=\"1\"/>
 </pattern></defs>
 ";
+
+/// What is drawn of a board: its title, its items and its offcuts.
+pub struct Board<'a> {
+    pub title: &'a str,
+    pub placements: &'a [Placement],
+    pub offcuts: &'a [Offcut],
+}
 
 /// A strip or stack: where it begins and ends across, and upwards.
 #[derive(Debug, Clone, Copy)]
@@ -64,8 +75,8 @@ impl<'a> Drawing<'a> {
         }
     }
 
-    /// The picture of a board under a title; `head` is the style, or nothing where the page has it.
-    pub fn board(&self, title: &str, placements: &[Placement], head: &str) -> String {
+    /// The picture of a board under its title; `head` is the style, or nothing where the page has it.
+    pub fn board(&self, board: &Board, head: &str) -> String {
         let [width, height] = self.size();
         let mut out = format!(
             "<svg class=\"board\" xmlns=\"http://www.w3.org/2000/svg\" \
@@ -77,11 +88,14 @@ impl<'a> Drawing<'a> {
             y: [0, self.job.height],
         };
         out.push_str(&self.rectangle(whole, "class=\"waste\"", ""));
-        for placement in placements {
+        for offcut in board.offcuts {
+            self.offcut(&mut out, offcut);
+        }
+        for placement in board.placements {
             self.item(&mut out, placement);
         }
-        self.edges(&mut out, placements);
-        self.sides(&mut out, title);
+        self.edges(&mut out, board.placements);
+        self.sides(&mut out, board.title);
         out.push_str("</svg>\n");
         out
     }
@@ -119,6 +133,31 @@ impl<'a> Drawing<'a> {
         match title {
             "" => format!("<rect {sides} {attributes}/>\n"),
             _ => format!("<rect {sides} {attributes}><title>{title}</title></rect>\n"),
+        }
+    }
+
+    /// An offcut, shaded; a usable one darker, and with its size.
+    fn offcut(&self, out: &mut String, offcut: &Offcut) {
+        let Offcut {
+            x,
+            y,
+            width,
+            height,
+            usable,
+        } = *offcut;
+        let span = Span {
+            x: [x, x + width],
+            y: [y, y + height],
+        };
+        let size = format!("{width} × {height}");
+        let (class, what) = match usable {
+            true => ("offcut usable", "usable offcut"),
+            false => ("offcut", "offcut"),
+        };
+        let title = format!("{what}, {size}, at x {x}, y {y}");
+        out.push_str(&self.rectangle(span, &format!("class=\"{class}\""), &title));
+        if usable {
+            label::write(out, self.area(span), &[size]);
         }
     }
 
@@ -259,8 +298,8 @@ impl<'a> Drawing<'a> {
 }
 
 /// The picture of one board as a file of its own.
-pub fn board_file(drawing: &Drawing, title: &str, placements: &[Placement]) -> String {
-    drawing.board(title, placements, STYLE)
+pub fn board_file(drawing: &Drawing, board: &Board) -> String {
+    drawing.board(board, STYLE)
 }
 
 /// A light colour for each item type; neighbouring types differ clearly.

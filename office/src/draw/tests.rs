@@ -4,12 +4,21 @@ use super::*;
 use crate::answer::Answer;
 use crate::columns::line;
 use crate::job::tests::{job, job_a, job_with_leave};
+use crate::job::Job;
+use crate::remains::{Remains, LEAST};
 
 const OUTPUT: &str = "7 1 1 1 1 1 0 0 0\n7 1 1 2 1 2 5 0 0\n7 1 2 1 1 2 0 4 0\n7 1 2 2 1 2 3 4 0\n7 2 1 1 1 1 0 0 0\n8 2 2 1 1\n";
 
+/// The files of a drawing, with two lengths.
+fn drawn(job: &Job, output: &str, lengths: [usize; 2]) -> Vec<(String, String)> {
+    let answer = Answer::read(output, job).unwrap();
+    let remains = Remains::of(job, &answer, lengths).unwrap();
+    page(job, &answer, &remains)
+}
+
 #[test]
 fn job_a_is_drawn() {
-    let files = page(&job_a(), &Answer::read(OUTPUT, &job_a()).unwrap());
+    let files = drawn(&job_a(), OUTPUT, LEAST);
     let names: Vec<&str> = files.iter().map(|(name, _)| name.as_str()).collect();
     assert_eq!(names, ["board-1.svg", "board-2.svg", "boards.html"]);
     let board = &files[0].1;
@@ -17,18 +26,50 @@ fn job_a_is_drawn() {
     assert_eq!(board.matches("class=\"strip\"").count(), 1);
     assert_eq!(board.matches("class=\"stack\"").count(), 4);
     assert!(board.contains("type 1, 5 × 4, at x 0, y 0"));
-    assert!(board.contains("Board 1 of 2: 4 pieces, 74.6 % used"));
+    let title = "Board 1 of 2: 4 pieces; yield 74.6 %, offcuts 14.3 %, waste 11.1 %";
+    assert!(board.contains(title));
+    assert!(files[1]
+        .1
+        .contains("1 piece; yield 31.7 %, offcuts 68.3 %, waste 0.0 %"));
     let page = &files[2].1;
     assert_eq!(page.matches("<figure").count(), 2);
     assert_eq!(page.matches("id=\"hatching\"").count(), 1);
     assert!(page.contains("No plan needs fewer boards"));
+    assert!(page.contains("of the boards' area: yield 53.2 %, offcuts 41.3 %, waste 5.6 %."));
+}
+
+#[test]
+fn offcuts_are_shaded_and_the_usable_ones_named() {
+    let files = drawn(&job_a(), OUTPUT, [4, 3]);
+    let [first, second, page] = [0, 1, 2].map(|file: usize| &files[file].1);
+    let marks = |text: &str| {
+        ["class=\"offcut\"", "class=\"offcut usable\""].map(|class| text.matches(class).count())
+    };
+    assert_eq!(
+        [first, second, page].map(|text| marks(text)),
+        [[1, 0], [0, 2], [1, 2]]
+    );
+    assert!(first.contains("<title>offcut, 3 × 3, at x 6, y 4</title>"));
+    assert!(second.contains("<title>usable offcut, 4 × 4, at x 5, y 0</title>"));
+    assert!(second.contains("<title>usable offcut, 9 × 3, at x 0, y 4</title>"));
+    // On board 1 three items of 3 × 3 have a label; the offcut of that size has none.
+    assert_eq!(first.matches(">3 × 3</tspan>").count(), 3);
+    assert_eq!(second.matches(">9 × 3</tspan>").count(), 1);
+    assert_eq!(second.matches(">4 × 4</tspan>").count(), 1);
+    assert!(page.contains("3 offcuts, 2 usable: at least 4 wide and 3 high."));
+    let row = |cells: [&str; 3]| cells.map(|cell| format!("<td>{cell}</td>")).concat();
+    let [nine, four] = [["9", "3", "1"], ["4", "4", "1"]].map(|cells| page.find(&row(cells)));
+    assert!(nine.unwrap() < four.unwrap());
+    assert!(!page.contains(&row(["3", "3", "1"])));
+    let none = &drawn(&job_a(), OUTPUT, [10, 10])[2].1;
+    assert_eq!((marks(none), none.matches("<table>").count()), ([3, 0], 1));
 }
 
 #[test]
 fn turned_items_are_marked_and_drawn_as_they_lie() {
     let job = job_with_leave("2N", [5, 5], &[[3, 5, 1, 1], [2, 2, 1, 1]]);
     let output = "7 1 1 1 1 1 0 0 1\n7 1 2 1 1 2 0 3 0\n8 1 0 1 0\n";
-    let files = page(&job, &Answer::read(output, &job).unwrap());
+    let files = drawn(&job, output, LEAST);
     let board = &files[0].1;
     assert_eq!(board.matches("class=\"item\"").count(), 2);
     assert_eq!(board.matches("class=\"turned\"").count(), 1);
@@ -43,7 +84,7 @@ fn turned_items_are_marked_and_drawn_as_they_lie() {
 
 #[test]
 fn every_tag_is_closed() {
-    let files = page(&job_a(), &Answer::read(OUTPUT, &job_a()).unwrap());
+    let files = drawn(&job_a(), OUTPUT, [4, 3]);
     for (name, text) in files {
         for tag in [
             "svg", "text", "tspan", "style", "defs", "pattern", "title", "figure", "table",
@@ -80,7 +121,7 @@ fn four_thousand(board: [usize; 2]) -> Vec<(String, String)> {
         ]);
     }
     output += &line(&[8, 4000 / (across * upwards), 0, 1, 0]);
-    page(&job, &Answer::read(&output, &job).unwrap())
+    drawn(&job, &output, LEAST)
 }
 
 #[test]
@@ -92,4 +133,17 @@ fn four_thousand_pieces_make_a_page_of_a_few_megabytes() {
         assert_eq!(page.matches("class=\"item\"").count(), 4000);
         assert!(page.len() < 5_000_000, "{} bytes", page.len());
     }
+}
+
+#[test]
+fn eight_thousand_offcuts_are_drawn() {
+    let job = job("2N", [2, 2], &[[1, 1, 4000]]);
+    let boards = (1..=4000).map(|board| line(&[7, board, 1, 1, 1, 1, 0, 0, 0]));
+    let output: String = boards.chain([line(&[8, 4000, 0, 1, 0])]).collect();
+    let files = drawn(&job, &output, [2, 1]);
+    let page = &files[4000].1;
+    assert_eq!(page.matches("class=\"offcut usable\"").count(), 4000);
+    assert_eq!(page.matches("class=\"offcut\"").count(), 4000);
+    assert!(page.contains("8,000 offcuts, 4,000 usable"));
+    assert!(page.contains("yield 25.0 %, offcuts 75.0 %, waste 0.0 %"));
 }

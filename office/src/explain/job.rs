@@ -43,6 +43,15 @@ pub fn demands(sent: &Sent) -> Option<Told> {
     })
 }
 
+/// Refusal 2, place 0, which no text meets: it is given for what the controller passes besides.
+pub fn passed() -> Told {
+    let fault = "one of the two lengths from which an offcut is usable, \
+                 or the board as the controller passed it, is outside its limits";
+    let cure = "No text causes this: set both lengths from 1 to 10,000; \
+                if it stays, tell the controller's engineers";
+    Told::new("place 0", fault, cure)
+}
+
 /// Refusal 5, which no text meets.
 pub fn buffer(place: usize) -> Told {
     let name = match place {
@@ -50,6 +59,7 @@ pub fn buffer(place: usize) -> Told {
         2 => "cuts",
         3 => "counts",
         4 => "placements",
+        5 => "offcuts",
         _ => "an unknown buffer",
     };
     let fault = format!("the controller lent too little room for {name}");

@@ -32,6 +32,7 @@ pub fn explain(text: &[u8], number: usize, place: usize) -> Result<String, Strin
     let sent = Sent::of(text);
     let told = match number {
         1 => form::form(&sent, place),
+        2 if place == 0 => Some(job::passed()),
         2 => form::value(&sent, place),
         3 => job::larger(&sent, place),
         4 => job::demands(&sent),

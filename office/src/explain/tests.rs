@@ -119,6 +119,12 @@ fn jobs_and_models() {
         ),
     ]);
     assert!(explain(b"", 5, 3).unwrap().contains("counts"));
+    assert!(explain(b"", 5, 5).unwrap().contains("offcuts"));
+    let lengths = explain(b"", 2, 0).unwrap();
+    assert!(
+        lengths.starts_with("Refusal 2, place 0: one of the two lengths"),
+        "{lengths}"
+    );
 }
 
 #[test]

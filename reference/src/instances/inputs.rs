@@ -5,7 +5,7 @@ use crate::buffers::COUNTS;
 use crate::folding;
 use crate::greedy;
 use crate::job::Job;
-use crate::layout::{placements, Placement};
+use crate::layout::{placements, Board, Placement};
 use crate::limits::DENOMINATOR;
 use crate::listing::{Listing, FULL};
 use crate::prices::Prices;
@@ -23,12 +23,21 @@ pub struct Inputs {
 }
 
 impl Inputs {
-    /// The inputs for a job, unless the job or its listing is refused.
+    /// The inputs for a job, unless the job or its listing is refused; boards are filled.
     pub fn of(words: &[u16]) -> Result<Inputs, Refusal> {
+        Inputs::with(words, greedy::set)
+    }
+
+    /// The same with each item on a board of its own, which leaves over as much as can be.
+    pub fn of_singles(words: &[u16]) -> Result<Inputs, Refusal> {
+        Inputs::with(words, greedy::singles)
+    }
+
+    fn with(words: &[u16], set: fn(&Job) -> Vec<Board>) -> Result<Inputs, Refusal> {
         let job = Job::from_words(words)?;
         job.admit()?;
         let listing = Listing::walk(&job, FULL)?;
-        let set = greedy::set(&job);
+        let set = set(&job);
         let mut counts = folding::fold(&job, &listing, &set);
         counts.resize(COUNTS.full_size, 0);
         let lines = placements(&job, &set);

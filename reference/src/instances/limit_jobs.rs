@@ -3,7 +3,7 @@
 
 use super::read::{lines, numbers, Instance};
 use super::{job_words, NamedJob};
-use crate::calls::{Listed, Unfolded};
+use crate::calls::Listed;
 use crate::listing::Limits;
 use crate::mode::Mode;
 use crate::refusal::Refusal;
@@ -15,7 +15,7 @@ pub struct LimitJob {
     /// The answer of the listing.
     pub listed: Result<Listed, Refusal>,
     /// The boards and pieces of the greedy plan, where the listing is not refused.
-    pub plan: Option<Unfolded>,
+    pub plan: Option<[u32; 2]>,
     /// The size that a walk without limits reaches, where the listing is refused.
     pub without_limits: Option<Listed>,
 }
@@ -76,7 +76,6 @@ fn read(text: &str) -> Vec<LimitJob> {
 impl Lines {
     fn job(self) -> LimitJob {
         let listed = |[residuals, cuts]: [u32; 2]| Listed { residuals, cuts };
-        let unfolded = |[boards, pieces]: [u32; 2]| Unfolded { boards, pieces };
         let [number, place] = self.refusal.unwrap_or_default();
         let board = self.instance.boards().next().expect("a job has a board");
         let mode = self.mode.expect("a job has a mode");
@@ -86,7 +85,7 @@ impl Lines {
                 name: format!("limits {}", self.instance.name),
             },
             listed: self.listing.map(listed).ok_or(Refusal { number, place }),
-            plan: self.plan.map(unfolded),
+            plan: self.plan,
             without_limits: self.without.map(listed),
         }
     }

@@ -1,6 +1,7 @@
 //! Published instances: the tables transcribed in `data/`, each object size as a board, as jobs
 //! with names; and what the five calls need to be run on each of them.
 
+pub mod areas;
 pub mod inputs;
 pub mod leave;
 pub mod limit_jobs;

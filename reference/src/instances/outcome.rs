@@ -1,9 +1,10 @@
 //! What the five calls answer on a job and its inputs.
 
 use super::inputs::Inputs;
-use crate::buffers::{COUNTS, CUTS, PLACEMENTS, PLATES};
+use crate::buffers::{COUNTS, CUTS, OFFCUTS, PLACEMENTS, PLATES};
 use crate::calls::{fold, list, test_plan, test_prices, unfold, Listed, Unfolded};
 use crate::layout::PLACEMENT_NUMBERS;
+use crate::offcut::OFFCUT_NUMBERS;
 use crate::prices::Bound;
 use crate::refusal::Refusal;
 
@@ -15,23 +16,36 @@ pub struct Outcome {
     pub boards: u32,
     pub bound: Bound,
     pub unfolded: Unfolded,
-    /// The placements that unfolding wrote.
+    /// The placements and the offcuts that unfolding wrote.
     pub placements: Vec<u16>,
+    pub offcuts: Vec<u16>,
     /// The boards of the unfolded plan, and the counts that folding it gives.
     pub folded: u32,
     pub counts: Vec<u16>,
 }
 
+/// The lengths with which plans are unfolded: every offcut reaches them.
+pub const LENGTHS: [u16; 2] = [1, 1];
+
 /// Runs the five calls: the layouts of the inputs give the plan, which is unfolded, and what
 /// unfolding wrote is folded.
 pub fn of(job: &[u16], inputs: &Inputs) -> Result<Outcome, Refusal> {
-    let [mut plates, mut cuts, mut counts, mut placements] =
-        [PLATES, CUTS, COUNTS, PLACEMENTS].map(|kind| vec![0; kind.full_size]);
+    let [mut plates, mut cuts, mut counts, mut placements, mut offcuts] =
+        [PLATES, CUTS, COUNTS, PLACEMENTS, OFFCUTS].map(|kind| vec![0; kind.full_size]);
     let listed = list(job, &mut plates, &mut cuts)?;
     let boards = test_plan(job, &inputs.counts, &mut plates, &mut cuts)?;
     let bound = test_prices(job, &inputs.prices, &mut plates, &mut cuts)?;
-    let unfolded = unfold(job, &inputs.counts, &mut plates, &mut cuts, &mut placements)?;
+    let unfolded = unfold(
+        job,
+        &inputs.counts,
+        LENGTHS,
+        &mut plates,
+        &mut cuts,
+        &mut placements,
+        &mut offcuts,
+    )?;
     placements.truncate(PLACEMENT_NUMBERS * unfolded.pieces as usize);
+    offcuts.truncate(OFFCUT_NUMBERS * unfolded.offcuts as usize);
     let folded = fold(job, &placements, &mut plates, &mut cuts, &mut counts)?;
     Ok(Outcome {
         listed,
@@ -39,6 +53,7 @@ pub fn of(job: &[u16], inputs: &Inputs) -> Result<Outcome, Refusal> {
         bound,
         unfolded,
         placements,
+        offcuts,
         folded,
         counts,
     })

@@ -1,6 +1,7 @@
 //! The tables of `docs/INSTANCES.md` and `docs/INSTANCES-004.md`: what the calls answer on every
 //! published instance.
 
+use super::areas;
 use super::inputs::Inputs;
 use super::leave;
 use super::limit_jobs::limit_jobs;
@@ -47,6 +48,7 @@ pub fn documents() -> [Document; 2] {
         document.push_str(&section(source, rows));
     }
     let sources: Vec<&Source> = tables.iter().map(|(source, _)| source).collect();
+    first.push_str(&areas::section(&sources));
     first.push_str(&leave::section(&sources));
     first.push_str(&limits());
     [("INSTANCES.md", first), ("INSTANCES-004.md", second)]
@@ -146,8 +148,8 @@ From [data/limits](../data/limits/README.md). Listing: residual types and cuts; 
             (Err(refusal), None) => format!("refused {}", refusal.number),
             (Err(refusal), Some(past)) => format!("refused {}: {}", refusal.number, size(past)),
         };
-        let plan = limit.plan.map_or("-".to_string(), |plan| {
-            format!("{}, {}", plan.boards, plan.pieces)
+        let plan = limit.plan.map_or("-".to_string(), |[boards, pieces]| {
+            format!("{boards}, {pieces}")
         });
         writeln!(
             text,

@@ -2,7 +2,9 @@
 //! 01, "Where each number is given").
 
 use crate::common::jobs::{job, job_a, PLAN_A, PRICES_A};
-use crate::common::lent::{full_counts, holds, junk, COUNTS, CUTS, PLACEMENTS, PLATES};
+use crate::common::lent::{
+    full_counts, holds, junk, COUNTS, CUTS, LEAST, OFFCUTS, PLACEMENTS, PLATES,
+};
 use crate::common::plain;
 use crate::common::refused;
 use reference::{Mode, Refusal};
@@ -15,8 +17,11 @@ const LINES: [[u16; 8]; 5] = [
     [2, 1, 1, 1, 1, 0, 0, 0],
 ];
 
-/// The full sizes in the order that 5 names: plates, cuts, counts, placements.
-const FULL: [usize; 4] = [PLATES, CUTS, COUNTS, PLACEMENTS];
+/// The offcuts of the same plan, all of them usable with the least lengths.
+const LEFT_OVER: [[u16; 6]; 3] = [[1, 6, 4, 3, 3, 1], [2, 5, 0, 4, 4, 1], [2, 0, 4, 9, 3, 1]];
+
+/// The full sizes in the order that 5 names: plates, cuts, counts, placements, offcuts.
+const FULL: [usize; 5] = [PLATES, CUTS, COUNTS, PLACEMENTS, OFFCUTS];
 
 #[derive(Debug, Clone, Copy, PartialEq)]
 enum Call {
@@ -36,46 +41,50 @@ const CALLS: [Call; 5] = [
 ];
 
 impl Call {
-    /// Whether the call has each of the four buffers, lent or passed in.
-    fn has(self) -> [bool; 4] {
+    /// Whether the call has each of the five buffers, lent or passed in.
+    fn has(self) -> [bool; 5] {
         match self {
-            Call::List | Call::TestPrices => [true, true, false, false],
-            Call::TestPlan | Call::Fold => [true, true, true, false],
-            Call::Unfold => [true, true, true, true],
+            Call::List | Call::TestPrices => [true, true, false, false, false],
+            Call::TestPlan | Call::Fold => [true, true, true, false, false],
+            Call::Unfold => [true; 5],
         }
     }
 
     /// Makes the call on job words with its good input and these buffers; counts passed in are
     /// the plan, counts lent are the buffer.
-    fn make(self, job: &[u16], buffers: &mut [Vec<u16>; 4]) -> Result<(), Refusal> {
-        let [plates, cuts, counts, placements] = buffers;
+    fn make(self, job: &[u16], buffers: &mut [Vec<u16>; 5]) -> Result<(), Refusal> {
+        let [plates, cuts, counts, placements, offcuts] = buffers;
         let mut plan = full_counts(&PLAN_A);
         plan.resize(counts.len(), 0);
         match self {
             Call::List => reference::list(job, plates, cuts).map(|_| ()),
             Call::TestPlan => reference::test_plan(job, &plan, plates, cuts).map(|_| ()),
             Call::TestPrices => reference::test_prices(job, &PRICES_A, plates, cuts).map(|_| ()),
-            Call::Unfold => reference::unfold(job, &plan, plates, cuts, placements).map(|_| ()),
+            Call::Unfold => {
+                reference::unfold(job, &plan, LEAST, plates, cuts, placements, offcuts).map(|_| ())
+            }
             Call::Fold => reference::fold(job, &LINES.concat(), plates, cuts, counts).map(|_| ()),
         }
     }
 
     /// What the buffers that the call is lent hold after success; none where it is lent none.
-    fn contents(self) -> [Option<Vec<u16>>; 4] {
+    fn contents(self) -> [Option<Vec<u16>>; 5] {
         let (plates, cuts) = plain::listing(&job_a());
         let counts = (self == Call::Fold).then(|| PLAN_A.to_vec());
         let placements = (self == Call::Unfold).then(|| LINES.concat());
+        let offcuts = (self == Call::Unfold).then(|| LEFT_OVER.concat());
         [
             Some(plates.concat()),
             Some(cuts.concat()),
             counts,
             placements,
+            offcuts,
         ]
     }
 }
 
 /// Buffers of junk, each so much longer or shorter than its full size.
-fn buffers(differences: [isize; 4]) -> [Vec<u16>; 4] {
+fn buffers(differences: [isize; 5]) -> [Vec<u16>; 5] {
     std::array::from_fn(|index| junk(FULL[index].checked_add_signed(differences[index]).unwrap()))
 }
 
@@ -83,7 +92,7 @@ fn buffers(differences: [isize; 4]) -> [Vec<u16>; 4] {
 fn exact_and_longer_buffers_hold_the_contents_and_0_to_the_end() {
     for call in CALLS {
         for longer in [0, 1, 1_000] {
-            let mut buffers = buffers([longer; 4]);
+            let mut buffers = buffers([longer; 5]);
             assert_eq!(call.make(&job_a(), &mut buffers), Ok(()));
             for (buffer, contents) in buffers.iter().zip(call.contents()) {
                 match contents {
@@ -98,9 +107,9 @@ fn exact_and_longer_buffers_hold_the_contents_and_0_to_the_end() {
 #[test]
 fn one_word_short_is_5_naming_the_buffer_and_changing_nothing() {
     for call in CALLS {
-        for short in 0..4 {
+        for short in 0..5 {
             for longer in [0, 3] {
-                let mut differences = [longer; 4];
+                let mut differences = [longer; 5];
                 differences[short] = -1;
                 let before = buffers(differences);
                 let mut after = before.clone();
@@ -119,11 +128,11 @@ fn one_word_short_is_5_naming_the_buffer_and_changing_nothing() {
 #[test]
 fn the_first_short_buffer_is_named() {
     for call in CALLS {
-        for pattern in 1..16 {
+        for pattern in 1..32 {
             let differences = std::array::from_fn(|index| -(pattern >> index & 1));
             let mut after = buffers(differences);
             let has = call.has();
-            let first = (0..4).find(|&index| has[index] && differences[index] < 0);
+            let first = (0..5).find(|&index| has[index] && differences[index] < 0);
             let answer = match first {
                 Some(index) => refused(5, index as u32 + 1),
                 None => Ok(()),
@@ -140,7 +149,7 @@ fn the_first_short_buffer_is_named() {
 #[test]
 fn empty_buffers_are_short() {
     for call in CALLS {
-        let mut empty = [vec![], vec![], vec![], vec![]];
+        let mut empty = [const { Vec::new() }; 5];
         assert_eq!(call.make(&job_a(), &mut empty), refused(5, 1));
     }
 }
@@ -166,7 +175,7 @@ fn refused_jobs() -> Vec<(Vec<u16>, [u32; 5])> {
 fn after_any_other_refusal_every_word_is_0() {
     for (words, numbers) in refused_jobs() {
         for (call, number) in CALLS.into_iter().zip(numbers) {
-            let mut after = buffers([2, 0, 1, 3]);
+            let mut after = buffers([2, 0, 1, 3, 4]);
             let answer = call.make(&words, &mut after);
             let found = answer.map_or_else(|refusal| refusal.number, |()| 0);
             assert_eq!(found, number, "{call:?}");
@@ -185,7 +194,7 @@ fn after_any_other_refusal_every_word_is_0() {
 
 #[test]
 fn old_contents_have_no_influence() {
-    let mut used = buffers([0; 4]);
+    let mut used = buffers([0; 5]);
     let other = job(Mode::ThreeNonExact, [30, 30], &[[3, 5, 1], [7, 4, 1]]);
     for call in CALLS {
         let [plates, cuts, ..] = &mut used;
@@ -199,9 +208,10 @@ fn old_contents_have_no_influence() {
 
 #[test]
 fn counts_passed_in_are_not_spent() {
-    let [mut plates, mut cuts, _, mut placements] = buffers([0; 4]);
+    let mut lent = buffers([0; 5]);
     let counts = full_counts(&PLAN_A);
     let kept = counts.clone();
-    reference::unfold(&job_a(), &counts, &mut plates, &mut cuts, &mut placements).unwrap();
+    let [plates, cuts, _, placements, offcuts] = &mut lent;
+    reference::unfold(&job_a(), &counts, LEAST, plates, cuts, placements, offcuts).unwrap();
     assert_eq!(counts, kept);
 }

@@ -50,6 +50,7 @@ fn b_its_plan_opens_2_boards() {
     let unfolded = Unfolded {
         boards: 2,
         pieces: 5,
+        offcuts: 3,
     };
     assert_eq!(Lent::new().unfold(&job_a(), &PLAN_A), Ok(unfolded));
 }
@@ -136,6 +137,7 @@ fn l_job_b_lies_on_one_board() {
     let unfolded = Unfolded {
         boards: 1,
         pieces: 3,
+        offcuts: 0,
     };
     assert_eq!(lent.unfold(&job_b(), &counts), Ok(unfolded));
     let lines = [

@@ -110,6 +110,7 @@ fn the_6_by_6_example_needs_three_boards() {
     let unfolded = Unfolded {
         boards: 3,
         pieces: 10,
+        offcuts: 3,
     };
     assert_eq!(lent.unfold(&example(), &SOLUTION), Ok(unfolded));
     let lines = [

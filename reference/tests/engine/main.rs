@@ -3,6 +3,7 @@
 mod common;
 
 mod agreement;
+mod area_balance;
 mod buffers;
 mod cases;
 mod demand3_folding;
@@ -21,6 +22,7 @@ mod limits_texts;
 mod limits_values;
 mod model;
 mod numbers;
+mod offcuts;
 mod order;
 mod plan;
 mod prices;

@@ -3,7 +3,9 @@
 
 use crate::common::check;
 use crate::common::jobs::{job, random_job, words_of};
-use crate::common::lent::{full_counts, junk, Lent, COUNTS, CUTS, PLACEMENTS, PLATES};
+use crate::common::lent::{
+    full_counts, junk, Lent, COUNTS, CUTS, LEAST, OFFCUTS, PLACEMENTS, PLATES,
+};
 use crate::common::plain;
 use crate::common::plans::random_plan;
 use crate::common::prices::{area_prices, words_of as price_words};
@@ -121,7 +123,8 @@ fn plan_test_and_unfolding_give_1_to_8_and_10_to_12() {
         tests.meet(lent.test_plan(&words, &[]));
         unfoldings.meet(lent.unfold(&words, &[]));
         tests.meet(reference::test_plan(&words, &[], &mut [], &mut []));
-        unfoldings.meet(reference::unfold(&words, &[], &mut [], &mut [], &mut []));
+        let answer = reference::unfold(&words, &[], LEAST, &mut [], &mut [], &mut [], &mut []);
+        unfoldings.meet(answer);
     }
     tests.assert(&[0, 1, 2, 3, 4, 5, 6, 7, 8, 10, 11, 12]);
     unfoldings.assert(&[0, 1, 2, 3, 4, 5, 6, 7, 8, 10, 11, 12]);
@@ -252,13 +255,16 @@ fn words_of_any_content_end_every_call() {
         let length = random.below(60);
         let words: Vec<u16> = (0..length).map(|_| random.between(0, 65_535)).collect();
         let [mut plates, mut cuts] = [junk(PLATES), junk(CUTS)];
-        let [mut counts, mut placements] = [junk(COUNTS), junk(PLACEMENTS)];
+        let mut counts = junk(COUNTS);
+        let [mut placements, mut offcuts] = [junk(PLACEMENTS), junk(OFFCUTS)];
+        let lengths = [0; 2].map(|_| random.between(0, 65_535));
         let full = full_counts(&words);
         assert!(reference::list(&words, &mut plates, &mut cuts).is_err());
         let good = job(Mode::ThreeExact, [9, 9], &[[3, 3, 1]]);
         let _ = reference::test_plan(&good, &full, &mut plates, &mut cuts);
         let _ = reference::test_prices(&good, &words, &mut plates, &mut cuts);
-        let _ = reference::unfold(&good, &full, &mut plates, &mut cuts, &mut placements);
+        let [lent, last] = [&mut placements, &mut offcuts];
+        let _ = reference::unfold(&good, &full, lengths, &mut plates, &mut cuts, lent, last);
         let _ = reference::fold(&good, &words, &mut plates, &mut cuts, &mut counts);
     }
 }

@@ -2,7 +2,9 @@
 //! table): rows from the top, in a row lower numbers first, each over all its places.
 
 use crate::common::jobs::{job, job_a, PRICES_A};
-use crate::common::lent::{full_counts, junk, Lent, COUNTS, CUTS, PLACEMENTS, PLATES};
+use crate::common::lent::{
+    full_counts, junk, Lent, COUNTS, CUTS, LEAST, OFFCUTS, PLACEMENTS, PLATES,
+};
 use crate::common::refused;
 use crate::common::texts::{assert_text, job_text, lines, refusal};
 use reference::{fold_text, Mode};
@@ -93,16 +95,18 @@ fn cut_short_goes_before_a_value_in_words_but_not_in_a_text() {
 fn a_refused_job_empties_buffers_of_any_length() {
     for length in [0, 1, 5, PLATES - 1] {
         let [mut plates, mut cuts] = [junk(length), junk(2 * length)];
-        let [mut counts, mut placements] = [junk(length + 3), junk(length + 4)];
+        let mut counts = junk(length + 3);
+        let [mut placements, mut offcuts] = [junk(length + 4), junk(length + 5)];
         let words = too_large();
         let passed = junk(length);
         let answer = reference::list(&words, &mut plates, &mut cuts);
         assert_eq!(answer, refused(3, 2));
-        let answer = reference::unfold(&words, &passed, &mut plates, &mut cuts, &mut placements);
+        let [lent, last] = [&mut placements, &mut offcuts];
+        let answer = reference::unfold(&words, &passed, LEAST, &mut plates, &mut cuts, lent, last);
         assert_eq!(answer, refused(3, 2));
         let answer = reference::fold(&words, &GOOD, &mut plates, &mut cuts, &mut counts);
         assert_eq!(answer, refused(3, 2));
-        for buffer in [&plates, &cuts, &counts, &placements] {
+        for buffer in [&plates, &cuts, &counts, &placements, &offcuts] {
             assert!(buffer.iter().all(|&word| word == 0));
         }
         assert_eq!(passed, junk(length));
@@ -113,11 +117,13 @@ fn a_refused_job_empties_buffers_of_any_length() {
 fn buffers_stand_after_the_job_row_and_before_the_model() {
     let words = too_many_plates();
     let [mut plates, mut cuts] = [junk(PLATES), junk(CUTS)];
-    let [mut counts, mut placements] = [junk(COUNTS), junk(PLACEMENTS)];
+    let mut counts = junk(COUNTS);
+    let [mut placements, mut offcuts] = [junk(PLACEMENTS), junk(OFFCUTS)];
     let short = vec![0; COUNTS - 1];
     let answer = reference::test_plan(&words, &short, &mut plates, &mut cuts);
     assert_eq!(answer, refused(5, 3));
-    let answer = reference::unfold(&words, &short, &mut plates, &mut cuts, &mut placements[1..]);
+    let [lent, last] = [&mut placements[1..], &mut offcuts[1..]];
+    let answer = reference::unfold(&words, &short, LEAST, &mut plates, &mut cuts, lent, last);
     assert_eq!(answer, refused(5, 3));
     let answer = reference::fold(&words, &GOOD, &mut plates, &mut cuts, &mut counts[1..]);
     assert_eq!(answer, refused(5, 3));

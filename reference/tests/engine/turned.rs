@@ -143,6 +143,7 @@ fn words_and_lines_end_with_the_turn() {
     let unfolded = Unfolded {
         boards: 1,
         pieces: 1,
+        offcuts: 0,
     };
     assert_eq!(lent.unfold(&words, &[1]), Ok(unfolded));
     assert_eq!(lent.placements[..8], [1, 1, 1, 1, 1, 0, 0, 1]);

@@ -1,5 +1,6 @@
 //! The five calls and the two texts on every published instance in every mode.
 
+use reference::instances::areas::balances;
 use reference::instances::inputs::Inputs;
 use reference::instances::outcome::{self, Outcome};
 use reference::instances::{job_words_with, jobs, sources, texts, NamedJob};
@@ -33,6 +34,21 @@ pub fn assert_agreement(job: &NamedJob, inputs: &Inputs, found: &Outcome) {
         assert!(set.iter().all(kept), "{name}");
     }
     assert!(found.bound.sum <= found.boards * found.bound.d, "{name}");
+    assert_balance(job, &structured, found);
+}
+
+/// Asserts that items, offcuts and waste of each board make the board, and that the offcuts are
+/// those that unfolding wrote.
+fn assert_balance(job: &NamedJob, structured: &Job, found: &Outcome) {
+    let name = &job.name;
+    let whole = u64::from(structured.width) * u64::from(structured.height);
+    let mut left_over = vec![0; found.boards as usize];
+    for offcut in found.offcuts.chunks(6) {
+        left_over[usize::from(offcut[0]) - 1] += u64::from(offcut[3]) * u64::from(offcut[4]);
+    }
+    for (board, offcuts) in balances(&job.words).unwrap().iter().zip(left_over) {
+        assert_eq!((board.whole(), board.offcuts), (whole, offcuts), "{name}");
+    }
 }
 
 /// Asserts that the texts answer as the calls do.

@@ -25,16 +25,25 @@ fn mode(limit: &LimitJob) -> Mode {
 fn refusals(job: &[u16]) -> [Option<Refusal>; 5] {
     let mut plates = vec![7; 6_144];
     let mut cuts = vec![7; 32_768];
-    let mut lent = vec![7; 32_000];
+    let [mut lent, mut last] = [vec![7; 32_000], vec![7; 48_000]];
     let counts = vec![0; 8_192];
     let answers = [
         reference::list(job, &mut plates, &mut cuts).err(),
         reference::test_plan(job, &counts, &mut plates, &mut cuts).err(),
         reference::test_prices(job, &[1], &mut plates, &mut cuts).err(),
-        reference::unfold(job, &counts, &mut plates, &mut cuts, &mut lent).err(),
+        reference::unfold(
+            job,
+            &counts,
+            [1, 1],
+            &mut plates,
+            &mut cuts,
+            &mut lent,
+            &mut last,
+        )
+        .err(),
         reference::fold(job, &[], &mut plates, &mut cuts, &mut lent).err(),
     ];
-    let words = plates.iter().chain(&cuts).chain(&lent);
+    let words = plates.iter().chain(&cuts).chain(&lent).chain(&last);
     assert!(words.into_iter().all(|&word| word == 0));
     answers
 }
@@ -49,7 +58,7 @@ fn jobs_at_the_limits_are_listed_planned_and_unfolded() {
         let inputs = Inputs::of(&job.words).unwrap();
         let found = outcome::of(&job.words, &inputs).unwrap();
         assert_eq!(
-            (found.listed, found.unfolded),
+            (found.listed, [found.unfolded.boards, found.unfolded.pieces]),
             (listed, plan),
             "{}",
             job.name

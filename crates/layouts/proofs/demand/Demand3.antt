@@ -7,8 +7,8 @@ use mathlib.Core.Bool.{Bool, true, false}
 use mathlib.Core.List.{List}
 use lib.Dec.{ltb}
 use lib.ListN.{length}
-use Rattle.job.specs.Verdict.{Verdict, pass, _then_, refuseIf}
-use Rattle.job.specs.Buffers.{sized, platesSize, cutsSize, countsSize, placementsSize}
+use Rattle.job.specs.Verdict.{Verdict, pass, refuse, _then_, refuseIf}
+use Rattle.job.specs.Buffers.{sized, platesSize, cutsSize, countsSize, placementsSize, offcutsSize}
 use Rattle.job.specs.Job.{jobWords, admission}
 use Rattle.job.specs.Admitted.{Admitted, Sided}
 use Rattle.job.proofs.Verdicts.{then-first, then-second, then-both}
@@ -23,7 +23,7 @@ use Rattle.layouts.specs.Layout.{Board, widthOf, stackHeight}
 use Rattle.layouts.specs.Placement.{placementWords, linesOf, itemsOfSet}
 use Rattle.layouts.specs.Lines.{linesIn, rowsOf, layoutWords, setOf}
 use Rattle.layouts.specs.LayoutsRow.{layoutsRow}
-use Rattle.layouts.specs.UnfoldCall.{unfoldVerdict}
+use Rattle.layouts.specs.UnfoldCall.{lengthsRight, lengthsRow, unfoldVerdict}
 use Rattle.layouts.specs.FoldCall.{foldVerdict}
 use Rattle.layouts.specs.Demand3.{Listed, OnlyFive, Accepted, Named, Priced, Folds, Bounds, J, L, Demand3Of, Demand3}
 use Rattle.layouts.proofs.lists.Every.{every-map}
@@ -45,6 +45,11 @@ five-sized number size buffer v h = go (ltb (length buffer) size)
     go : (t : Bool) → OnlyFive (refuseIf t 5 number then v)
     go true = inr (number, refl)
     go false = h
+
+-- two lengths within their limits pass
+lengths-pass : (first second : ℕ) → lengthsRight first second ≡ true → lengthsRow first second ≡ pass
+unfolding lengthsRow
+lengths-pass first second h = rw h
 
 module _ (ws : List ℕ) (listed : Listed ws) where
   rest : (admission (J ws) then modelRow (J ws)) ≡ pass
@@ -72,16 +77,24 @@ module _ (ws : List ℕ) (listed : Listed ws) where
   folds set named =
       folds-so (J ws) (L ws) model sided (admitted .width-limits .1) (admitted .height-limits .1) set named
 
-  unfolds-but-for-five : (counts : List ℕ) → Accepted (J ws) (L ws) counts → (plates cuts placements : List ℕ) → OnlyFive (unfoldVerdict ws counts plates cuts placements)
+  unfolds-but-for-five : (counts : List ℕ) → Accepted (J ws) (L ws) counts → (first second : ℕ) → lengthsRight first second ≡ true → (plates cuts placements offcuts : List ℕ)
+      → OnlyFive (unfoldVerdict ws first second counts plates cuts placements offcuts)
   unfolding unfoldVerdict
-  unfolds-but-for-five counts plan plates cuts placements =
+  unfolds-but-for-five counts plan first second h plates cuts placements offcuts =
       five-after (jobWords ws) _ words
+      (five-after (lengthsRow first second) _ (lengths-pass first second h)
       (five-after (admission (J ws)) _ fits
       (five-sized 1 platesSize plates _
       (five-sized 2 cutsSize cuts _
       (five-sized 3 countsSize counts _
       (five-sized 4 placementsSize placements _
-      (five-after (modelRow (J ws)) _ row (inl (plan .passed))))))))
+      (five-sized 5 offcutsSize offcuts _
+      (five-after (modelRow (J ws)) _ row (inl (plan .passed))))))))))
+
+  lengths-refused : (first second : ℕ) → lengthsRight first second ≡ false → (counts plates cuts placements offcuts : List ℕ)
+      → unfoldVerdict ws first second counts plates cuts placements offcuts ≡ refuse 2 0
+  unfolding unfoldVerdict lengthsRow
+  lengths-refused first second h counts plates cuts placements offcuts = rw (words, h)
 
   folds-but-for-five : (set : List Board) → Named (J ws) (L ws) set → (plates cuts counts : List ℕ) → OnlyFive (foldVerdict ws (placementWords (linesOf (J ws) set)) plates cuts counts)
   unfolding foldVerdict
@@ -125,6 +138,7 @@ module _ (ws : List ℕ) (listed : Listed ws) where
       record {
         unfolds = λ counts plan. unfolds-so (J ws) (L ws) model sided counts plan;
         unfolds-but-for-five = unfolds-but-for-five;
+        lengths-refused = lengths-refused;
         folds = folds;
         folds-but-for-five = folds-but-for-five;
         folds-only = folds-only;

@@ -26,6 +26,7 @@ use Rattle.plan.proofs.PlanExact.{plan-exact, counts-exact}
 use Rattle.layouts.specs.Layout.{Board, widthOf, layoutRules}
 use Rattle.layouts.specs.Placement.{placementWords, linesOf, itemsOfSet, typesOfSet}
 use Rattle.layouts.specs.Unfold.{Run, unfolded}
+use Rattle.layouts.specs.Offcuts.{eventsOf}
 use Rattle.layouts.specs.Lines.{setOf}
 use Rattle.layouts.specs.Fold.{folded}
 use Rattle.layouts.specs.Rules.{SetOk, BoardOk}
@@ -49,6 +50,8 @@ use Rattle.layouts.proofs.trees.TreeItems.{layoutOf, types-occur, roots
 use Rattle.layouts.proofs.machine.Greedy.{grows-length}
 use Rattle.layouts.proofs.machine.MachineEnds.{Unfolding, unfolds}
 use Rattle.layouts.proofs.machine.MachineLines.{FirstLargest, emitted-lines}
+use Rattle.layouts.proofs.offcuts.AreaBalance.{offcuts-room, area-balance}
+use Rattle.layouts.proofs.offcuts.OffcutsLie.{offcuts-lie}
 use Rattle.layouts.proofs.fold.Back.{fold-back}
 
 -- items with sides are wide
@@ -155,7 +158,7 @@ module _ (job : Job) (l : Listing) (m : Model job l) (sided : Sided job) where
     pieces : length (r .placements) ≡ length (itemsOfSet set)
     pieces = ap length lines ∙ lines-length job set
 
-    unfolds-to : UnfoldsTo job l ns set
+    unfolds-to : UnfoldsTo job l ns set (eventsOf job l ns)
     unfolds-to =
         record {
           named =
@@ -173,9 +176,11 @@ module _ (job : Job) (l : Listing) (m : Model job l) (sided : Sided job) where
           turns-as-often = turns-as-often;
           in-turn = lines-turns job 1 set (ok-full job set ok);
           back = back;
+          balance = rw lines at (area-balance job l m sided ns past balanced);
+          offcuts-lie = rw lines at (offcuts-lie job l m sided ns);
         }
 
-    pub unfolds-so : Unfolds job l ns r
+    pub unfolds-so : Unfolds job l ns r (eventsOf job l ns)
     unfolds-so =
         record {
           spent = spent;
@@ -186,4 +191,5 @@ module _ (job : Job) (l : Listing) (m : Model job l) (sided : Sided job) where
           boards-given = u .last-board ∙ sym number;
           pieces-given = pieces;
           room = omega (arith, words-length (r .placements), u .pieces, balanced .few);
+          offcuts-room = offcuts-room job l m sided ns past balanced;
         }

@@ -16,7 +16,7 @@ use Rattle.plan.specs.Plan.{onPlate, boards, total}
 use Rattle.plan.specs.Feasible.{Feasible, NonePast}
 use Rattle.layouts.specs.Layout.{widthOf, heightOf}
 use Rattle.layouts.specs.Placement.{turn, Placement}
-use Rattle.layouts.specs.Unfold.{State, openBoard, Run, run, stepsFor, unfolded}
+use Rattle.layouts.specs.Unfold.{nothingWaits, State, openBoard, Run, run, stepsFor, unfolded}
 use Rattle.layouts.proofs.trees.Tree.{Tree, fsum}
 use Rattle.layouts.proofs.trees.Pattern.{restOf}
 use Rattle.layouts.proofs.trees.WeightedSums.{wsum, weight, total-wsum, countOf-wsum}
@@ -61,6 +61,8 @@ pub record Unfolding (job : Job) (l : Listing) (ns : List ℕ) (r : Run) : Type 
   -- the boards opened are those of the plan
   pub opens : length trees ≡ boards l ns
   pub last-board : r .last .turn .board ≡ length trees
+  -- nothing waits in the end
+  pub none-left : r .last .waiting ≡ nothingWaits
   -- the placements are the items of the trees in turn, of each type as many as the plan cuts, and in all as many as it counts
   pub rows : r .placements ≡ emitSet job 1 (map (itemTree l) trees)
   pub items : (f : ℕ → ℕ) → sumOf (λ p. f (p .item)) (r .placements) ≡ wsum (λ c. f (cutAt l c .item)) 1 ns
@@ -119,6 +121,7 @@ module _ (job : Job) (l : Listing) (m : Model job l) (sided : Sided job) where
             each = done-each job l m sided ns ns′ ts g past a;
             opens = sym (boards-set job l m ts ok) ∙ sum (weight (onPlate 0) l) ∙ sym (countOf-wsum (onPlate 0) l ns past);
             last-board = omega arith;
+            none-left = refl;
             rows = refl;
             items = of;
             pieces = sym (length-sum rs) ∙ of (λ _. 1) ∙ sym (total-wsum 1 ns);

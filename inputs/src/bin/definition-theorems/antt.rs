@@ -74,11 +74,16 @@ fn is_quoted(byte: &u8) -> bool {
     (b' '..=b'~').contains(byte) && !b"\"\\".contains(byte)
 }
 
-/// What a call answers, and plates, cuts and the third buffer, if there is one, when it ends.
+/// What a call answers, and plates, cuts and the third buffer, if there is one, when it ends; of
+/// unfolding the offcuts besides.
 pub fn outcome(answer: &Result<Vec<u32>, Refusal>, lent: &[Vec<u16>]) -> Vec<String> {
+    let called = match lent.len() {
+        4 => "unfoldOutcome",
+        _ => "outcome",
+    };
     let answer = match answer {
-        Ok(results) => format!("outcome (given {})", numbers(results)),
-        Err(refusal) => format!("outcome (refused {} {})", refusal.number, refusal.place),
+        Ok(results) => format!("{called} (given {})", numbers(results)),
+        Err(refusal) => format!("{called} (refused {} {})", refusal.number, refusal.place),
     };
     let third = (lent.len() == 2).then(|| words(&[]));
     let ends = lent.iter().map(|buffer| words(buffer)).chain(third);
@@ -98,7 +103,7 @@ use Rattle.texts.specs.SawText.{sawText}
 use Rattle.texts.specs.FoldText.{foldText}
 use Rattle.cases.specs.Bytes.{bytes}
 use Rattle.cases.proofs.Opened.{computed}
-use Rattle.agreement.specs.Compared.{outcome, listCall, planCall, priceCall, unfoldCall, foldCall, walkCall, judgement, judged, rules, rectangles, isFewest}
+use Rattle.agreement.specs.Compared.{outcome, unfoldOutcome, listCall, planCall, priceCall, unfoldCall, foldCall, walkCall, judgement, judged, rules, rectangles, isFewest, leftOver, areasOn}
 ";
 
 /// What is compared: a definition on its arguments, and the reference's answer to the same.

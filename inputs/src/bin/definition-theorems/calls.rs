@@ -4,10 +4,11 @@ use crate::antt::{outcome, words, Equation};
 use crate::{is_small, Theorem};
 use inputs::damage::{damage_job, damage_order, damage_words, Words};
 use inputs::layouts::random_layouts;
+use inputs::lengths::any_lengths;
 use inputs::plans::random_plan;
 use inputs::prices::random_prices;
 use inputs::{Model, Random};
-use reference::buffers::{COUNTS, CUTS, PLACEMENTS, PLATES};
+use reference::buffers::{Kind, COUNTS, CUTS, OFFCUTS, PLACEMENTS, PLATES};
 use reference::layout::PLACEMENT_NUMBERS;
 use reference::{calls, Refusal};
 
@@ -39,24 +40,43 @@ impl Call {
         matches!(self, Call::PlanTest | Call::Unfolding)
     }
 
-    /// The full sizes of the buffers that the call is lent: plates, cuts, and the third if there
-    /// is one.
+    /// The full sizes of the buffers that the call is lent: plates, cuts, and those that it is lent
+    /// besides.
     fn full_sizes(self) -> Vec<usize> {
-        let third = match self {
-            Call::Unfolding => Some(PLACEMENTS),
-            Call::Folding => Some(COUNTS),
-            _ => None,
+        let besides: &[Kind] = match self {
+            Call::Unfolding => &[PLACEMENTS, OFFCUTS],
+            Call::Folding => &[COUNTS],
+            _ => &[],
         };
-        let lent = [PLATES, CUTS].into_iter().chain(third);
+        let lent = [PLATES, CUTS].iter().chain(besides);
         lent.map(|kind| kind.full_size).collect()
     }
 }
 
-/// The job's words, the call's own words, and the lent buffers before the call.
+/// The job's words, the two lengths of unfolding, the call's own words, and the lent buffers before
+/// the call.
 struct Input {
     job: Vec<u16>,
+    lengths: [u16; 2],
     own: Vec<u16>,
     lent: Vec<Vec<u16>>,
+}
+
+impl Input {
+    /// The arguments of the call's definition.
+    fn arguments(&self, call: Call) -> Vec<String> {
+        let mut arguments = vec![words(&self.job)];
+        if call == Call::Unfolding {
+            arguments.extend(self.lengths.map(|length| length.to_string()));
+        }
+        let own = (call != Call::Listing).then_some(&self.own);
+        arguments.extend(
+            own.into_iter()
+                .chain(&self.lent)
+                .map(|argument| words(argument)),
+        );
+        arguments
+    }
 }
 
 /// A theorem over a call on a random input.
@@ -72,12 +92,10 @@ pub fn theorem(random: &mut Random, call: Call) -> Theorem {
         if placed > MOST_PLACED {
             continue;
         }
-        let own = (call != Call::Listing).then_some(&input.own);
-        let arguments = [&input.job].into_iter().chain(own).chain(&input.lent);
         return Theorem {
             equation: Equation {
                 definition: call.definition(),
-                arguments: arguments.map(|argument| words(argument)).collect(),
+                arguments: input.arguments(call),
                 answer: outcome(&answer, &lent),
             },
             refusal: answer.err().map(|refusal| refusal.number),
@@ -92,17 +110,18 @@ fn random_input(random: &mut Random, call: Call) -> Input {
     let full = call.full_sizes();
     let mut input = Input {
         job: job_words(random, &model, call),
+        lengths: any_lengths(random, [model.job.width, model.job.height]),
         own: own_words(random, call, &model, own_damaged),
         lent: full.iter().map(|&size| vec![0; size]).collect(),
     };
     // An input that is refused before its buffers are looked at needs no large ones.
     let refusal = answer(call, &input, &mut input.lent.clone()).err();
     let small = refusal.is_some_and(|refusal| refusal.number < 5) && !random.once_in(8);
-    let short = random.once_in(8).then(|| random.below(4));
+    let short = random.once_in(8).then(|| random.below(5));
     for (index, &size) in full.iter().enumerate() {
         input.lent[index] = random_buffer(random, size, small || short == Some(index));
     }
-    if call.takes_counts() && (small || short == Some(3)) {
+    if call.takes_counts() && (small || short == Some(4)) {
         let length = random.pick(&[0, 3, COUNTS.full_size - 1]);
         input.own.truncate(length);
     }
@@ -197,9 +216,9 @@ fn answer(call: Call, input: &Input, lent: &mut [Vec<u16>]) -> Result<Vec<u32>, 
         (Call::PriceTest, [plates, cuts]) => {
             calls::test_prices(job, own, plates, cuts).map(|bound| vec![bound.sum, bound.d])
         }
-        (Call::Unfolding, [plates, cuts, placements]) => {
-            calls::unfold(job, own, plates, cuts, placements)
-                .map(|unfolded| vec![unfolded.boards, unfolded.pieces])
+        (Call::Unfolding, [plates, cuts, placements, offcuts]) => {
+            calls::unfold(job, own, input.lengths, plates, cuts, placements, offcuts)
+                .map(|unfolded| vec![unfolded.boards, unfolded.pieces, unfolded.offcuts])
         }
         (Call::Folding, [plates, cuts, counts]) => {
             calls::fold(job, own, plates, cuts, counts).map(|boards| vec![boards])

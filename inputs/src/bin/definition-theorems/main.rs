@@ -1,11 +1,12 @@
-//! Writes theorems for antt: on random small inputs the definitions of document 01 compute to
-//! the answers of the reference.
+//! Writes theorems for antt: on random small inputs the definitions of document 01, with the requests
+//! of document 02 that are in them, compute to the answers of the reference.
 //!
 //! Arguments: the folder to write to, the number of theorems, the seed. Standard output says what
 //! is compared and how much of it is refused.
 
 mod antt;
 mod calls;
+mod offcuts;
 mod structures;
 mod texts;
 
@@ -31,7 +32,7 @@ pub struct Theorem {
 /// one is made.
 type Subject = (&'static str, usize, fn(&mut Random) -> Theorem);
 
-const SUBJECTS: [Subject; 12] = [
+const SUBJECTS: [Subject; 14] = [
     ("Listing", 3, |random| calls::theorem(random, Call::Listing)),
     ("PlanTest", 3, |random| {
         calls::theorem(random, Call::PlanTest)
@@ -39,7 +40,7 @@ const SUBJECTS: [Subject; 12] = [
     ("PriceTest", 3, |random| {
         calls::theorem(random, Call::PriceTest)
     }),
-    ("Unfolding", 2, |random| {
+    ("Unfolding", 4, |random| {
         calls::theorem(random, Call::Unfolding)
     }),
     ("Folding", 3, |random| calls::theorem(random, Call::Folding)),
@@ -50,6 +51,8 @@ const SUBJECTS: [Subject; 12] = [
     ("Rules", 2, structures::rules_theorem),
     ("Rectangles", 2, structures::rectangle_theorem),
     ("Fewest", 1, structures::fewest_theorem),
+    ("Offcuts", 3, offcuts::offcuts_theorem),
+    ("Areas", 3, offcuts::areas_theorem),
 ];
 
 /// Whether the listing is small, if there is one: the words are a job's, and it is admitted.

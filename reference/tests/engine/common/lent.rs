@@ -8,6 +8,10 @@ pub const PLATES: usize = 6_144;
 pub const CUTS: usize = 32_768;
 pub const COUNTS: usize = 8_192;
 pub const PLACEMENTS: usize = 32_000;
+pub const OFFCUTS: usize = 48_000;
+
+/// Lengths that every offcut reaches.
+pub const LEAST: [u16; 2] = [1, 1];
 
 /// Words that no call writes.
 pub fn junk(length: usize) -> Vec<u16> {
@@ -32,6 +36,7 @@ pub struct Lent {
     pub cuts: Vec<u16>,
     pub counts: Vec<u16>,
     pub placements: Vec<u16>,
+    pub offcuts: Vec<u16>,
     /// The job of the last call that succeeded, with the words of its plates and cuts.
     model: [Vec<u16>; 3],
 }
@@ -43,6 +48,7 @@ impl Lent {
             cuts: junk(CUTS),
             counts: junk(COUNTS),
             placements: junk(PLACEMENTS),
+            offcuts: junk(OFFCUTS),
             model: Default::default(),
         }
     }
@@ -67,16 +73,28 @@ impl Lent {
     }
 
     pub fn unfold(&mut self, job: &[u16], counts: &[u16]) -> Result<Unfolded, Refusal> {
+        self.unfold_with(job, counts, LEAST)
+    }
+
+    pub fn unfold_with(
+        &mut self,
+        job: &[u16],
+        counts: &[u16],
+        lengths: [u16; 2],
+    ) -> Result<Unfolded, Refusal> {
         let counts = full_counts(counts);
         let Lent {
             plates,
             cuts,
             placements,
+            offcuts,
             ..
         } = self;
-        let answer = reference::unfold(job, &counts, plates, cuts, placements);
-        let pieces = answer.map_or(0, |unfolded| unfolded.pieces as usize);
-        assert!(self.placements[8 * pieces..].iter().all(|&word| word == 0));
+        let answer = reference::unfold(job, &counts, lengths, plates, cuts, placements, offcuts);
+        let used = answer.map_or([0, 0], |unfolded| [unfolded.pieces, unfolded.offcuts]);
+        let [pieces, left_over] = used.map(|number| number as usize);
+        assert!(holds(&self.placements[8 * pieces..], &[]));
+        assert!(holds(&self.offcuts[6 * left_over..], &[]));
         self.check_model(job, answer.is_ok());
         answer
     }
@@ -106,6 +124,15 @@ impl Lent {
             .chunks_exact(8)
             .map(|line| line.try_into().unwrap());
         lines.take_while(|line: &[u16; 8]| line[0] != 0).collect()
+    }
+
+    /// The offcuts that the last unfolding wrote.
+    pub fn left_over(&self) -> Vec<[u16; 6]> {
+        let offcuts = self.offcuts.chunks_exact(6);
+        let offcuts = offcuts.map(|offcut| offcut.try_into().unwrap());
+        offcuts
+            .take_while(|offcut: &[u16; 6]| offcut[0] != 0)
+            .collect()
     }
 
     /// After success plates and cuts hold the listing, after these refusals nothing.

@@ -4,6 +4,7 @@
 pub mod check;
 pub mod jobs;
 pub mod lent;
+pub mod parts;
 pub mod plain;
 pub mod plans;
 pub mod prices;

@@ -32,14 +32,14 @@ fn positions(job: &[u16]) -> Vec<(u16, [u16; 2])> {
     positions
 }
 
-/// Top and right of a cut; waste is a plate with a side of 0.
-fn leaves(job: &[u16], [w, h, stage]: Plate, [wi, hi]: [u16; 2]) -> [Plate; 2] {
-    const WASTE: Plate = [0, 0, 0];
+/// Top and right of a cut; a plate with a side of 0 where there is none.
+pub fn leaves(job: &[u16], [w, h, stage]: Plate, [wi, hi]: [u16; 2]) -> [Plate; 2] {
+    const NONE: Plate = [0, 0, 0];
     match (job[0], stage) {
         (_, 1) => [[w, h - hi, 1], [w - wi, hi, 2]],
-        (2, 2) => [WASTE, [w - wi, hi, 2]],
+        (2, 2) => [NONE, [w - wi, hi, 2]],
         (3, 2) => [[wi, h - hi, 3], [w - wi, h, 2]],
-        (3, 3) => [[wi, h - hi, 3], WASTE],
+        (3, 3) => [[wi, h - hi, 3], NONE],
         _ => panic!("no plate has another stage"),
     }
 }

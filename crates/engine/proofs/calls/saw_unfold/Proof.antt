@@ -2,7 +2,7 @@
 use mathlib.Core.Path.{sym, ap, _∙_}
 use denote.Ref.{now}
 use Rattle.unfold_call.specs.UnfoldSays.{saysOf}
-use Rattle.answers.specs.AnswerWords.{answerWords}
+use Rattle.answers.specs.AnswerWords.{fourWords}
 use Rattle.engine.proofs.Promises.{unfold-accepted, unfold-refused}
 use borrow.Author.Needs.{needs}
 use Rattle.engine.proofs.calls.saw_unfold.Statement.{statement}
@@ -10,20 +10,34 @@ use Rattle.engine.proofs.calls.saw_unfold.Tie as tie
 
 returns : tie.Need-returns
 returns c =
-    let at = c .before .before .before in
-    let call = at .before .before .before .before .before .before .before .before .unfold in
-    let says = sym (ap saysOf (at .boards .given .1)) ∙ call .ensures .0 in
-    let words = c .accept .ensures in
-    (words ∙ ap answerWords says, (call .ensures .1 .0, (call .ensures .1 .1 .0, (call .ensures .1 .1 .1 .0, unfold-accepted _ _ _ (at .boards .given .1) (call .ensures .1 .1 .1 .1) words))))
+    let call = c .before .before .before .before .before .before .before .before .before .before .before .before .before .unfold in
+    let told = c .before .before .before .boards .given .1 in
+    let words = c .accept-four .ensures in
+    let ends = call .ensures .1 in
+    (words ∙ ap fourWords (sym (ap saysOf told) ∙ call .ensures .0), (ends .0, (ends .1 .0, (ends .1 .1 .0, (ends .1 .1 .1 .0, unfold-accepted _ _ _ told (ends .1 .1 .1 .1) words)))))
 
 returns-2 : tie.Need-returns-2
 returns-2 c =
-    let at = c .before .before .before in
-    let call = at .before .before .before .before .before .before .before .before .unfold in
-    let says = sym (ap saysOf (at .number .given .1)) ∙ call .ensures .0 in
-    let args = c .before .before .before .before .before .before .before .before .before .before .before .before .before .before .before .before .before .before .before .before .args in
-    let words = c .refuse .ensures in
-    (words ∙ ap answerWords says, (call .ensures .1 .0, (call .ensures .1 .1 .0, (call .ensures .1 .1 .1 .0, λ zero. absurd (unfold-refused (now (args .job)) (now (args .counts)) (now (args .plates)) (now (args .cuts)) (now (args .placements)) _ says words zero)))))
+    let call = c .before .before .before .before .before .before .before .before .before .before .before .before .before .unfold in
+    let says = sym (ap saysOf (c .before .before .before .number .given .1)) ∙ call .ensures .0 in
+    let a = c .before .before .before .before .before .before .before .before .before .before .before .before .before .before .before .before .before .before .before .before .before .before .before .before .args in
+    let words = c .refuse-four .ensures in
+    let ends = call .ensures .1 in (
+      words ∙ ap fourWords says,
+      (
+        ends .0,
+        (
+          ends .1 .0,
+          (
+            ends .1 .1 .0,
+            (
+              ends .1 .1 .1 .0,
+              λ zero. absurd (unfold-refused (now (a .job)) (a .first) (a .second) (now (a .counts)) (now (a .plates)) (now (a .cuts)) (now (a .placements)) (now (a .offcuts)) _ says words zero),
+            ),
+          ),
+        ),
+      ),
+    )
 
 pub saw-unfold-spec : {M : Type 1} → statement M
 saw-unfold-spec =
@@ -33,13 +47,16 @@ saw-unfold-spec =
     (λ c. search needs)
     (λ c. search needs)
     (λ c. search needs)
+    (λ c. search needs)
     (λ c κs. search needs)
     (λ c. search needs)
     (λ c κs. search needs)
+    (λ c. search needs)
     (λ c. search needs)
     (λ c. search needs)
     (λ c. search needs)
     returns
+    (λ c. search needs)
     (λ c. search needs)
     (λ c. search needs)
     (λ c. search needs)

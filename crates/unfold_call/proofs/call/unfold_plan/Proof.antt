@@ -6,7 +6,7 @@ use borrow.Author.Needs.{needs}
 use denote.Ref.{now}
 use lib.ListN.{length, take, replicate, length-replicate}
 use Rattle.job.specs.Sizes.{countsSize}
-use Rattle.unfold_call.proofs.CodeAccepted.{copy-counted, copy-boards, copy-few, copy-results, copy-words}
+use Rattle.unfold_call.proofs.CodeAccepted.{copy-counted, copy-boards, copy-few, copy-few-offcuts, copy-results, copy-words, copy-list}
 use Rattle.unfold_call.proofs.call.unfold_plan.Statement.{statement}
 use Rattle.unfold_call.proofs.call.unfold_plan.Tie as tie
 
@@ -19,31 +19,45 @@ copy : (counts : List ℕ) {left : List ℕ} → left ≡ take (length (replicat
 copy counts e = e ∙ ap (λ (n : ℕ). take n counts) (sym size)
 
 copy-counts-requires : tie.Need-copy-counts-requires
-copy-counts-requires c κs = rw (← size) (c .before .before .before .before .before .before .pre .1 .0 .0)
+copy-counts-requires c κs = rw (← size) (c .before .before .before .before .before .before .before .pre .1 .0 .0)
 
 run-requires : tie.Need-run-requires
 run-requires c κs =
-    let s = c .before .before .before .before .before .before .before .before .before .before in
+    let s = c .before .before .before .before .before .before .before .before .before .before .before .before in
+    let a = s .args in
     let lent = s .pre .0 in
     let p = s .pre .1 in
-    let e = copy (now (s .args .counts)) (c .before .before .before .copy-counts .ensures) in (
+    let e = copy (now (a .counts)) (c .before .before .before .before .copy-counts .ensures) in (
       lent,
       (
-        (copy-counted (now (s .args .job)) (lent .admitted) (lent .model) (now (s .args .counts)) (p .0 .0) (p .0 .1) e (s .args .k .0) (lent .cuts-number), copy-boards (now (s .args .job)) (lent .admitted) (lent .model) (now (s .args .counts)) (p .0 .0) (p .0 .1) e (s .args .boards) (p .1 .0)),
-        (p .1 .1, copy-few (now (s .args .job)) (lent .admitted) (lent .model) (now (s .args .counts)) (p .0 .0) (p .0 .1) e),
+        (copy-counted (now (a .job)) (lent .admitted) (lent .model) (now (a .counts)) (p .0 .0) (p .0 .1) e (a .k .0) (lent .cuts-number), copy-boards (now (a .job)) (lent .admitted) (lent .model) (now (a .counts)) (p .0 .0) (p .0 .1) e (a .boards) (p .1 .0)),
+        (
+          (p .1 .1 .0, p .1 .1 .1 .0),
+          (
+            (copy-few (now (a .job)) (lent .admitted) (lent .model) (now (a .counts)) (p .0 .0) (p .0 .1) e, copy-few-offcuts (now (a .job)) (lent .admitted) (lent .model) (now (a .counts)) (p .0 .0) (p .0 .1) e),
+            p .1 .1 .1 .1,
+          ),
+        ),
       ),
     )
 
 returns : tie.Need-returns
 returns c =
-    let s = c .before .before .before .before .before .before .before .before .before .before .before .before .before .before in
+    let s = c .before .before .before .before .before .before .before .before .before .before .before .before .before .before .before .before .before .before in
+    let a = s .args in
     let lent = s .pre .0 in
     let p = s .pre .1 in
-    let e = copy (now (s .args .counts)) (c .before .before .before .before .before .before .before .copy-counts .ensures) in
-    let r = c .before .before .before .run in (
-      copy-results (now (s .args .job)) (lent .admitted) (lent .model) (now (s .args .counts)) (p .0 .0) (p .0 .1) e (r .result) _ (r .ensures),
-      copy-words (now (s .args .job)) (lent .admitted) (lent .model) (now (s .args .counts)) (p .0 .0) (p .0 .1) e (r .result) _ (r .ensures),
+    let e = copy (now (a .counts)) (c .before .before .before .before .before .before .before .before .before .before .copy-counts .ensures) in
+    let r = c .before .before .before .before .before .run in (
+      copy-results (now (a .job)) (lent .admitted) (lent .model) (now (a .counts)) (p .0 .0) (p .0 .1) e (a .lengths) (r .result) _ _ (r .ensures),
+      (
+        copy-words (now (a .job)) (lent .admitted) (lent .model) (now (a .counts)) (p .0 .0) (p .0 .1) e (a .lengths) (r .result) _ _ (r .ensures),
+        λ full. copy-list (now (a .job)) (lent .admitted) (lent .model) (now (a .counts)) (p .0 .0) (p .0 .1) e (a .lengths) (r .result) _ _ (r .ensures) (rw (← (r .kept .1 .1 .1 .1 .1 .1 .1 .1 .0)) at full),
+      ),
     )
+
+same-left : tie.Need-slice-aggregate-run
+same-left c = size ∙ sym (c .before .before .copy-counts .kept .1 .0)
 
 pub unfold-plan-spec : {M : Type 1} → statement M
 unfold-plan-spec =
@@ -51,7 +65,8 @@ unfold-plan-spec =
     (tie.spec
     (λ c. size)
     copy-counts-requires
-    (λ c. size ∙ sym (c .before .before .copy-counts .kept .1 .0))
+    same-left
     run-requires
+    (λ c. search needs)
     (λ c. search needs)
     returns)

@@ -1,0 +1,222 @@
+//! What remains of the boards: offcuts and waste. The saw's text lists neither; both follow from the
+//! plan, and folding the saw's own output gives the plan back.
+
+use crate::answer::{Answer, Placement};
+use crate::columns::thousands;
+use crate::job::{Job, MOST_SIDE};
+use crate::listing::{to_walk, too_large};
+use reference::balance::of_boards;
+use reference::folding::fold;
+use reference::layout_lines::test;
+use reference::listing::FULL;
+use reference::unfolding::{unfold, Unfolding};
+use reference::Balance;
+
+/// Lengths that every offcut reaches.
+pub const LEAST: [usize; 2] = [1, 1];
+
+/// A piece of plate that is left over; it is usable if its width reaches the first of two lengths
+/// and its height the second.
+#[derive(Debug, Clone, Copy, PartialEq, Eq)]
+pub struct Offcut {
+    pub x: usize,
+    pub y: usize,
+    pub width: usize,
+    pub height: usize,
+    pub usable: bool,
+}
+
+/// The offcuts of a board, and the areas of its items, offcuts and waste.
+#[derive(Debug, Clone, PartialEq, Eq)]
+pub struct Rest {
+    pub offcuts: Vec<Offcut>,
+    pub areas: Balance,
+}
+
+/// The two lengths, and what remains of each board.
+#[derive(Debug, Clone, PartialEq, Eq)]
+pub struct Remains {
+    pub lengths: [usize; 2],
+    pub boards: Vec<Rest>,
+}
+
+impl Remains {
+    /// What remains of the boards of the saw's answer for a job. An error says why the answer cannot
+    /// be the saw's.
+    pub fn of(job: &Job, answer: &Answer, lengths: [usize; 2]) -> Result<Remains, String> {
+        let walked = to_walk(job);
+        let listing = reference::Listing::walk(&walked, FULL).map_err(too_large)?;
+        let lines = lines(job, answer).ok_or_else(not_laid_so)?;
+        let set = test(&walked, &lines, 1).map_err(|_| not_laid_so())?;
+        let counts = fold(&walked, &listing, &set);
+        let unfolding = unfold(&walked, &listing, &counts);
+        if unfolding.placements != lines {
+            return Err(not_laid_so());
+        }
+        let areas = of_boards(&walked, &listing, &unfolding);
+        let rest = |(number, areas): (u16, Balance)| Rest {
+            offcuts: offcuts(&unfolding, number, lengths),
+            areas,
+        };
+        Ok(Remains {
+            lengths,
+            boards: (1..).zip(areas).map(rest).collect(),
+        })
+    }
+
+    /// The areas of all boards together.
+    pub fn areas(&self) -> Balance {
+        let mut areas = Balance::default();
+        for board in &self.boards {
+            areas.items += board.areas.items;
+            areas.offcuts += board.areas.offcuts;
+            areas.waste += board.areas.waste;
+        }
+        areas
+    }
+
+    /// The offcuts of all boards.
+    pub fn offcuts(&self) -> impl Iterator<Item = &Offcut> {
+        self.boards.iter().flat_map(|board| &board.offcuts)
+    }
+}
+
+/// The two lengths of two words. An error says what is wrong with them.
+pub fn lengths(words: [&str; 2]) -> Result<[usize; 2], String> {
+    let read = |word: &str| match word.parse() {
+        Ok(length @ 1..=MOST_SIDE) => Ok(length),
+        Ok(length) => Err(format!(
+            "a length of {} is outside its limits, 1 to {}",
+            thousands(length),
+            thousands(MOST_SIDE)
+        )),
+        Err(_) => Err(format!("{word} is not a number")),
+    };
+    Ok([read(words[0])?, read(words[1])?])
+}
+
+/// The lines of the answer, if each number is within its limits.
+fn lines(job: &Job, answer: &Answer) -> Option<Vec<reference::Placement>> {
+    let line = |board: usize, placement: &Placement| {
+        let Placement {
+            strip,
+            stack,
+            place,
+            item,
+            turned,
+            x,
+            y,
+        } = *placement;
+        let numbers = [board, strip, stack, place, item, x, y, turned.into()];
+        let mut words = [0; 8];
+        for (word, number) in words.iter_mut().zip(numbers) {
+            *word = u32::try_from(number).ok()?;
+        }
+        reference::Placement::from_numbers(words, job.items.len())
+    };
+    let boards = (1..).zip(&answer.boards);
+    let lines = boards.flat_map(|(board, placements)| {
+        placements
+            .iter()
+            .map(move |placement| line(board, placement))
+    });
+    lines.collect()
+}
+
+/// The offcuts of a board.
+fn offcuts(unfolding: &Unfolding, board: u16, [first, second]: [usize; 2]) -> Vec<Offcut> {
+    let on_board = unfolding
+        .offcuts
+        .iter()
+        .filter(|offcut| offcut.board == board);
+    let offcut = |offcut: &reference::Offcut| {
+        let [width, height] = [offcut.width, offcut.height].map(usize::from);
+        Offcut {
+            x: offcut.x.into(),
+            y: offcut.y.into(),
+            width,
+            height,
+            usable: width >= first && height >= second,
+        }
+    };
+    on_board.map(offcut).collect()
+}
+
+/// What to say of an output that the saw does not write for any plan of the job.
+fn not_laid_so() -> String {
+    "the saw lays no plan of this job out like this: is it the output for another job?".into()
+}
+
+#[cfg(test)]
+mod tests {
+    use super::*;
+    use crate::job::tests::{job, job_a};
+
+    const OUTPUT: &str = "7 1 1 1 1 1 0 0 0\n7 1 1 2 1 2 5 0 0\n7 1 2 1 1 2 0 4 0\n7 1 2 2 1 2 3 4 0\n7 2 1 1 1 1 0 0 0\n8 2 2 1 1\n";
+
+    fn remains(output: &str, lengths: [usize; 2]) -> Result<Remains, String> {
+        Remains::of(&job_a(), &Answer::read(output, &job_a()).unwrap(), lengths)
+    }
+
+    /// x, y, width, height and whether it is usable, of each offcut of each board.
+    fn listed(remains: &Remains) -> Vec<Vec<([usize; 4], bool)>> {
+        let offcut = |offcut: &Offcut| {
+            let sides = [offcut.x, offcut.y, offcut.width, offcut.height];
+            (sides, offcut.usable)
+        };
+        let boards = remains.boards.iter();
+        boards
+            .map(|board| board.offcuts.iter().map(offcut).collect())
+            .collect()
+    }
+
+    #[test]
+    fn job_a_leaves_three_offcuts() {
+        let found = remains(OUTPUT, [4, 3]).unwrap();
+        let second = vec![([5, 0, 4, 4], true), ([0, 4, 9, 3], true)];
+        assert_eq!(listed(&found), [vec![([6, 4, 3, 3], false)], second]);
+        let areas = |board: &Rest| [board.areas.items, board.areas.offcuts, board.areas.waste];
+        let boards: Vec<[u64; 3]> = found.boards.iter().map(areas).collect();
+        assert_eq!(boards, [[47, 9, 7], [20, 43, 0]]);
+        assert_eq!(found.areas().whole(), 2 * 9 * 7);
+        let usable = |lengths| {
+            let found = remains(OUTPUT, lengths).unwrap();
+            found.offcuts().filter(|offcut| offcut.usable).count()
+        };
+        assert_eq!([LEAST, [4, 4], [9, 3], [3, 9]].map(usable), [3, 1, 1, 0]);
+    }
+
+    #[test]
+    fn what_the_saw_does_not_write_is_told() {
+        let boards_swapped = "7 1 1 1 1 1 0 0 0\n7 2 1 1 1 1 0 0 0\n7 2 1 2 1 2 5 0 0\n7 2 2 1 1 2 0 4 0\n7 2 2 2 1 2 3 4 0\n8 2 2 1 1\n";
+        let outputs = [
+            OUTPUT.replace("7 1 2 2 1 2 3 4 0\n", ""),
+            OUTPUT.replace("7 1 2 2 1 2 3 4 0", "7 1 2 2 1 2 4 4 0"),
+            OUTPUT.replace("7 1 2 2 1 2 3 4 0", "7 1 2 3 1 2 3 4 0"),
+            OUTPUT.replace("7 1 2 2 1 2 3 4 0", "7 1 2 99999999999 1 2 3 4 0"),
+            boards_swapped.to_string(),
+        ];
+        for output in outputs {
+            let fault = remains(&output, LEAST).unwrap_err();
+            assert!(fault.contains("no plan of this job"), "{output}: {fault}");
+        }
+        let fine = job("3N", [10_000, 10_000], &[[71, 83, 1], [97, 61, 1]]);
+        let answer = Answer::read(OUTPUT, &job_a()).unwrap();
+        let fault = Remains::of(&fine, &answer, LEAST).unwrap_err();
+        assert!(fault.contains("2,048 plate types"), "{fault}");
+    }
+
+    #[test]
+    fn lengths_are_1_to_10_000() {
+        assert_eq!(lengths(["1", "10000"]), Ok([1, 10_000]));
+        for (words, told) in [
+            (["0", "3"], "a length of 0"),
+            (["3", "10001"], "a length of 10,001"),
+            (["3", "wide"], "wide is not a number"),
+            (["-3", "3"], "-3 is not a number"),
+        ] {
+            let fault = lengths(words).unwrap_err();
+            assert!(fault.contains(told), "{fault}");
+        }
+    }
+}

@@ -1,0 +1,40 @@
+//! The area balance of boards: items, offcuts and waste (document 02, Two).
+
+use crate::job::Job;
+use crate::listing::Listing;
+use crate::unfolding::Unfolding;
+use crate::waste::waste;
+
+/// The areas of items, of offcuts and of waste.
+#[derive(Debug, Clone, Copy, PartialEq, Eq, Default)]
+pub struct Balance {
+    pub items: u64,
+    pub offcuts: u64,
+    pub waste: u64,
+}
+
+impl Balance {
+    /// The three areas added up.
+    pub fn whole(&self) -> u64 {
+        self.items + self.offcuts + self.waste
+    }
+}
+
+/// The balance of each board of an unfolding: its items, the pieces left over on it, and the waste
+/// of the cuts done on it.
+pub fn of_boards(job: &Job, listing: &Listing, unfolding: &Unfolding) -> Vec<Balance> {
+    let mut boards = vec![Balance::default(); usize::from(unfolding.boards)];
+    for (placement, &index) in unfolding.placements.iter().zip(&unfolding.cuts) {
+        let board = &mut boards[usize::from(placement.board) - 1];
+        let cut = listing.cuts[index];
+        let plate = &listing.plates[usize::from(cut.plate)];
+        let item = job.sides(cut.position);
+        board.items += u64::from(item.width) * u64::from(item.height);
+        board.waste += waste(job, plate, item);
+    }
+    for offcut in &unfolding.offcuts {
+        let board = &mut boards[usize::from(offcut.board) - 1];
+        board.offcuts += u64::from(offcut.width) * u64::from(offcut.height);
+    }
+    boards
+}
