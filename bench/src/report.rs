@@ -1,7 +1,7 @@
 //! The report: a table of all calls on the greatest inputs, and one of how they grow.
 
 use crate::count::{instructions, Counted};
-use crate::subjects::{by_cuts, input, CUTS, GREATEST, LINES, OFFCUTS, PIECES};
+use crate::subjects::{by_cuts, input, CUTS, GREATEST, LINES, OFFCUTS, PIECES, PRICES};
 use crate::task::{Call, Side};
 use crate::time::{seconds, ROUNDS};
 
@@ -61,7 +61,8 @@ fn rows() -> Vec<(Call, &'static str)> {
             Call::List | Call::TestPlan | Call::TestPrices => Vec::new(),
             Call::Unfold => [&PIECES[..], &[OFFCUTS]].concat(),
             Call::Fold => PIECES.to_vec(),
-            Call::SawText | Call::FoldText => vec![LINES, CUTS],
+            Call::SawText => vec![LINES, PRICES, CUTS],
+            Call::FoldText => vec![LINES, CUTS],
         };
         rows.extend(GREATEST.into_iter().chain(more).map(|name| (call, name)));
     }
@@ -77,6 +78,7 @@ pub fn write(date: &str) {
          is the engine's by the reference's; the goal is at most 1.0 in both.\n"
     );
     write_largest();
+    write_reading();
     write_growth();
 }
 
@@ -105,6 +107,27 @@ fn write_largest() {
             shown(cost.of_instructions(), 2),
             cost.remark(),
         );
+    }
+}
+
+/// Texts of which nearly all the work is to read their columns.
+fn write_reading() {
+    println!("\n## Reading\n");
+    println!("Instructions for each byte of the longest texts, mostly blanks, and of the longest price list.\n");
+    println!("| call | input | bytes | engine | reference |");
+    println!("|---|---|--:|--:|--:|");
+    let texts = [
+        (Call::SawText, LINES),
+        (Call::SawText, PRICES),
+        (Call::FoldText, LINES),
+    ];
+    for (call, name) in texts {
+        let bytes = input(call, name).text.len();
+        let each = [Side::Engine, Side::Reference].map(|side| {
+            let counted = instructions(side, call, name);
+            shown(counted.map(|counted| counted.all as f64 / bytes as f64), 1)
+        });
+        println!("| {} | {name} | {bytes} | {} | {} |", call.name(), each[0], each[1]);
     }
 }
 

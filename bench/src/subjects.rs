@@ -32,6 +32,8 @@ pub const OFFCUTS: &str = "8,000 offcuts";
 
 /// The longest texts.
 pub const LINES: &str = "99,999 lines";
+/// The longest price list.
+pub const PRICES: &str = "2,087 prices";
 /// Texts of 4,000 lines of kind 3.
 pub const CUTS: &str = "4,000 cuts counted";
 
@@ -45,7 +47,7 @@ pub fn input(call: Call, name: &str) -> Input {
     };
     let text = match name {
         LINES => longest(kind),
-        CUTS => {
+        PRICES | CUTS => {
             let mut long = long_texts(kind).into_iter();
             long.find(|long| long.name == name)
                 .expect("a long text")

@@ -1,5 +1,5 @@
 //! Texts at the limits of document 01 and past them: of most lines, of most pieces on one board and on
-//! most boards, of most cuts counted, of the greatest listings.
+//! most boards, of most cuts counted, of most prices, of the greatest listings.
 
 use crate::text::Text;
 use reference::columns::write_line;
@@ -23,6 +23,9 @@ const CUTS: [u16; 13] = [2, 0, 10_000, 9, 2, 5, 9, 2_000, 0, 5, 9, 2_000, 0];
 /// The long texts of a kind.
 pub fn long_texts(kind: Text) -> Vec<Long> {
     let mut all = of_most_lines(kind);
+    if kind == Text::Saw {
+        all.push(of_most_prices());
+    }
     let jobs = [
         ("4,000 pieces on one board", &ONE_BOARD[..]),
         ("4,000 boards", &BOARDS),
@@ -95,6 +98,20 @@ pub fn longest(kind: Text) -> Vec<u8> {
     }
     text.extend(line_of(kind).repeat(99_998 - types as usize));
     text
+}
+
+/// A saw text with the longest price list: 40 types and 2,047 residual types, prices of up to four figures.
+fn of_most_prices() -> Long {
+    let mut text = line(&[1, 2, 0, 2, 1, 40]);
+    text.extend((1..=40).flat_map(|number| line(&[2, number, 1, 1, 1, 0])));
+    text.extend(line(&[4, 9_999, 40, 2_047]));
+    let price = |kind| move |number: u32| line(&[kind, number, number * 4_099 % 10_000]);
+    text.extend((1..=40).flat_map(price(5)));
+    text.extend((1..=2_047).flat_map(price(6)));
+    Long {
+        name: "2,087 prices".to_string(),
+        text,
+    }
 }
 
 /// A line of kind 3 or of kind 7.

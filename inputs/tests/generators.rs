@@ -5,7 +5,7 @@ use inputs::damage::{damage_job, damage_words, Words};
 use inputs::layouts::random_layouts;
 use inputs::lengths::{any_lengths, valid_lengths};
 use inputs::lines::{fold_lines, saw_lines, text_of};
-use inputs::longest::{line_of, longest};
+use inputs::longest::{line_of, long_texts, longest};
 use inputs::plans::random_plan;
 use inputs::prices::random_prices;
 use inputs::subjects::most_offcuts;
@@ -192,6 +192,13 @@ fn no_line_of_the_longest_texts_is_refused_and_the_next_one_is() {
         text.extend(line_of(kind));
         assert_eq!(kind.answer(&text), b"        9        1   100000\n");
     }
+}
+
+#[test]
+fn no_line_of_the_longest_price_list_is_refused() {
+    let mut long = long_texts(Text::Saw).into_iter();
+    let prices = long.find(|long| long.name == "2,087 prices").unwrap();
+    assert_eq!(refusal_in(&Text::Saw.answer(&prices.text)), Some(11));
 }
 
 #[test]

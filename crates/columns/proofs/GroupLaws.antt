@@ -150,11 +150,6 @@ columns-step s at i v w h p q =
     let hi : i < length (drop at s) = simp length-drop (omega arith) in
     rw (add-one i, take-suc (drop at s) i 0 hi, getD-drop at s i 0) (columns-more _ i v _ w p q)
 
--- one column more is blank, after others that are
-pub columns-blank : (s : List ℕ) (at i : ℕ) → at + i < length s → getD s (at + i) 0 ≡ 32 → Columns (take i (drop at s)) i 0 → Columns (take (i + 1) (drop at s)) (i + 1) 0
-columns-blank s at i h e p =
-    columns-step s at i 0 0 h p (rw e (column-is 0 32 0 (omega arith) (omega arith) (⊎-elim (λ w. omega arith) (λ w. omega arith) (mark-cases 0))))
-
 -- ---- the nine columns of a text
 
 pub number-short : (s : List ℕ) (at : ℕ) → length s < at + groupBytes → numberOf (take groupBytes (drop at s)) ≡ Malformed

@@ -2,3 +2,4 @@
 pub mod GroupLaws
 pub mod LineLaws
 pub mod ReadLaws
+pub mod WordLaws

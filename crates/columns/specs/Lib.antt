@@ -3,3 +3,4 @@ pub mod Widths
 pub mod Group
 pub mod Columns
 pub mod Line
+pub mod Words

@@ -1,11 +1,13 @@
 // One number in nine columns: right-justified with blanks, no leading zeros, zero is "0".
+use crate::widths::FRONT;
 use crate::widths::GROUP;
 use crate::widths::LEAD;
+use crate::word::blank_at;
+use crate::word::front_blank;
 ghost use mathlib.Core.Path.{_≡_};
-ghost use mathlib.Core.Bool.{true};
 ghost use Prim.Native.Nat.{_+_, _≤_};
 ghost use lib.ListN.{length, take, drop};
-ghost use Rattle.columns.specs.Widths.{leadBytes, groupBytes};
+ghost use Rattle.columns.specs.Widths.{frontBytes, leadBytes, groupBytes};
 ghost use Rattle.columns.specs.Group.{lead, group, numberOf, put};
 ghost use Rattle.columns.specs.Columns.{Column, Columns};
 ghost use Rattle.columns.specs.Group.{mark as mark·of};
@@ -15,9 +17,6 @@ const LEAD_LIMIT: u32 = 100_000_000;
 
 // One past the greatest number that nine columns hold. In a value so far it says that no number begins so.
 const LIMIT: u32 = 10 * LEAD_LIMIT;
-
-// The column of the tens, the last of those before the last.
-const TENS: usize = LEAD - 1;
 
 // What nine columns hold.
 pub enum Number {
@@ -53,36 +52,35 @@ pub fn number_at(s: &[u8], at: usize) -> Number
     Number::Value(v * 10 + last)
 }
 
-// The value of the eight columns before the last.
-fn lead_at(s: &[u8], at: usize) -> u32
+// The value of the first four columns.
+fn front_at(s: &[u8], at: usize) -> u32
     requires { ⌜ at + leadBytes ≤ length (now s) ⌝ }
-    ensures { λ r. ⌜ Columns (take leadBytes (drop at (now (s .entry)))) leadBytes r ⌝ }
+    ensures { λ r. ⌜ Columns (take frontBytes (drop at (now (s .entry)))) frontBytes r ⌝ }
 {
+    if front_blank(s, at) {
+        return 0;
+    }
     let mut v: u32 = 0;
     let mut i: usize = 0;
-    while i < LEAD {
+    while i < FRONT {
         v = column(v, s[at + i]);
         i += 1;
     }
     v
 }
 
-// Whether the eight columns before the last are blank, as those of a digit alone are: the eighth is looked at first, since every greater number shows there.
-fn blank_at(s: &[u8], at: usize) -> bool
+// The value of the eight columns before the last.
+fn lead_at(s: &[u8], at: usize) -> u32
     requires { ⌜ at + leadBytes ≤ length (now s) ⌝ }
-    ensures { λ r. ⌜ (r ≡ true → Columns (take leadBytes (drop at (now (s .entry)))) leadBytes 0) ⌝ }
+    ensures { λ r. ⌜ Columns (take leadBytes (drop at (now (s .entry)))) leadBytes r ⌝ }
 {
-    if s[at + TENS] != 32 {
-        return false;
-    }
-    let mut i: usize = 0;
-    while i < TENS {
-        if s[at + i] != 32 {
-            return false;
-        }
+    let mut v = front_at(s, at);
+    let mut i = FRONT;
+    while i < LEAD {
+        v = column(v, s[at + i]);
         i += 1;
     }
-    true
+    v
 }
 
 // The value after one more column before the last: v, then the byte b.

@@ -17,21 +17,19 @@ use Rattle.columns.specs.Line.{numbersOf, readLine, malformedLine, lineFrom}
 use Rattle.columns.proofs.LineLaws.{numbers-take, length-line}
 use Rattle.columns.proofs.LineLaws.{line-numbers as numbers-of-line}
 use Rattle.columns.proofs.ReadLaws.{written-read}
+use Rattle.columns.proofs.WordLaws.{part-length}
 use Rattle.texts_reading.specs.declared.pending.Pending.{Pending}
 use Rattle.texts_reading.specs.Begun.{Begun}
 use Rattle.texts_reading.proofs.CodeWords.{put-filled}
 
 module _ (s : List ℕ) (at n : ℕ) (h : at + n ≤ length s) where
-  size : length (take n (drop at s)) ≡ n
-  size = simp (length-take, length-drop) (omega arith)
-
   pub line-unequal : (n ≡ lineBytes (n / groupBytes) → ⊥) → malformedLine ≡ lineFrom (readLine (take n (drop at s)))
   unfolding readLine
-  line-unequal d = rw (size, readLine, ne-eqb n (lineBytes (n / groupBytes)) d)
+  line-unequal d = rw (part-length s at n h, readLine, ne-eqb n (lineBytes (n / groupBytes)) d)
 
   pub line-equal : n ≡ lineBytes (n / groupBytes) → lineFrom (numbersOf (n / groupBytes) (drop at s)) ≡ lineFrom (readLine (take n (drop at s)))
   unfolding readLine
-  line-equal e = rw (size, readLine, eq-eqb n (lineBytes (n / groupBytes)) e, size, numbers-take (n / groupBytes) n (drop at s) (omega arith))
+  line-equal e = rw (part-length s at n h, readLine, eq-eqb n (lineBytes (n / groupBytes)) e, part-length s at n h, numbers-take (n / groupBytes) n (drop at s) (omega arith))
 
 -- the numbers and zeros of a line are nine
 pub line-most : (k : ℕ) (bs : List ℕ) → k ≤ mostNumbers → length (lineFrom (numbersOf k bs) .numbers) ≡ mostNumbers

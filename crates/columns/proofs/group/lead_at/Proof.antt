@@ -6,7 +6,7 @@ use mathlib.Core.Path.{_≡_}
 use lib.ListN.{take, drop}
 use Rattle.columns.specs.Widths.{leadBytes}
 use Rattle.columns.specs.Columns.{Columns}
-use Rattle.columns.proofs.GroupLaws.{columns-none, columns-step}
+use Rattle.columns.proofs.GroupLaws.{columns-step}
 use Rattle.columns.proofs.group.lead_at.Statement.{statement}
 use Rattle.columns.proofs.group.lead_at.Tie as tie
 
@@ -17,7 +17,7 @@ abbrev μ-loop : tie.MeasureT-loop
 μ-loop s at v₀ i₀ v i = leadBytes - i
 
 loop-holds : tie.Need-loop-holds Inv-loop μ-loop
-loop-holds c = (omega arith, columns-none)
+loop-holds c = (omega arith, c .front-at .ensures)
 
 add-column : tie.Need-add-column Inv-loop μ-loop
 add-column c = search needs
@@ -37,7 +37,7 @@ loop-less c = search needs
 loop-again : tie.Need-loop-again Inv-loop μ-loop
 loop-again c =
     let l = c .before .before .before .loop in
-    let a = c .before .before .before .before .before .args in
+    let a = c .before .before .before .before .before .before .args in
     (omega arith, columns-step (a .s .now) (a .at) (l .i) _ _ (omega arith) (l .inv .1) (c .column .ensures))
 
 returns : tie.Need-returns Inv-loop μ-loop
@@ -49,4 +49,4 @@ returns c =
 pub lead-at-spec : {M : Type 1} → statement M
 lead-at-spec =
     tie.close
-    (tie.spec Inv-loop μ-loop loop-holds add-column shared-slice-read-column column-requires add-i loop-less loop-again returns)
+    (tie.spec Inv-loop μ-loop (λ c κs. search needs) loop-holds add-column shared-slice-read-column column-requires add-i loop-less loop-again returns)

@@ -3,7 +3,9 @@ use borrow.Author.Needs.{needs}
 use mathlib.Core.Path.{sym}
 use native.Mathlib.Nat.{zero-add}
 use native.Mathlib.Omega.{arith}
+use Rattle.columns.specs.Widths.{leadBytes}
 use Rattle.columns.proofs.GroupLaws.{number-short, number-last, number-is, number-not}
+use Rattle.columns.proofs.WordLaws.{columns-blank, part-length}
 use Rattle.columns.proofs.group.number_at.Statement.{statement}
 use Rattle.columns.proofs.group.number_at.Tie as tie
 
@@ -22,7 +24,8 @@ returns-4 c = sym (number-last (c .before .before .before .before .before .befor
 returns-5 : tie.Need-returns-5
 returns-5 c =
     let a = c .before .before .before .before .before .before .before .before .args in
-    rw zero-add at (sym (number-is (a .s .now) (a .at) 0 (omega arith) (c .before .blank-at .ensures (c .if5 .taken)) (omega arith) (omega arith) (omega arith)))
+    let blank = columns-blank _ leadBytes (part-length (a .s .now) (a .at) leadBytes (omega arith)) (c .before .blank-at .ensures .0 (c .if5 .taken)) in
+    rw zero-add at (sym (number-is (a .s .now) (a .at) 0 (omega arith) blank (omega arith) (omega arith) (omega arith)))
 
 returns-6 : tie.Need-returns-6
 returns-6 c =
