@@ -1,5 +1,5 @@
 /* A host of the engine: job A of document 01, listed, its plan and prices tested, its plan unfolded, with the offcuts for the
- * storeman's shelf, and folded again; then four refusals; then the same job as texts.
+ * storeman's shelf, and folded again; then the job with a blade of 1 mm; then five refusals; then job A as texts.
  * Build and run: tools/test-hosts. */
 #include <stdio.h>
 #include <string.h>
@@ -14,8 +14,10 @@ static uint16_t placements[SAW_PLACEMENTS];
 static uint16_t offcuts[SAW_OFFCUTS];
 static uint8_t out[SAW_TEXT_OUT];
 
-/* Mode 2N, board 9 by 7, item 1 of 5 by 4 (demand 2), item 2 of 3 by 3 (demand 3); no item may be turned. */
-static const uint16_t job_a[] = {2, 0, 9, 7, 2, 5, 4, 2, 0, 3, 3, 3, 0};
+/* Mode 2N, board 9 by 7, a blade of no width, item 1 of 5 by 4 (demand 2), item 2 of 3 by 3 (demand 3); no item may be turned. */
+static const uint16_t job_a[] = {2, 0, 9, 7, 2, 0, 5, 4, 2, 0, 3, 3, 3, 0};
+/* The sixth head word: the blade. */
+enum { BLADE = 5 };
 /* The counts of cuts 1 to 8. */
 static const uint16_t plan_a[] = {2, 0, 1, 1, 0, 0, 1, 0};
 /* D 1; item types 1 and 2; residual types 1 to 5. */
@@ -25,7 +27,7 @@ static const uint16_t first_length = 4, second_length = 3;
 
 /* The same as a saw text, of lines 1, 2 and 3, and its two boards as a fold text, of lines 1, 2 and 7. */
 static const char job_text[] =
-    "        1        2        0        9        7        2\n"
+    "        1        2        0        9        7        2        0\n"
     "        2        1        5        4        2        0\n"
     "        2        2        3        3        3        0\n";
 static const char plan_text[] =
@@ -96,6 +98,20 @@ static void unfold_wrongly(void)
     print_answer("first length 0", answer);
 }
 
+/* Lists job A with a blade. */
+static void list_with_blade(const char *call, uint16_t blade)
+{
+    uint16_t job[LENGTH(job_a)];
+    uint32_t answer[3];
+
+    memcpy(job, job_a, sizeof job_a);
+    job[BLADE] = blade;
+    saw_list(job, LENGTH(job), plates, LENGTH(plates), cuts, LENGTH(cuts), answer);
+    print_answer(call, answer);
+    if (answer[0] == 0)
+        print_records(plates, answer[1] + 1, 3);
+}
+
 /* A text of two or three parts, which are joined in `text`. */
 static size_t joined(uint8_t *text, const char *first, const char *second, const char *third)
 {
@@ -148,6 +164,8 @@ int main(void)
     print_answer("folding, boards", answer);
     print_records(counts, 1, LENGTH(plan_a));
 
+    list_with_blade("a blade of 1, residual types and cuts", 1);
+
     saw_list(job_a, LENGTH(job_a) - 1, plates, LENGTH(plates), cuts, LENGTH(cuts), answer);
     print_answer("a job cut short", answer);
     saw_list(job_a, LENGTH(job_a), plates, LENGTH(plates), cuts, LENGTH(cuts) - 1, answer);
@@ -156,6 +174,7 @@ int main(void)
     saw_test_plan(job_a, LENGTH(job_a), counts, LENGTH(counts), plates, LENGTH(plates), cuts, LENGTH(cuts), answer);
     print_answer("cut 4 at 3", answer);
     unfold_wrongly();
+    list_with_blade("a blade of 21", 21);
 
     print_texts();
     return 0;

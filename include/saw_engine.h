@@ -1,4 +1,4 @@
-/* The beam saw plan engine as a static library: the calls of document 01 with requests One to Three of document 02, for a host in C.
+/* The beam saw plan engine as a static library: the calls of document 01 with requests One to Four of document 02, for a host in C.
  *
  * Link target/staticlib/libengine.a, which `rt staticlib engine` writes for x86-64 Linux. Each function is proved to meet its contract in
  * crates/engine/src/calls.rt or, of the two texts, text_calls.rt. It allocates nothing, keeps no state between calls and always returns; of the C library it uses memcpy and memset alone.
@@ -45,13 +45,14 @@ extern "C" {
 #define SAW_TEXT_OUT 328046
 #define SAW_FOLD_TEXT_OUT 184000
 
-/* Words. A job: stages, exact, W, H, n, then width, height, demand, leave of each item type; leave is 1 if the type may be turned by 90 degrees, else 0. A
- * plate: width, height, stage. A cut: plate, item, top, right, where item is twice the type plus the turn (1 if turned, else 0), and 0 as top or right is a
- * residual that is not kept. Counts: one for each cut, from cut 1. Prices: D, one for each item type, one for each residual type. A placement: board, strip,
- * stack, place, type, x, y, turn. An offcut: board, x, y, width, height, usable, which is 1 or 0. */
+/* Words. A job: six head words, stages, exact, W, H, n and b, the width of the blade, 0 to 20, then width, height, demand, leave of each item type, so 6 + 4n in
+ * all; leave is 1 if the type may be turned by 90 degrees, else 0. A plate: width, height, stage. A cut: plate, item, top, right, where item is twice the type plus
+ * the turn (1 if turned, else 0), and 0 as top or right is a residual that is not kept; what a cut leaves lies beyond the blade. Counts: one for each cut, from
+ * cut 1. Prices: D, one for each item type, one for each residual type. A placement: board, strip, stack, place, type, x, y, turn; neighbours are b apart. An
+ * offcut: board, x, y, width, height, usable, which is 1 or 0. */
 
 /* Listing. Values: the numbers of residual types and of cuts. Plates and cuts end as the listing.
- * Refusals: 1, 2, 3, 4 of the job; 5; 6, 7 of the model. */
+ * Refusals: 1, 2, 3, 4 of the job, where 2, place 0, is a head word outside its limits; 5; 6, 7 of the model. */
 void saw_list(const uint16_t *job, size_t job_len,
               uint16_t *plates, size_t plates_len,
               uint16_t *cuts, size_t cuts_len,

@@ -1,5 +1,5 @@
-//! The inputs of the measurements, by name: jobs of `data/`, the job with most offcuts, and texts at
-//! the limits.
+//! The inputs of the measurements, by name: jobs of `data/`, one of them with a blade too, the job with
+//! most offcuts, and texts at the limits.
 
 use crate::task::{Call, Input};
 use inputs::longest::{long_texts, longest, of_job};
@@ -8,7 +8,7 @@ use inputs::Text;
 use reference::instances::all_jobs;
 use reference::instances::inputs::Inputs;
 use reference::instances::limit_jobs::limit_jobs;
-use reference::job::Job;
+use reference::job::{Job, HEAD_NUMBERS};
 use reference::listing::{Listing, FULL};
 
 /// The greatest listings, in each mode: 2,047 residual types and 8,192 cuts.
@@ -29,6 +29,12 @@ pub const PIECES: [&str; 4] = [
 
 /// 4,000 boards, each cut for one item, with two pieces left over.
 pub const OFFCUTS: &str = "8,000 offcuts";
+
+/// A great listing with a common blade: 1,813 residual types and 7,501 cuts.
+pub const BLADE: &str = "limits both 3N, a blade of 4";
+
+/// What stands between the name of a job of `data/` and a blade.
+const WITH_BLADE: &str = ", a blade of ";
 
 /// The longest texts.
 pub const LINES: &str = "99,999 lines";
@@ -81,8 +87,13 @@ fn words(call: Call, (job, inputs): (Vec<u16>, Inputs)) -> Input {
     }
 }
 
-/// The words of a job of `data/`.
+/// The words of a job of `data/`, with the blade that its name may end with.
 fn job(name: &str) -> Vec<u16> {
+    if let Some((name, blade)) = name.split_once(WITH_BLADE) {
+        let mut words = job(name);
+        words[HEAD_NUMBERS - 1] = blade.parse().expect("the width of a blade");
+        return words;
+    }
     let limits = limit_jobs().into_iter().map(|limit| limit.job);
     let found = limits.chain(all_jobs()).find(|job| job.name == name);
     found.expect("a job of data/").words

@@ -1,7 +1,7 @@
 //! Damage to words, to lines of numbers, and to the bytes of a text.
 
 use crate::random::Random;
-use reference::job::ITEM_NUMBERS;
+use reference::job::{HEAD_NUMBERS, ITEM_NUMBERS};
 use reference::layout::PLACEMENT_NUMBERS;
 
 /// The greatest number of nine columns.
@@ -11,7 +11,7 @@ const GREATEST: u32 = 999_999_999;
 /// four item types is meant.
 const LIMITS: [&[(u32, u32)]; 8] = [
     &[],
-    &[(2, 3), (0, 1), (1, 10_000), (1, 10_000), (1, 40)],
+    &[(2, 3), (0, 1), (1, 10_000), (1, 10_000), (1, 40), (0, 20)],
     &[(1, 4), (1, 10_000), (1, 10_000), (1, 4_000), (0, 1)],
     &[(0, 2_047), (1, 4), (1, 4_000), (0, 1)],
     &[(1, 9_999), (1, 40), (0, 2_047)],
@@ -42,8 +42,8 @@ impl Words {
     /// The lowest and the highest value of a word.
     fn limits(self, at: usize) -> (u32, u32) {
         match self {
-            Words::Job if at < 5 => LIMITS[1][at],
-            Words::Job => LIMITS[2][1 + (at - 5) % ITEM_NUMBERS],
+            Words::Job if at < HEAD_NUMBERS => LIMITS[1][at],
+            Words::Job => LIMITS[2][1 + (at - HEAD_NUMBERS) % ITEM_NUMBERS],
             Words::Counts => (0, 4_000),
             Words::Prices => (u32::from(at == 0), 9_999),
             Words::Layouts => LIMITS[7][at % PLACEMENT_NUMBERS],
@@ -79,10 +79,10 @@ pub fn damage_words(random: &mut Random, words: &mut Vec<u16>, purpose: Words) {
 
 /// Changes a job's words: a demand so that all of them come to about 4,000, a side so that the
 /// board is too small for the item as it stands, or however it lies, a leave, n with as many types
-/// as it asks for, or any word.
+/// as it asks for, the blade, or any word.
 pub fn damage_job(random: &mut Random, words: &mut Vec<u16>) {
-    let first = 5 + ITEM_NUMBERS * random.below(usize::from(words[4]));
-    match random.below(13) {
+    let first = HEAD_NUMBERS + ITEM_NUMBERS * random.below(usize::from(words[4]));
+    match random.below(16) {
         0..=2 => words[first + 2] = random.pick(&[3_999, 4_000, 4_000, 4_001]),
         3 => words[first] = words[2] + 1,
         4 => words[first + 1] = words[3] + 1,
@@ -90,9 +90,31 @@ pub fn damage_job(random: &mut Random, words: &mut Vec<u16>) {
         6 | 7 => words[first + 3] ^= 1,
         8 => {
             words[4] = random.pick(&[0, 40, 41]);
-            words.resize(5 + ITEM_NUMBERS * usize::from(words[4]), 1);
+            words.resize(HEAD_NUMBERS + ITEM_NUMBERS * usize::from(words[4]), 1);
         }
+        9 | 10 => words[5] = other_blade(random, words[5].into()) as u16,
+        11 => drop(words.remove(5)),
         _ => damage_words(random, words, Words::Job),
+    }
+}
+
+/// Another width of the blade: one more or less, the widest, or one past it.
+fn other_blade(random: &mut Random, blade: u32) -> u32 {
+    random.pick(&[blade + 1, blade.saturating_sub(1), 0, 20, 21])
+}
+
+/// Changes the blade on line 1, or leaves it away, or writes it twice.
+pub fn damage_blade(random: &mut Random, lines: &mut [Vec<u32>]) {
+    let Some(head) = lines.first_mut() else {
+        return;
+    };
+    let Some(blade) = head.pop() else {
+        return;
+    };
+    match random.below(4) {
+        0 => {}
+        1 => head.extend([blade, blade]),
+        _ => head.push(other_blade(random, blade)),
     }
 }
 

@@ -51,13 +51,27 @@ fn grow(random: &mut Random, board: &mut Board, item: Position) {
     }
 }
 
-/// The layout words of a set; in a broken one an item more is put anywhere.
+/// The layout words of a set; in a broken one an item more is put anywhere, or the gaps are wider or
+/// narrower than the blade.
 pub fn random_layouts(random: &mut Random, job: &Job, broken: bool) -> Vec<u16> {
     let mut set = random_set(random, job);
-    if broken {
-        grow_anywhere(random, job, &mut set);
+    if !broken {
+        return words_of_lines(&placements(job, &set));
     }
+    if random.once_in(3) {
+        return words_of_lines(&placements(&with_other_gaps(random, job), &set));
+    }
+    grow_anywhere(random, job, &mut set);
     words_of_lines(&placements(job, &set))
+}
+
+/// The job with a blade that is a little wider or narrower, or has no width.
+fn with_other_gaps(random: &mut Random, job: &Job) -> Job {
+    let blade = job.blade;
+    Job {
+        blade: random.pick(&[blade + 1, blade + 2, blade.saturating_sub(1), 0]),
+        ..job.clone()
+    }
 }
 
 /// Puts an item of any type into any board of a set, whatever the rules are; now and then it is

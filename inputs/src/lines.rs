@@ -1,24 +1,25 @@
 //! Lines: those of a small job with a plan and prices, or with layouts, and the text that damage makes of them.
 
-use crate::damage::{damage_bytes, damage_line, damage_order, move_number};
+use crate::damage::{damage_blade, damage_bytes, damage_line, damage_order, move_number};
 use crate::layouts::random_layouts;
 use crate::model::Model;
 use crate::plans::random_plan;
 use crate::prices::random_prices;
 use crate::random::Random;
 use reference::columns::write_line;
-use reference::job::ITEM_NUMBERS;
+use reference::job::{HEAD_NUMBERS, ITEM_NUMBERS};
 use reference::layout::PLACEMENT_NUMBERS;
 
 /// The numbers of a line, its kind first.
 pub type Line = Vec<u32>;
 
-/// The lines as bytes, damaged so many times: in numbers, in the order of all lines or of those
-/// after the job's, or in bytes.
+/// The lines as bytes, damaged so many times: in numbers, in the blade, in the order of all lines or
+/// of those after the job's, or in bytes.
 pub fn text_of(random: &mut Random, mut lines: Vec<Line>, types: usize, damages: usize) -> Vec<u8> {
     let mut in_bytes = 0;
     for _ in 0..damages {
-        match random.below(10) {
+        match random.below(11) {
+            10 => damage_blade(random, &mut lines),
             0..=3 => move_number(random, &mut lines),
             4 => damage_line(random, &mut lines),
             5 => damage_order(random, &mut lines),
@@ -46,8 +47,9 @@ pub fn job_lines(words: &[u16]) -> Vec<Line> {
         let numbers = words.iter().map(|&word| u32::from(word));
         head.iter().copied().chain(numbers).collect()
     };
-    let mut lines = vec![line(&[1], &words[..5])];
-    for (number, item) in (1..).zip(words[5..].chunks(ITEM_NUMBERS)) {
+    let (head, items) = words.split_at(HEAD_NUMBERS);
+    let mut lines = vec![line(&[1], head)];
+    for (number, item) in (1..).zip(items.chunks(ITEM_NUMBERS)) {
         lines.push(line(&[2, number], item));
     }
     lines

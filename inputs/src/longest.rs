@@ -14,11 +14,13 @@ pub struct Long {
 }
 
 /// One board of 4,000 pieces: 50 strips of 80.
-const ONE_BOARD: [u16; 9] = [2, 0, 80, 50, 1, 1, 1, 4_000, 0];
+const ONE_BOARD: [u16; 10] = [2, 0, 80, 50, 1, 0, 1, 1, 4_000, 0];
 /// 4,000 boards of one piece.
-const BOARDS: [u16; 9] = [3, 0, 10_000, 10_000, 1, 10_000, 10_000, 4_000, 0];
+const BOARDS: [u16; 10] = [3, 0, 10_000, 10_000, 1, 0, 10_000, 10_000, 4_000, 0];
 /// Two equal types: a board of 2,000 of each, and so 4,000 cuts that are counted once.
-const CUTS: [u16; 13] = [2, 0, 10_000, 9, 2, 5, 9, 2_000, 0, 5, 9, 2_000, 0];
+const CUTS: [u16; 14] = [2, 0, 10_000, 9, 2, 0, 5, 9, 2_000, 0, 5, 9, 2_000, 0];
+/// Ten boards of 400 pieces, with the widest blade between them.
+const WIDEST_BLADE: [u16; 10] = [3, 0, 10_000, 10_000, 1, 20, 480, 480, 4_000, 0];
 
 /// The long texts of a kind.
 pub fn long_texts(kind: Text) -> Vec<Long> {
@@ -30,6 +32,7 @@ pub fn long_texts(kind: Text) -> Vec<Long> {
         ("4,000 pieces on one board", &ONE_BOARD[..]),
         ("4,000 boards", &BOARDS),
         ("4,000 cuts counted", &CUTS),
+        ("a blade of 20", &WIDEST_BLADE),
     ];
     all.extend(jobs.map(|(name, words)| of_job(kind, name, words)));
     for limit in limit_jobs() {
@@ -86,13 +89,13 @@ fn of_most_lines(kind: Text) -> Vec<Long> {
     ]
 }
 
-/// The longest text that no line refuses: 4,600,323 bytes of a saw text, 8,199,864 of a fold text.
+/// The longest text that no line refuses: 4,600,332 bytes of a saw text, 8,199,873 of a fold text.
 pub fn longest(kind: Text) -> Vec<u8> {
     let types = match kind {
         Text::Saw => 40,
         Text::Fold => 1,
     };
-    let mut text = line(&[1, 2, 0, 2, 1, types]);
+    let mut text = line(&[1, 2, 0, 2, 1, types, 0]);
     for number in 1..=types {
         text.extend(line(&[2, number, 1, 1, 1, 0]));
     }
@@ -102,7 +105,7 @@ pub fn longest(kind: Text) -> Vec<u8> {
 
 /// A saw text with the longest price list: 40 types and 2,047 residual types, prices of up to four figures.
 fn of_most_prices() -> Long {
-    let mut text = line(&[1, 2, 0, 2, 1, 40]);
+    let mut text = line(&[1, 2, 0, 2, 1, 40, 0]);
     text.extend((1..=40).flat_map(|number| line(&[2, number, 1, 1, 1, 0])));
     text.extend(line(&[4, 9_999, 40, 2_047]));
     let price = |kind| move |number: u32| line(&[kind, number, number * 4_099 % 10_000]);

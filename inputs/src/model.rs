@@ -41,7 +41,8 @@ impl Model {
 
 /// A job whose sides are drawn from few values, so that equal widths and heights, and equal
 /// types, occur. In two of three jobs some types have leave to be turned, and some of these fit the
-/// board only turned.
+/// board only turned. A good half has a blade, most of these a narrow one; some are wider than the
+/// board.
 fn random_job(random: &mut Random, mode: Mode) -> Job {
     let longest = random.pick(&[4, 9, 16, 30]);
     let [width, height] = [0; 2].map(|_| random.between(longest / 2, longest));
@@ -64,12 +65,20 @@ fn random_job(random: &mut Random, mode: Mode) -> Job {
             false => item,
         }
     });
+    let items = items.collect();
     Job {
         mode,
         width,
         height,
-        items: items.collect(),
+        blade: random_blade(random),
+        items,
     }
+}
+
+/// No blade, a narrow one, or one of any width within its limits.
+fn random_blade(random: &mut Random) -> u16 {
+    let widest = random.pick(&[0, 0, 0, 3, 3, 3, 3, 20]);
+    random.between(0, widest)
 }
 
 /// The item with its sides changed.
@@ -87,12 +96,12 @@ fn random_side(random: &mut Random, board: u16) -> u16 {
     random.between(board.div_ceil(some + 2), board.div_ceil(some))
 }
 
-/// Stages, exact, W, H, n, then width, height, demand, leave of each type.
+/// Stages, exact, W, H, n, b, then width, height, demand, leave of each type.
 fn words_of(job: &Job) -> Vec<u16> {
     let stages = if job.mode.is_two_stage() { 2 } else { 3 };
     let exact = u16::from(job.mode.is_exact());
     let types = job.items.len() as u16;
-    let mut words = vec![stages, exact, job.width, job.height, types];
+    let mut words = vec![stages, exact, job.width, job.height, types, job.blade];
     for item in &job.items {
         words.extend([item.width, item.height, item.demand, u16::from(item.leave)]);
     }

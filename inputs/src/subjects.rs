@@ -1,5 +1,6 @@
 //! What a call is about: a small random job, or a job of `data/`, which is a published instance or
-//! lies at a limit of document 01 or one past it; beside these the job with most offcuts.
+//! lies at a limit of document 01 or one past it; beside these the job with most offcuts, and published
+//! instances with a blade.
 
 use crate::layouts::random_layouts;
 use crate::lengths::{any_lengths, valid_lengths};
@@ -84,7 +85,7 @@ impl Subject {
 /// The words of a job, and those of the plan that leaves over most: 4,000 boards of 2 by 2, each cut
 /// for one item of 1 by 1, and 8,000 offcuts.
 pub fn most_offcuts() -> (Vec<u16>, Inputs) {
-    let job = vec![2, 0, 2, 2, 1, 1, 1, 4_000, 0];
+    let job = vec![2, 0, 2, 2, 1, 0, 1, 1, 4_000, 0];
     let inputs = Inputs::of_singles(&job).expect("the job is listed");
     (job, inputs)
 }
@@ -103,8 +104,22 @@ fn single_items(model: &Model) -> Vec<u16> {
     counts
 }
 
-/// The jobs of `data/`, published ones and those at the limits, the one with most offcuts among
-/// these.
+/// Of every seventh published job the same with a blade: of 4, a common one, or the widest.
+fn with_blade(published: &[NamedJob]) -> Vec<NamedJob> {
+    let with = |(blade, job): (u16, &NamedJob)| {
+        let mut words = job.words.clone();
+        words[5] = blade;
+        NamedJob {
+            name: format!("{} with a blade of {blade}", job.name),
+            words,
+        }
+    };
+    let blades = [4, 4, 20, 1].into_iter().cycle();
+    blades.zip(published.iter().step_by(7)).map(with).collect()
+}
+
+/// The jobs of `data/`, published ones, some of them with a blade too, and those at the limits, the
+/// one with most offcuts among these.
 pub struct Known {
     published: Vec<Subject>,
     limits: Vec<Subject>,
@@ -116,8 +131,12 @@ impl Known {
         let limits = limit_jobs().into_iter().map(|limit| limit.job);
         let (job, inputs) = most_offcuts();
         let most_offcuts = Subject::Known(job, Some(inputs));
+        let published = jobs();
+        let with_blade = with_blade(&published);
         Known {
-            published: jobs().into_iter().map(Subject::known).collect(),
+            published: (published.into_iter().chain(with_blade))
+                .map(Subject::known)
+                .collect(),
             limits: limits.map(Subject::known).chain([most_offcuts]).collect(),
         }
     }

@@ -99,7 +99,7 @@ impl Text {
 /// Moves a number of some line to a limit that the job itself sets, or one past it: n, W, H, or the
 /// demand with which all of them are 4,000.
 fn move_to_own_limit(random: &mut Random, lines: &mut [Line]) {
-    let &[_, _, _, width, height, types] = &lines[0][..] else {
+    let &[_, _, _, width, height, types, _] = &lines[0][..] else {
         return;
     };
     let past = random.pick(&[0, 1]);

@@ -1,7 +1,7 @@
 //! What is generated: the same for the same seed, accepted by the reference where it is valid, and
 //! changed where it is damaged.
 
-use inputs::damage::{damage_job, damage_words, Words};
+use inputs::damage::{damage_blade, damage_job, damage_words, Words};
 use inputs::layouts::random_layouts;
 use inputs::lengths::{any_lengths, valid_lengths};
 use inputs::lines::{fold_lines, saw_lines, text_of};
@@ -11,6 +11,7 @@ use inputs::prices::random_prices;
 use inputs::subjects::most_offcuts;
 use inputs::text::refusal_in;
 use inputs::{Model, Random, Text};
+use reference::balance::of_boards;
 use reference::buffers::{COUNTS, CUTS, PLATES};
 use reference::instances::outcome;
 use reference::unfolding::unfold;
@@ -51,7 +52,7 @@ fn a_seed_gives_these_texts() {
         let texts = (0..500).flat_map(|number| text(&mut random, kind, number % 4));
         checksum(&texts.collect::<Vec<u8>>())
     });
-    assert_eq!(sums, [0x3CCB_DB78_AB61_191E, 0x3251_0653_3FE2_16FF]);
+    assert_eq!(sums, [0xBA55_8ADF_18A4_2D9B, 0xF498_6E32_C979_988B]);
 }
 
 #[test]
@@ -81,7 +82,7 @@ fn undamaged_texts_are_accepted_or_break_a_rule() {
     for kind in Text::BOTH {
         let broken: &[u32] = match kind {
             Text::Saw => &[2, 13, 14],
-            Text::Fold => &[16, 17, 19],
+            Text::Fold => &[16, 17, 18, 19],
         };
         let mut accepted = 0;
         for _ in 0..1_000 {
@@ -117,6 +118,52 @@ fn types_turn_and_some_fit_only_turned() {
     }
     let found = [only_turned, square, cut, laid];
     assert!(found.iter().all(|&found| found > 25), "{found:?}");
+}
+
+#[test]
+fn blades_are_of_no_width_narrow_and_above_every_side() {
+    let mut random = Random::new(8);
+    let [mut none, mut narrow, mut above, mut gaps, mut swaths] = [0; 5];
+    for _ in 0..1_000 {
+        let model = Model::random(&mut random);
+        let job = &model.job;
+        assert_eq!(model.words[5], job.blade);
+        none += usize::from(job.blade == 0);
+        narrow += usize::from((1..=3).contains(&job.blade));
+        above += usize::from(job.blade > job.width.max(job.height));
+        let plan = random_plan(&mut random, &model);
+        let unfolding = unfold(job, &model.listing, &plan);
+        let boards = of_boards(job, &model.listing, &unfolding);
+        swaths += boards.iter().filter(|board| board.swath > 0).count();
+        let layouts = random_layouts(&mut random, job, false);
+        let placed = layouts.chunks(8);
+        gaps += match job.blade {
+            0 => 0,
+            _ => placed.filter(|line| line[5] > 0 || line[6] > 0).count(),
+        };
+    }
+    let found = [none, narrow, above, gaps, swaths];
+    assert!(found.iter().all(|&found| found > 25), "{found:?}");
+}
+
+#[test]
+fn a_damaged_blade_is_another_one_past_its_limit_or_no_seventh_group() {
+    let mut random = Random::new(9);
+    let mut met = BTreeSet::new();
+    for _ in 0..200 {
+        let mut lines = vec![vec![1, 2, 0, 9, 7, 1, 4], vec![2, 1, 5, 4, 2, 0]];
+        damage_blade(&mut random, &mut lines);
+        met.insert(lines[0][6..].to_vec());
+    }
+    let expected: [&[u32]; 7] = [&[], &[0], &[3], &[4, 4], &[5], &[20], &[21]];
+    assert!(met.iter().eq(expected), "{met:?}");
+    let mut words = BTreeSet::new();
+    for _ in 0..2_000 {
+        let mut job = vec![2, 0, 9, 7, 1, 4, 5, 4, 2, 0];
+        damage_job(&mut random, &mut job);
+        words.extend(job.get(5).copied().filter(|_| job.len() == 10));
+    }
+    assert!(words.contains(&20) && words.contains(&21), "{words:?}");
 }
 
 #[test]
@@ -184,7 +231,7 @@ fn damaged_words_differ() {
 
 #[test]
 fn no_line_of_the_longest_texts_is_refused_and_the_next_one_is() {
-    for (kind, length) in Text::BOTH.into_iter().zip([4_600_323, 8_199_864]) {
+    for (kind, length) in Text::BOTH.into_iter().zip([4_600_332, 8_199_873]) {
         let mut text = longest(kind);
         assert_eq!(text.len(), length);
         let refusal = refusal_in(&kind.answer(&text)).expect("the lines are all the same");

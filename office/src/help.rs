@@ -15,8 +15,8 @@ office: from a job to a plan for the beam saw, and from the saw's answer to draw
   office explain TEXT NUMBER PLACE  the same, from the two numbers at the panel
   office --help                     this page; office COMMAND --help says more of a command
 
-Files are texts as docs/FORMAT.md says; - stands for standard input. JOB is lines 1 and 2, and any
-text that begins with them serves. Results go to standard output, but for the drawings.
+Files are texts as docs/FORMAT.md says; - stands for standard input. JOB is lines 1 and 2, the last
+number of line 1 being the width of the blade, and any text that begins with them serves. Results go to standard output, but for the drawings.
 ";
 
 /// The use of one command, if there is such a command.
@@ -62,15 +62,16 @@ it is the relaxation's:
   cbc job.lp initialSolve printingOptions all solution dual.sol
   office prices plan.txt dual.sol > priced.txt
 
-Without SOLUTION each item's price is its share of the board's area. Price lines of TEXT are replaced.
+Without SOLUTION each item's price is its share of the board's area, sides taken with the blade. Price lines of TEXT are replaced.
 ";
 
 const DRAW: &str = "\
 office draw JOB OUTPUT FOLDER [FIRST SECOND]
 
 Draws the saw's output: board-1.svg, board-2.svg and so on, and boards.html with all of them. An
-earlier drawing in FOLDER is replaced. Each board, and the job, is given its yield, offcuts and waste
-in per cent. Offcuts are shaded; those whose width is at least FIRST and whose height is at least
+earlier drawing in FOLDER is replaced. Each board, and the job, is given its yield, offcuts, waste and
+swath in per cent. The swath, which the blade takes between pieces, is drawn to scale as brown bands.
+Offcuts are shaded; those whose width is at least FIRST and whose height is at least
 SECOND (each 1 to 10,000; 1 and 1 if not given, so that all are) are usable: they are drawn darker and
 with their sides, and boards.html counts them by size.
 

@@ -1,9 +1,11 @@
-//! The job: board, item types and stage mode, read from lines of kinds 1 and 2.
+//! The job: board, blade, item types and stage mode, read from lines of kinds 1 and 2.
 
 use crate::columns::{line, numbers, thousands};
 
 /// The longest side of a board or an item, in millimetres.
 pub const MOST_SIDE: usize = 10_000;
+/// The widest blade, in millimetres.
+pub const MOST_BLADE: usize = 20;
 /// The most item types of a job.
 pub const MOST_TYPES: usize = 40;
 /// The most pieces of a job, a plan or a set of layouts.
@@ -33,13 +35,14 @@ impl Item {
     }
 }
 
-/// A job: stage mode, board and item types; item type i stands at place i - 1.
+/// A job: stage mode, board, width of the blade and item types; item type i stands at place i - 1.
 #[derive(Debug, Clone, PartialEq, Eq)]
 pub struct Job {
     pub stages: usize,
     pub exact: bool,
     pub width: usize,
     pub height: usize,
+    pub blade: usize,
     pub items: Vec<Item>,
 }
 
@@ -85,6 +88,7 @@ impl Job {
             self.width,
             self.height,
             self.items.len(),
+            self.blade,
         ];
         let mut text = line(&first);
         for (item_type, item) in (1..).zip(&self.items) {
@@ -106,10 +110,11 @@ impl Job {
     /// Reads the job's lines, whether or not the job they give is admitted.
     pub fn of_lines(text: &str) -> Result<Job, String> {
         let mut lines = (1..).zip(text.lines());
-        let [stages, exact, width, height, types] = match lines.next() {
-            Some((_, first)) => five(first)?,
+        let [stages, exact, width, height, types, blade] = match lines.next() {
+            Some((_, first)) => head(first)?,
             None => {
-                return Err("the job is empty; its first line is 1, stages, exact, W, H, n".into())
+                let form = "1, stages, exact, W, H, n, b";
+                return Err(format!("the job is empty; its first line is {form}"));
             }
         };
         let mut items = Vec::new();
@@ -129,6 +134,7 @@ impl Job {
             exact: exact == 1,
             width,
             height,
+            blade,
             items,
         })
     }
@@ -160,10 +166,11 @@ impl Job {
 }
 
 /// The numbers of line 1 after its kind, each within its limits.
-fn five(first: &str) -> Result<[usize; 5], String> {
-    let form = "line 1 must be: 1, stages (2 or 3), exact (1 or 0), W, H, n";
+fn head(first: &str) -> Result<[usize; 6], String> {
+    let form =
+        "line 1 must be: 1, stages (2 or 3), exact (1 or 0), W, H, n, b, the width of the blade";
     let all = numbers(first).ok_or(format!("{form}; something in it is not a whole number"))?;
-    let [1, stages, exact, width, height, types] = all[..] else {
+    let [1, stages, exact, width, height, types, blade] = all[..] else {
         return Err(format!(
             "{form}; it has {} number(s), the first being the kind",
             all.len()
@@ -174,7 +181,8 @@ fn five(first: &str) -> Result<[usize; 5], String> {
     within("W", width, 1, MOST_SIDE)?;
     within("H", height, 1, MOST_SIDE)?;
     within("n", types, 1, MOST_TYPES)?;
-    Ok([stages, exact, width, height, types])
+    within("b", blade, 0, MOST_BLADE)?;
+    Ok([stages, exact, width, height, types, blade])
 }
 
 /// The item type of a line 2, whose running number must be the one given.
@@ -221,11 +229,24 @@ fn within(name: &str, number: usize, least: usize, most: usize) -> Result<(), St
 pub mod tests {
     use super::*;
 
-    /// A job in a mode such as "2N"; no item may be turned.
+    /// A job in a mode such as "2N", with a blade of no width; no item may be turned.
     pub fn job(mode: &str, board: [usize; 2], items: &[[usize; 3]]) -> Job {
         let without = |&[width, height, demand]: &[usize; 3]| [width, height, demand, 0];
         let items: Vec<[usize; 4]> = items.iter().map(without).collect();
         job_with_leave(mode, board, &items)
+    }
+
+    /// The same with a blade.
+    pub fn job_with_blade(
+        mode: &str,
+        board: [usize; 2],
+        blade: usize,
+        items: &[[usize; 3]],
+    ) -> Job {
+        Job {
+            blade,
+            ..job(mode, board, items)
+        }
     }
 
     /// A job in a mode, the leave of each item type given.
@@ -241,6 +262,7 @@ pub mod tests {
             exact: &mode[1..] == "E",
             width,
             height,
+            blade: 0,
             items: items.iter().map(item).collect(),
         }
     }
@@ -260,12 +282,16 @@ pub mod tests {
         assert_eq!(Job::read(&job_a().text()), Ok(job_a()));
         let turning = job_with_leave("3E", [5, 3], &[[3, 5, 1, 1], [2, 2, 1, 0]]);
         assert_eq!(Job::read(&turning.text()), Ok(turning));
+        let with_blade = job_with_blade("2N", [9, 7], 4, &[[5, 4, 2]]);
+        let first = "        1        2        0        9        7        1        4\n";
+        assert!(with_blade.text().starts_with(first));
+        assert_eq!(Job::read(&with_blade.text()), Ok(with_blade));
         assert_eq!(job_a().mode(), "2N");
     }
 
     #[test]
     fn blanks_and_what_follows_do_not_matter() {
-        let text = "1 2 0 9 7 2\r\n2 1 5 4 2 0\r\n2 2 3 3 3 0\r\n3 0 1 2 0\n";
+        let text = "1 2 0 9 7 2 0\r\n2 1 5 4 2 0\r\n2 2 3 3 3 0\r\n3 0 1 2 0\n";
         assert_eq!(Job::read(text), Ok(job_a()));
     }
 
@@ -274,22 +300,27 @@ pub mod tests {
         for (text, told) in [
             ("", "empty"),
             ("1 2 0 9 7", "5 number(s)"),
-            ("1 2 0 9 x 2", "not a whole number"),
-            ("1 4 0 9 7 2", "stages is 4"),
-            ("1 2 2 9 7 2", "exact is 2"),
-            ("1 2 0 10001 7 2", "W is 10,001"),
-            ("1 2 0 9 0 2", "H is 0"),
-            ("1 2 0 9 7 41", "n is 41"),
-            ("1 2 0 9 7 2\n2 1 5 4 2 0", "only 1 line(s)"),
-            ("1 2 0 9 7 2\n2 1 5 4 2", "5 number(s)"),
-            ("1 2 0 9 7 2\n2 2 5 4 2 0", "2 is not the next"),
-            ("1 2 0 9 7 2\n3 1 5 4 2 0", "line 2: must be: 2, 1"),
-            ("1 2 0 9 7 1\n2 1 5 4 0 0", "demand is 0"),
-            ("1 2 0 9 7 1\n2 1 5 4 1 2", "leave is 2"),
-            ("1 2 0 9 7 1\n2 1 7 9 1 0", "has no leave to be turned"),
-            ("1 2 0 9 7 1\n2 1 8 8 1 1", "9 by 7, turned or not"),
             (
-                "1 2 0 9 7 2\n2 1 5 4 3999 0\n2 2 3 3 2 0",
+                "1 2 0 9 7 2",
+                "b, the width of the blade; it has 6 number(s)",
+            ),
+            ("1 2 0 9 x 2 0", "not a whole number"),
+            ("1 4 0 9 7 2 0", "stages is 4"),
+            ("1 2 2 9 7 2 0", "exact is 2"),
+            ("1 2 0 10001 7 2 0", "W is 10,001"),
+            ("1 2 0 9 0 2 0", "H is 0"),
+            ("1 2 0 9 7 41 0", "n is 41"),
+            ("1 2 0 9 7 2 21", "b is 21; it must be from 0 to 20"),
+            ("1 2 0 9 7 2 0\n2 1 5 4 2 0", "only 1 line(s)"),
+            ("1 2 0 9 7 2 0\n2 1 5 4 2", "5 number(s)"),
+            ("1 2 0 9 7 2 0\n2 2 5 4 2 0", "2 is not the next"),
+            ("1 2 0 9 7 2 0\n3 1 5 4 2 0", "line 2: must be: 2, 1"),
+            ("1 2 0 9 7 1 0\n2 1 5 4 0 0", "demand is 0"),
+            ("1 2 0 9 7 1 0\n2 1 5 4 1 2", "leave is 2"),
+            ("1 2 0 9 7 1 0\n2 1 7 9 1 0", "has no leave to be turned"),
+            ("1 2 0 9 7 1 0\n2 1 8 8 1 1", "9 by 7, turned or not"),
+            (
+                "1 2 0 9 7 2 0\n2 1 5 4 3999 0\n2 2 3 3 2 0",
                 "add up to 4,001",
             ),
         ] {

@@ -109,6 +109,7 @@ pub fn to_walk(job: &Job) -> reference::Job {
         mode: mode.expect("a job has two or three stages"),
         width: word(job.width),
         height: word(job.height),
+        blade: word(job.blade),
         items: job.items.iter().map(item).collect(),
     }
 }
@@ -134,7 +135,7 @@ pub fn too_large(refusal: Refusal) -> String {
 #[cfg(test)]
 mod tests {
     use super::*;
-    use crate::job::tests::{example, job, job_a, job_with_leave};
+    use crate::job::tests::{example, job, job_a, job_with_blade, job_with_leave};
 
     fn sizes(job: &Job) -> (usize, usize) {
         let listing = Listing::of(job).unwrap();
@@ -148,6 +149,20 @@ mod tests {
         assert_eq!(sizes(&job("2E", [9, 7], &[[5, 4, 2], [3, 3, 3]])), (4, 7));
         assert_eq!(sizes(&job("3N", [5, 5], &[[3, 5, 1], [2, 2, 2]])), (4, 6));
         assert_eq!(sizes(&job("2N", [9, 7], &[[9, 7, 1]])), (0, 1));
+    }
+
+    #[test]
+    fn a_blade_leaves_fewer_residuals() {
+        let with = |blade| {
+            sizes(&job_with_blade(
+                "2N",
+                [9, 7],
+                blade,
+                &[[5, 4, 2], [3, 3, 3]],
+            ))
+        };
+        let expected = [(5, 8), (3, 5), (1, 3), (1, 3), (0, 2)];
+        assert_eq!([0, 1, 2, 3, 4].map(with), expected);
     }
 
     /// A listing as docs/FORMAT.md prints it: plates, then plate, item, top and right of each cut.

@@ -68,7 +68,7 @@ pub fn lp(job: &Job, listing: &Listing) -> String {
 /// Comments that say what the columns and rows are.
 fn head(job: &Job, listing: &Listing) -> String {
     format!(
-        "\\ One-cut model of a job in mode {}: board {} by {}, {} item types.\n\
+        "\\ One-cut model of a job in mode {}: board {} by {}, blade {}, {} item types.\n\
          \\ {} residual types, {} cuts.\n\
          \\ Column x_P_I_T: how often item type I is cut from plate type P, turned if T is 1.\n\
          \\ Row item_I: item type I is cut as often as demanded.\n\
@@ -77,6 +77,7 @@ fn head(job: &Job, listing: &Listing) -> String {
         job.mode(),
         job.width,
         job.height,
+        job.blade,
         job.items.len(),
         listing.residual_types(),
         listing.cuts.len()
@@ -131,7 +132,7 @@ fn wrapped(text: &mut String, words: impl Iterator<Item = String>) {
 #[cfg(test)]
 mod tests {
     use super::*;
-    use crate::job::tests::{job, job_a, job_with_leave};
+    use crate::job::tests::{job, job_a, job_with_blade, job_with_leave};
 
     fn lp_of(job: &Job) -> String {
         lp(job, &Listing::of(job).unwrap())
@@ -157,9 +158,24 @@ Generals
 End
 ";
         assert!(text.ends_with(model), "{text}");
-        assert!(
-            text.starts_with("\\ One-cut model of a job in mode 2N: board 9 by 7, 2 item types.\n")
-        );
+        let head = "\\ One-cut model of a job in mode 2N: board 9 by 7, blade 0, 2 item types.\n";
+        assert!(text.starts_with(head), "{text}");
+    }
+
+    #[test]
+    fn job_a_with_a_blade_of_2_has_this_model() {
+        let text = lp_of(&job_with_blade("2N", [9, 7], 2, &[[5, 4, 2], [3, 3, 3]]));
+        let model = "\
+Minimize
+ boards: + x_0_1_0 + x_0_2_0 + 0 x_1_2_0
+Subject To
+ item_1: + x_0_1_0 >= 2
+ item_2: + x_0_2_0 + x_1_2_0 >= 3
+ plate_1: + x_0_2_0 - x_1_2_0 >= 0
+ pieces: + x_0_1_0 + x_0_2_0 + x_1_2_0 <= 4000
+";
+        assert!(text.contains(model), "{text}");
+        assert!(text.contains("board 9 by 7, blade 2, 2 item types"));
     }
 
     #[test]

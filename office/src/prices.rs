@@ -49,11 +49,13 @@ pub fn duals(job: &Job, solution: &Solution) -> Result<Vec<f64>, String> {
 }
 
 /// Each item type's share of the board's area, which serves as its price where no solution is given.
+/// All sides are taken with the blade, the board's too, at whose edges no blade is needed.
 pub fn areas(job: &Job) -> Vec<f64> {
-    let board = (job.width * job.height) as f64;
+    let area = |width, height| ((width + job.blade) * (height + job.blade)) as f64;
+    let board = area(job.width, job.height);
     job.items
         .iter()
-        .map(|item| (item.width * item.height) as f64 / board)
+        .map(|item| area(item.width, item.height) / board)
         .collect()
 }
 
@@ -137,7 +139,7 @@ impl Prices {
 #[cfg(test)]
 mod tests {
     use super::*;
-    use crate::job::tests::{example, job, job_a};
+    use crate::job::tests::{example, job, job_a, job_with_blade};
 
     fn scaled_for(job: &Job, duals: &[f64]) -> Prices {
         scaled(job, &Listing::of(job).unwrap(), duals)
@@ -161,6 +163,15 @@ mod tests {
         assert_eq!((prices.denominator, prices.items), (3, vec![1]));
         let prices = scaled_for(&example(), &[0.499999, 0.000001]);
         assert_eq!((prices.denominator, prices.items), (2, vec![1, 0]));
+    }
+
+    #[test]
+    fn prices_by_area_count_the_blade() {
+        // Two items of 5 by 4 and the blade of 1 fill a strip of 11; without it, 10 would do.
+        let job = job_with_blade("2N", [11, 4], 1, &[[5, 4, 6]]);
+        assert_eq!(areas(&job), [0.5]);
+        let prices = scaled_for(&job, &areas(&job));
+        assert_eq!((prices.sum(&job), prices.denominator), (6, 2));
     }
 
     #[test]

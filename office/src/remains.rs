@@ -1,5 +1,5 @@
-//! What remains of the boards: offcuts and waste. The saw's text lists neither; both follow from the
-//! plan, and folding the saw's own output gives the plan back.
+//! What remains of the boards: offcuts, waste and the blade's swath. The saw's text lists none of
+//! them; they follow from the plan, and folding the saw's own output gives the plan back.
 
 use crate::answer::{Answer, Placement};
 use crate::columns::thousands;
@@ -10,7 +10,7 @@ use reference::folding::fold;
 use reference::layout_lines::test;
 use reference::listing::FULL;
 use reference::unfolding::{unfold, Unfolding};
-use reference::Balance;
+use reference::{Balance, Listing};
 
 /// Lengths that every offcut reaches.
 pub const LEAST: [usize; 2] = [1, 1];
@@ -26,10 +26,22 @@ pub struct Offcut {
     pub usable: bool,
 }
 
-/// The offcuts of a board, and the areas of its items, offcuts and waste.
+/// A band that the blade takes between pieces, as wide as the blade or as what remained of the piece.
+/// Its part inside a trim is waste and no part of the band.
+#[derive(Debug, Clone, Copy, PartialEq, Eq)]
+pub struct Band {
+    pub x: usize,
+    pub y: usize,
+    pub width: usize,
+    pub height: usize,
+}
+
+/// The offcuts of a board, the bands of its swath, and the areas of its items, offcuts, waste and
+/// swath.
 #[derive(Debug, Clone, PartialEq, Eq)]
 pub struct Rest {
     pub offcuts: Vec<Offcut>,
+    pub swath: Vec<Band>,
     pub areas: Balance,
 }
 
@@ -45,7 +57,7 @@ impl Remains {
     /// be the saw's.
     pub fn of(job: &Job, answer: &Answer, lengths: [usize; 2]) -> Result<Remains, String> {
         let walked = to_walk(job);
-        let listing = reference::Listing::walk(&walked, FULL).map_err(too_large)?;
+        let listing = Listing::walk(&walked, FULL).map_err(too_large)?;
         let lines = lines(job, answer).ok_or_else(not_laid_so)?;
         let set = test(&walked, &lines, 1).map_err(|_| not_laid_so())?;
         let counts = fold(&walked, &listing, &set);
@@ -56,6 +68,7 @@ impl Remains {
         let areas = of_boards(&walked, &listing, &unfolding);
         let rest = |(number, areas): (u16, Balance)| Rest {
             offcuts: offcuts(&unfolding, number, lengths),
+            swath: swath(&walked, &listing, &unfolding, number),
             areas,
         };
         Ok(Remains {
@@ -71,6 +84,7 @@ impl Remains {
             areas.items += board.areas.items;
             areas.offcuts += board.areas.offcuts;
             areas.waste += board.areas.waste;
+            areas.swath += board.areas.swath;
         }
         areas
     }
@@ -142,6 +156,51 @@ fn offcuts(unfolding: &Unfolding, board: u16, [first, second]: [usize; 2]) -> Ve
     on_board.map(offcut).collect()
 }
 
+/// The bands of the swath on a board.
+fn swath(job: &reference::Job, listing: &Listing, unfolding: &Unfolding, board: u16) -> Vec<Band> {
+    let mut swath = Vec::new();
+    for (placement, &cut) in unfolding.placements.iter().zip(&unfolding.cuts) {
+        if placement.board == board {
+            let plate = listing.plates[usize::from(listing.cuts[cut].plate)];
+            swath.extend(bands(job, &plate, placement));
+        }
+    }
+    swath
+}
+
+/// The bands of the swath of one cut: above the item and beside it, where something remains there, but
+/// not inside the trim of a two-stage strip or of a stack.
+fn bands(
+    job: &reference::Job,
+    plate: &reference::Plate,
+    placement: &reference::Placement,
+) -> impl Iterator<Item = Band> {
+    let item = job.sides(placement.position);
+    let [width, height] = [item.width, item.height].map(usize::from);
+    let [whole_width, whole_height] = [plate.width, plate.height].map(usize::from);
+    let blade = usize::from(job.blade);
+    let [across, upwards] =
+        [whole_width - width, whole_height - height].map(|rest| rest.min(blade));
+    let [x, y] = [placement.x, placement.y].map(usize::from);
+    let above = |width| [x, y + height, width, upwards];
+    let beside = |height| [x + width, y, across, height];
+    let none = [0; 4];
+    let bands = match (plate.stage, job.mode.is_two_stage()) {
+        (1, _) => [above(whole_width), beside(height)],
+        (2, true) => [none, beside(height)],
+        (2, false) => [above(width), beside(whole_height)],
+        _ => [above(width), none],
+    };
+    let band = |[x, y, width, height]: [usize; 4]| Band {
+        x,
+        y,
+        width,
+        height,
+    };
+    let filled = |[.., width, height]: &[usize; 4]| width * height > 0;
+    bands.into_iter().filter(filled).map(band)
+}
+
 /// What to say of an output that the saw does not write for any plan of the job.
 fn not_laid_so() -> String {
     "the saw lays no plan of this job out like this: is it the output for another job?".into()
@@ -150,7 +209,7 @@ fn not_laid_so() -> String {
 #[cfg(test)]
 mod tests {
     use super::*;
-    use crate::job::tests::{job, job_a};
+    use crate::job::tests::{job, job_a, job_with_blade};
 
     const OUTPUT: &str = "7 1 1 1 1 1 0 0 0\n7 1 1 2 1 2 5 0 0\n7 1 2 1 1 2 0 4 0\n7 1 2 2 1 2 3 4 0\n7 2 1 1 1 1 0 0 0\n8 2 2 1 1\n";
 
@@ -184,6 +243,25 @@ mod tests {
             found.offcuts().filter(|offcut| offcut.usable).count()
         };
         assert_eq!([LEAST, [4, 4], [9, 3], [3, 9]].map(usable), [3, 1, 1, 0]);
+    }
+
+    #[test]
+    fn the_swath_of_a_strip_with_a_trim() {
+        let job = job_with_blade("2N", [20, 10], 2, &[[8, 9, 1], [8, 6, 1]]);
+        let output = "7 1 1 1 1 1 0 0 0\n7 1 1 2 1 2 10 0 0\n8 1 0 1 0\n";
+        let answer = Answer::read(output, &job).unwrap();
+        let found = Remains::of(&job, &answer, LEAST).unwrap();
+        let [board] = &found.boards[..] else { panic!() };
+        let band = |band: &Band| [band.x, band.y, band.width, band.height];
+        let bands: Vec<[usize; 4]> = board.swath.iter().map(band).collect();
+        assert_eq!(bands, [[0, 9, 20, 1], [8, 0, 2, 9], [18, 0, 2, 6]]);
+        let Balance {
+            items,
+            offcuts,
+            waste,
+            swath,
+        } = found.areas();
+        assert_eq!([items, offcuts, waste, swath], [120, 0, 30, 50]);
     }
 
     #[test]

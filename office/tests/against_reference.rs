@@ -47,6 +47,7 @@ impl Random {
             exact: self.below(2) == 1,
             width,
             height,
+            blade: [0, 0, 1, 2, 3, 20][self.below(6)],
             items,
         }
     }
@@ -73,7 +74,8 @@ fn saw(text: &str) -> String {
 /// The job as words.
 fn words(job: &Job) -> Vec<u16> {
     let exact = usize::from(job.exact);
-    let head = [job.stages, exact, job.width, job.height, job.items.len()];
+    let [types, blade] = [job.items.len(), job.blade];
+    let head = [job.stages, exact, job.width, job.height, types, blade];
     let items = job
         .items
         .iter()
@@ -152,8 +154,8 @@ fn listings_are_those_of_the_listing_call() {
 #[test]
 fn plans_and_prices_are_accepted_and_drawn() {
     let mut random = Random(2);
-    let [mut turned, mut offcuts] = [0; 2];
-    for round in 0..24 {
+    let [mut turned, mut offcuts, mut swaths] = [0; 3];
+    for round in 0..36 {
         let job = random.job();
         let listing = Listing::of(&job).unwrap();
         let counts = one_each(&job, &listing);
@@ -179,17 +181,24 @@ fn plans_and_prices_are_accepted_and_drawn() {
         assert_eq!(page(&job, &answer, &remains).len(), answer.boards.len() + 1);
         assert_eq!(offcut_words(&remains), unfolded(&job, &counts, lengths));
         offcuts += remains.offcuts().count();
+        for rest in &remains.boards {
+            let bands: usize = rest.swath.iter().map(|band| band.width * band.height).sum();
+            assert_eq!(bands as u64, rest.areas.swath);
+            assert_eq!(rest.areas.whole(), (job.width * job.height) as u64);
+            swaths += usize::from(bands > 0);
+        }
         turned += (1..=job.items.len())
             .map(|item| answer.turned_of(item))
             .sum::<usize>();
     }
     assert!(turned > 20, "{turned} items are turned");
     assert!(offcuts > 100, "{offcuts} offcuts");
+    assert!(swaths > 100, "{swaths} boards have a swath");
 }
 
 #[test]
 fn prices_by_area_reach_the_area_bound_where_boards_can_be_filled() {
-    let job = Job::read("1 2 0 6 6 1\n2 1 2 3 13 0\n").unwrap();
+    let job = Job::read("1 2 0 6 6 1 0\n2 1 2 3 13 0\n").unwrap();
     let prices = prices::scaled(&job, &Listing::of(&job).unwrap(), &prices::areas(&job));
     assert_eq!((prices.sum(&job), prices.denominator), (13, 6));
 }

@@ -5,7 +5,7 @@ use std::path::{Path, PathBuf};
 use std::process::{Command, Output, Stdio};
 use std::{env, fs, process};
 
-const JOB: &str = "1 2 0 9 7 2\n2 1 5 4 2 0\n2 2 3 3 3 0\n";
+const JOB: &str = "1 2 0 9 7 2 0\n2 1 5 4 2 0\n2 2 3 3 3 0\n";
 const SOLUTION: &str = "s mip 8 8 o 2\nj 1 2\nj 3 1\nj 4 1\nj 7 1\ne o f\n";
 const DUALS: &str = "s bas 8 8 f f 2\ni 1 l 2 1\ni 2 l 3 0\ne o f\n";
 

@@ -19,7 +19,7 @@ impl Random {
 
 /// Job A with its plan and prices.
 const SAW: [&[usize]; 15] = [
-    &[1, 2, 0, 9, 7, 2],
+    &[1, 2, 0, 9, 7, 2, 0],
     &[2, 1, 5, 4, 2, 0],
     &[2, 2, 3, 3, 3, 0],
     &[3, 0, 1, 2, 0],
@@ -38,7 +38,7 @@ const SAW: [&[usize]; 15] = [
 
 /// Layouts of a job in three stages.
 const FOLD: [&[usize]; 7] = [
-    &[1, 3, 0, 5, 5, 2],
+    &[1, 3, 0, 5, 5, 2, 0],
     &[2, 1, 3, 5, 2, 0],
     &[2, 2, 2, 2, 2, 0],
     &[7, 1, 1, 1, 1, 1, 0, 0, 0],
@@ -47,8 +47,41 @@ const FOLD: [&[usize]; 7] = [
     &[7, 2, 1, 1, 1, 1, 0, 0, 0],
 ];
 
+/// The same with a blade of 1.
+const FOLD_WITH_BLADE: [&[usize]; 7] = [
+    &[1, 3, 0, 6, 5, 2, 1],
+    &[2, 1, 3, 5, 2, 0],
+    &[2, 2, 2, 2, 2, 0],
+    &[7, 1, 1, 1, 1, 1, 0, 0, 0],
+    &[7, 1, 1, 2, 1, 2, 4, 0, 0],
+    &[7, 1, 1, 2, 2, 2, 4, 3, 0],
+    &[7, 2, 1, 1, 1, 1, 0, 0, 0],
+];
+
 /// Numbers that are often wrong somewhere.
-const NUMBERS: [usize; 14] = [0, 1, 2, 3, 4, 5, 6, 7, 8, 9, 40, 4_000, 10_000, 999_999_999];
+const NUMBERS: [usize; 15] = [
+    0,
+    1,
+    2,
+    3,
+    4,
+    5,
+    6,
+    7,
+    8,
+    9,
+    21,
+    40,
+    4_000,
+    10_000,
+    999_999_999,
+];
+
+/// The bytes of lines.
+fn text_of(lines: &[impl AsRef<[usize]>]) -> Vec<u8> {
+    let lines = lines.iter().map(|numbers| line(numbers.as_ref()));
+    lines.collect::<String>().into_bytes()
+}
 
 /// Changes a number, leaves out a line, sets one twice, or swaps two.
 fn lines_damaged(random: &mut Random, lines: &mut Vec<Vec<usize>>) {
@@ -88,11 +121,7 @@ fn explained(base: &[&[usize]], answer: fn(&[u8]) -> Vec<u8>, seed: u64) -> [usi
         for _ in 0..=random.below(2) {
             lines_damaged(&mut random, &mut lines);
         }
-        let mut text = lines
-            .iter()
-            .map(|numbers| line(numbers))
-            .collect::<String>()
-            .into_bytes();
+        let mut text = text_of(&lines);
         bytes_damaged(&mut random, &mut text);
         let answer = String::from_utf8(answer(&text)).unwrap();
         if let Ok([number, place]) = refusal(&answer) {
@@ -115,8 +144,11 @@ fn every_refusal_of_a_saw_text_is_explained() {
 
 #[test]
 fn every_refusal_of_a_fold_text_is_explained() {
-    let refused = explained(&FOLD, reference::fold_text, 6);
-    for number in [1, 2, 3, 4, 11, 15, 16, 17, 18, 19] {
-        assert!(refused[number] > 0, "{number} was never met: {refused:?}");
+    for (base, seed) in [(&FOLD, 6), (&FOLD_WITH_BLADE, 7)] {
+        assert!(!reference::fold_text(&text_of(base)).starts_with(b"        9"));
+        let refused = explained(base, reference::fold_text, seed);
+        for number in [1, 2, 3, 4, 11, 15, 16, 17, 18, 19] {
+            assert!(refused[number] > 0, "{number} was never met: {refused:?}");
+        }
     }
 }

@@ -234,7 +234,7 @@ fn the_worked_listings_are_right() {
         .iter()
         .filter(|block| block.mark[0] == "listing")
         .collect();
-    assert_eq!(listings.len(), 3);
+    assert_eq!(listings.len(), 4);
     for block in listings {
         assert_eq!(block.lines, listing(&examples[&block.mark[1]]));
     }

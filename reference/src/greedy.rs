@@ -72,12 +72,17 @@ impl Missing<'_> {
         Some(position)
     }
 
+    /// What is left of a room beyond a length and the blade.
+    fn beyond(&self, room: u16, length: u16) -> u16 {
+        room.saturating_sub(length + self.job.blade)
+    }
+
     /// A board of strips, each led by the highest item that the room above allows.
     fn board(&mut self) -> Board {
         let mut board = Board::new();
         let mut room = self.job.height;
         while let Some(lead) = self.take(|item| item.height <= room) {
-            room -= self.job.sides(lead).height;
+            room = self.beyond(room, self.job.sides(lead).height);
             board.push(self.strip(lead));
         }
         board
@@ -89,11 +94,11 @@ impl Missing<'_> {
         let Sides { width, height } = job.sides(lead);
         let exact = job.mode == Mode::TwoExact;
         let mut strip = vec![vec![lead]];
-        let mut room = job.width - width;
+        let mut room = self.beyond(job.width, width);
         while let Some(first) = self.take(|item| {
             item.width <= room && item.height <= height && (!exact || item.height == height)
         }) {
-            room -= job.sides(first).width;
+            room = self.beyond(room, job.sides(first).width);
             strip.push(self.stack(first, height));
         }
         strip
@@ -108,11 +113,11 @@ impl Missing<'_> {
         }
         let width = job.sides(first).width;
         let exact = job.mode == Mode::ThreeExact;
-        let mut room = height - job.sides(first).height;
+        let mut room = self.beyond(height, job.sides(first).height);
         while let Some(next) = self.take(|item| {
             item.width <= width && item.height <= room && (!exact || item.width == width)
         }) {
-            room -= job.sides(next).height;
+            room = self.beyond(room, job.sides(next).height);
             stack.push(next);
         }
         stack

@@ -1,6 +1,7 @@
-//! The job: board, item types and stage mode (document 01, "The job"; document 02, One).
+//! The job: board, item types and stage mode, with the width of the blade (document 01, "The job";
+//! document 02, One and Four).
 
-use crate::limits::{DEMAND, ITEM_TYPES, MOST_PIECES, SIDE, TURN};
+use crate::limits::{BLADE, DEMAND, ITEM_TYPES, MOST_PIECES, SIDE, TURN};
 use crate::mode::Mode;
 use crate::plate::Plate;
 use crate::position::{Position, Sides};
@@ -8,6 +9,9 @@ use crate::refusal::{
     ensure, Refusal, DEMANDS_TOO_HIGH, ITEM_TOO_LARGE, NOT_OF_THE_FORM, OUTSIDE_LIMITS,
     TURNED_WITHOUT_LEAVE,
 };
+
+/// Numbers of line 1 after its kind, which are the words before the item types.
+pub const HEAD_NUMBERS: usize = 6;
 
 /// Numbers of an item type: those of line 2 after the type, and its words.
 pub const ITEM_NUMBERS: usize = 4;
@@ -42,25 +46,31 @@ impl Item {
     }
 }
 
-/// What precedes the item types: the numbers of line 1 after its kind, the first five job words.
+/// What precedes the item types: the numbers of line 1 after its kind, the first six job words.
 #[derive(Debug, Clone, Copy, PartialEq, Eq)]
 pub struct Head {
     pub mode: Mode,
     pub width: u16,
     pub height: u16,
     pub types: u16,
+    pub blade: u16,
 }
 
 impl Head {
-    /// The head of stages, exact, W, H and n, if each is within its limits.
-    pub fn from_numbers([stages, exact, width, height, types]: [u32; 5]) -> Option<Head> {
+    /// The head of stages, exact, W, H, n and b, if each is within its limits.
+    pub fn from_numbers(numbers: [u32; HEAD_NUMBERS]) -> Option<Head> {
+        let [stages, exact, width, height, types, blade] = numbers;
         let mode = Mode::from_numbers(stages, exact)?;
-        let within = SIDE.contains(&width) && SIDE.contains(&height) && ITEM_TYPES.contains(&types);
+        let within = SIDE.contains(&width)
+            && SIDE.contains(&height)
+            && ITEM_TYPES.contains(&types)
+            && BLADE.contains(&blade);
         within.then_some(Head {
             mode,
             width: width as u16,
             height: height as u16,
             types: types as u16,
+            blade: blade as u16,
         })
     }
 }
@@ -71,6 +81,8 @@ pub struct Job {
     pub mode: Mode,
     pub width: u16,
     pub height: u16,
+    /// The width of the blade, b.
+    pub blade: u16,
     pub items: Vec<Item>,
 }
 
@@ -82,17 +94,19 @@ impl Job {
             mode: head.mode,
             width: head.width,
             height: head.height,
+            blade: head.blade,
             items,
         }
     }
 
-    /// Reads job words: stages, exact, W, H, n, then width, height, demand, leave of each type.
+    /// Reads job words: stages, exact, W, H, n, b, then width, height, demand, leave of each type.
     /// Another length is 1, place 0; then a value outside its limits is 2, naming 0 for the
-    /// board and else the type.
+    /// board and the blade and else the type.
     pub fn from_words(words: &[u16]) -> Result<Job, Refusal> {
         let types = words.get(4).map_or(0, |&n| usize::from(n));
-        ensure(words.len() == 5 + ITEM_NUMBERS * types, NOT_OF_THE_FORM, 0)?;
-        let (head, items) = words.split_at(5);
+        let length = HEAD_NUMBERS + ITEM_NUMBERS * types;
+        ensure(words.len() == length, NOT_OF_THE_FORM, 0)?;
+        let (head, items) = words.split_at(HEAD_NUMBERS);
         let head = Head::from_numbers(std::array::from_fn(|k| u32::from(head[k])))
             .ok_or(Refusal::new(OUTSIDE_LIMITS, 0))?;
         let mut read = Vec::with_capacity(types);
@@ -104,7 +118,7 @@ impl Job {
     }
 
     /// The job row of the table: an item of which no permitted position fits the board is 3,
-    /// demands above 4,000 are 4.
+    /// demands above 4,000 are 4. The blade plays no part.
     pub fn admit(&self) -> Result<(), Refusal> {
         for item in 1..=self.items.len() as u16 {
             let fits = self.positions_of(item).any(|position| self.fits(position));

@@ -1,5 +1,5 @@
 //! Layouts: boards of strips of stacks of items, their measures, rules and item positions
-//! (document 01, "Layouts and folding", first paragraph; document 02, One).
+//! (document 01, "Layouts and folding", first paragraph; document 02, One and Four).
 
 use crate::job::Job;
 use crate::limits::{COORDINATE, RUNNING, TURN};
@@ -68,27 +68,40 @@ impl Placement {
     }
 }
 
+/// Lengths in a row with the blade between each two neighbours: not before the first and not after
+/// the last.
+fn with_gaps(job: &Job, lengths: impl Iterator<Item = u32>) -> u32 {
+    let blade = u32::from(job.blade);
+    let row = lengths.reduce(|row, length| row + blade + length);
+    row.unwrap_or(0)
+}
+
 /// A stack's width: its widest item.
 pub fn stack_width(job: &Job, stack: &[Position]) -> u32 {
     let widths = stack.iter().map(|&item| u32::from(job.sides(item).width));
     widths.max().unwrap_or(0)
 }
 
-/// A stack's height: the sum of its items' heights.
+/// A stack's height: its items' heights and the gaps between them.
 pub fn stack_height(job: &Job, stack: &[Position]) -> u32 {
     let heights = stack.iter().map(|&item| u32::from(job.sides(item).height));
-    heights.sum()
+    with_gaps(job, heights)
 }
 
-/// The stack widths of a strip, added up.
+/// A strip's width: its stacks' widths and the gaps between them.
 pub fn strip_width(job: &Job, strip: &[Stack]) -> u32 {
-    strip.iter().map(|stack| stack_width(job, stack)).sum()
+    with_gaps(job, strip.iter().map(|stack| stack_width(job, stack)))
 }
 
 /// A strip's height: that of its highest stack.
 pub fn strip_height(job: &Job, strip: &[Stack]) -> u32 {
     let heights = strip.iter().map(|stack| stack_height(job, stack));
     heights.max().unwrap_or(0)
+}
+
+/// The height of strips one above the other: their heights and the gaps between them.
+pub fn board_height(job: &Job, board: &[Strip]) -> u32 {
+    with_gaps(job, board.iter().map(|strip| strip_height(job, strip)))
 }
 
 /// The place in its strip of the leftmost stack that is a single item of the strip's height.
@@ -120,8 +133,8 @@ pub fn keeps_stage_rule(job: &Job, strip: &[Stack]) -> bool {
 }
 
 /// Whether a board keeps all layout rules of the job's mode: no list is empty, every item is of
-/// a type of the job and turned only with leave and if not square, each strip keeps the stage rule, stack widths of a strip add up to at most
-/// the board's width and strip heights to at most its height.
+/// a type of the job and turned only with leave and if not square, each strip keeps the stage rule,
+/// and with the gaps no strip is wider than the board and the strips together are no higher.
 pub fn keeps_rules(job: &Job, board: &[Strip]) -> bool {
     let known = |&position: &Position| {
         let types = 1..=job.items.len();
@@ -132,18 +145,18 @@ pub fn keeps_rules(job: &Job, board: &[Strip]) -> bool {
         !strip.is_empty() && strip.iter().all(stack_full)
     };
     let fits = |strip: &Strip| strip_width(job, strip) <= u32::from(job.width);
-    let height = |strip: &Strip| strip_height(job, strip);
     !board.is_empty()
         && board.iter().all(full)
         && board.iter().all(|strip| keeps_stage_rule(job, strip))
         && board.iter().all(fits)
-        && board.iter().map(height).sum::<u32>() <= u32::from(job.height)
+        && board_height(job, board) <= u32::from(job.height)
 }
 
 /// The placements of a set of layouts whose strips lie on their boards: board, strip, stack and
 /// place in turn from 1; x the widths of the stacks before, y the strips below plus the items
-/// below in the stack.
+/// below in the stack, with the blade after each of them.
 pub fn placements(job: &Job, set: &[Board]) -> Vec<Placement> {
+    let blade = u32::from(job.blade);
     let mut placed = Vec::new();
     for (board_number, board) in (1..).zip(set) {
         let mut below = 0;
@@ -161,11 +174,11 @@ pub fn placements(job: &Job, set: &[Board]) -> Vec<Placement> {
                         x: x as u16,
                         y: y as u16,
                     });
-                    y += u32::from(job.sides(position).height);
+                    y += u32::from(job.sides(position).height) + blade;
                 }
-                x += stack_width(job, stack);
+                x += stack_width(job, stack) + blade;
             }
-            below += strip_height(job, strip);
+            below += strip_height(job, strip) + blade;
         }
     }
     placed

@@ -1,5 +1,5 @@
 //! Layout lines: reading them from words, and the layouts row of the table "Where each number is
-//! given".
+//! given" (document 01), with the blade between neighbours (document 02, Four).
 
 use crate::job::Job;
 use crate::layout::{
@@ -106,17 +106,19 @@ fn strips_with_lines(set: &[Board], first: usize) -> impl Iterator<Item = (usize
 }
 
 /// Refuses with 17 the first strip whose stacks reach past the board's width or whose own top
-/// edge, the strips below it plus its height, lies above the board's height.
+/// edge lies above the board's height: the strips below it with the blade after each of them, and
+/// its own height.
 fn ensure_inside(job: &Job, set: &[Board], first: usize) -> Result<(), Refusal> {
-    let mut top = 0;
+    let mut below = 0;
     for (line, lowest, strip) in strips_with_lines(set, first) {
         if lowest {
-            top = 0;
+            below = 0;
         }
-        top += strip_height(job, strip);
+        let top = below + strip_height(job, strip);
         let inside =
             strip_width(job, strip) <= u32::from(job.width) && top <= u32::from(job.height);
         ensure(inside, PAST_THE_BOARD, line)?;
+        below = top + u32::from(job.blade);
     }
     Ok(())
 }

@@ -1,5 +1,5 @@
-//! Reference implementation of the beam saw plan engine, written from document 01 and requests One
-//! and Two of document 02.
+//! Reference implementation of the beam saw plan engine, written from document 01 and requests One to
+//! Four of document 02.
 //!
 //! Layers, bottom up: the job and its limits; plates, cuts and their listing; plans, prices,
 //! layouts, unfolding with its offcuts and their balance, and folding as structures; the five calls
@@ -26,6 +26,7 @@ pub mod position;
 pub mod prices;
 pub mod refusal;
 pub mod saw_text;
+pub mod swath;
 pub mod text_lines;
 pub mod unfolding;
 pub mod waste;

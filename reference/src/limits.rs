@@ -1,4 +1,5 @@
-//! The limits of document 01, each with the section that sets it, and of document 02, One and Two.
+//! The limits of document 01, each with the section that sets it, and of document 02, One, Two
+//! and Four.
 
 use std::ops::RangeInclusive;
 
@@ -47,6 +48,9 @@ pub const TURN: RangeInclusive<u32> = 0..=1;
 
 /// The two lengths from which an offcut is usable (document 02, Two).
 pub const LENGTH: RangeInclusive<u32> = 1..=10_000;
+
+/// Width of the blade in millimetres (document 02, Four).
+pub const BLADE: RangeInclusive<u32> = 0..=20;
 
 /// The line of a text that is refused whatever it holds ("Texts").
 pub const FORBIDDEN_LINE: usize = 100_000;

@@ -1,5 +1,5 @@
 //! The listing: the walk that numbers plate types and cuts (document 01, "Plates and cuts";
-//! document 02, One).
+//! document 02, One and Four).
 
 use crate::job::Job;
 use crate::limits::{MOST_CUTS, MOST_PLATE_TYPES};
@@ -61,7 +61,7 @@ impl Listing {
                     continue;
                 }
                 ensure(cuts.len() < limits.cuts, TOO_MANY_CUTS, 0)?;
-                let left = plate.residuals(job.mode, sides);
+                let left = plate.residuals(job.mode, job.blade, sides);
                 let top = met.number(left.top)?;
                 let right = met.number(left.right)?;
                 cuts.push(Cut {

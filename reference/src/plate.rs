@@ -1,4 +1,5 @@
-//! Plates: which items may be cut from one, and what a cut leaves (document 01, "Plates and cuts").
+//! Plates: which items may be cut from one, and what a cut leaves (document 01, "Plates and cuts";
+//! document 02, Four).
 
 use crate::mode::Mode;
 use crate::position::Sides;
@@ -25,7 +26,8 @@ impl Plate {
     }
 
     /// Whether an item that lies with these sides may be cut from this plate: it fits, and in 2E
-    /// at stage 2 it is just as high, in 3E at stage 3 just as wide as the plate.
+    /// at stage 2 it is just as high, in 3E at stage 3 just as wide as the plate. The blade plays no
+    /// part.
     pub fn admits(&self, mode: Mode, item: Sides) -> bool {
         let fits = item.width <= self.width && item.height <= self.height;
         let exact = match (mode, self.stage) {
@@ -36,11 +38,13 @@ impl Plate {
         fits && exact
     }
 
-    /// Top and right residual of cutting the item from this plate, kept or not.
+    /// Top and right residual of cutting the item from this plate with a blade of this width, kept
+    /// or not. The side that the blade divides is what remains minus the blade, and 0 where the
+    /// blade or less remains; the other side is whole.
     /// The item must be one that the plate admits.
-    pub fn residuals(&self, mode: Mode, item: Sides) -> Residuals {
-        let above = self.height - item.height;
-        let beside = self.width - item.width;
+    pub fn residuals(&self, mode: Mode, blade: u16, item: Sides) -> Residuals {
+        let above = (self.height - item.height).saturating_sub(blade);
+        let beside = (self.width - item.width).saturating_sub(blade);
         let plate = |width, height, stage| {
             Some(Plate {
                 width,

@@ -1,8 +1,8 @@
 //! Lines of a text: their form, their numbering, and the kinds that both texts begin with
-//! (document 01, "Texts"; document 02, One).
+//! (document 01, "Texts"; document 02, One and Four).
 
 use crate::columns::{read_group, COLUMNS};
-use crate::job::{Head, Item, Job};
+use crate::job::{Head, Item, Job, HEAD_NUMBERS, ITEM_NUMBERS};
 use crate::limits::FORBIDDEN_LINE;
 use crate::refusal::{Refusal, NOT_OF_THE_FORM, OUTSIDE_LIMITS};
 
@@ -33,7 +33,8 @@ impl Line {
 /// How many numbers follow the kind on a line of that kind; none for a kind that no text has.
 fn values_of_kind(kind: u32) -> Option<usize> {
     match kind {
-        1 | 2 => Some(5),
+        1 => Some(HEAD_NUMBERS),
+        2 => Some(1 + ITEM_NUMBERS),
         3 => Some(4),
         4 => Some(3),
         5 | 6 => Some(2),
@@ -96,12 +97,11 @@ impl<'a> Lines<'a> {
     /// Reads the lines of kinds 1 and 2, with which both texts begin.
     pub fn job(&mut self) -> Result<Job, Refusal> {
         let line = self.line_of(1)?;
-        let [stages, exact, width, height, types, ..] = line.values;
-        let head = Head::from_numbers([stages, exact, width, height, types])
+        let head = Head::from_numbers(std::array::from_fn(|k| line.values[k]))
             .ok_or(line.outside_limits())?;
-        let mut items = Vec::with_capacity(types as usize);
-        for number in 1..=types {
-            let line = self.running_line(2, number)?;
+        let mut items = Vec::with_capacity(usize::from(head.types));
+        for number in 1..=head.types {
+            let line = self.running_line(2, u32::from(number))?;
             let [_, width, height, demand, leave, ..] = line.values;
             let item = Item::from_numbers([width, height, demand, leave]);
             items.push(item.ok_or(line.outside_limits())?);

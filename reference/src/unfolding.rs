@@ -1,5 +1,5 @@
 //! Unfolding: from the counts of a plan to the items' places on boards (document 01, "Unfolding"),
-//! and to the pieces left over (document 02, Two).
+//! and to the pieces left over (document 02, Two); residuals lie beyond the blade (Four).
 
 use crate::job::Job;
 use crate::layout::Placement;
@@ -138,8 +138,10 @@ fn unfold_board(job: &Job, listing: &Listing, unfolding: &mut Unfolding) {
             y: piece.y,
         });
         let item = job.sides(cut.position);
-        waiting.put(listing, cut.top, piece.x, piece.y + item.height);
-        waiting.put(listing, cut.right, piece.x + item.width, piece.y);
+        let above = piece.y + item.height + job.blade;
+        let beside = piece.x + item.width + job.blade;
+        waiting.put(listing, cut.top, piece.x, above);
+        waiting.put(listing, cut.right, beside, piece.y);
     }
 }
 

@@ -6,9 +6,9 @@ use crate::plate::Plate;
 use crate::position::Sides;
 
 /// The area that cutting the item from the plate wastes: the residuals that are not kept, and what
-/// is trimmed off. The item must be one that the plate admits.
+/// is trimmed off, the part of the blade's swath inside it included. The item must be one that the plate admits.
 pub fn waste(job: &Job, plate: &Plate, item: Sides) -> u64 {
-    let left = plate.residuals(job.mode, item);
+    let left = plate.residuals(job.mode, job.blade, item);
     let residuals = left.top.into_iter().chain(left.right);
     let not_kept = residuals.filter(|residual| !job.keeps(residual));
     not_kept.map(|residual| residual.area()).sum::<u64>() + trim(job.mode, plate, item)

@@ -20,3 +20,6 @@ pub mod Hypotheses
 pub mod Turned
 pub mod TurnedTexts
 pub mod Offcuts
+pub mod Blade
+pub mod Swath
+pub mod BladeTexts

@@ -1,11 +1,10 @@
--- Offcuts, the two lengths, the area balance and the swath, by computation; the most offcuts by their number, which demand 3 gives.
+-- Offcuts, the two lengths and the area balance, by computation; the most offcuts by their number, which demand 3 gives.
 use Prim.Native.Nat.{ℕ}
 use native.Mathlib.Omega.{arith}
 use mathlib.Core.Path.{_≡_, refl}
 use mathlib.Core.List.{List}
 use lib.ListN.{length}
 use Rattle.job.specs.Sizes.{maxPieces, maxOffcuts}
-use Rattle.listing.specs.Waste.{blade, swath}
 use Rattle.plan.specs.Plan.{countOf, boards, total}
 use Rattle.layouts.specs.Offcuts.{offcutsOf}
 use Rattle.layouts.specs.Balance.{keepsTop, keepsRight}
@@ -15,7 +14,7 @@ use Rattle.cases.specs.Calls.{plates, cuts, placements, offcuts}
 use Rattle.cases.specs.Jobs.{jobA, planA, jobB, planB, jobT, alone}
 use Rattle.cases.specs.Readings.{jobC}
 use Rattle.cases.specs.Turned.{planT}
-use Rattle.cases.specs.Offcuts.{Shelved, Lengths, Balances, Swaths, leftOver, shelves, shelvesNone, shortOffcuts, offcutsA, noDemand, wideItem, eachStage, narrowAbove, narrowPlan, ones, apart, areas}
+use Rattle.cases.specs.Offcuts.{Shelved, Lengths, Balances, leftOver, shelves, shelvesNone, shortOffcuts, offcutsA, noDemand, wideItem, eachStage, narrowAbove, narrowPlan, ones, apart, areas}
 use Rattle.cases.proofs.Opened.{computed}
 
 -- 4,000 boards of one piece each: the plan is accepted, and each of its cuts keeps both residuals
@@ -88,17 +87,4 @@ balances =
       above-low = refl;
       beside-narrow = refl;
       turned = refl;
-    }
-
-pub swaths : Swaths
-unfolding computed blade swath jobA
-swaths =
-    record {
-      stage-one = refl;
-      two-stages = refl;
-      whole-trim = refl;
-      three-stages = refl;
-      stage-three = refl;
-      trim-beside = refl;
-      no-blade = refl;
     }

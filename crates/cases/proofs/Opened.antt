@@ -1,13 +1,13 @@
 -- One name that opens every definition, for the theorems that compute: `unfolding computed`.
 use Prim.Native.Nat.{ℕ}
 use mathlib.Core.List.{flatMap}
-use Rattle.job.specs.Lists.{any, all, sumOf, maxOf, occurs, tally}
+use Rattle.job.specs.Lists.{any, all, sumOf, gapSum, maxOf, occurs, tally}
 use Rattle.job.specs.Verdict.{lowest}
 use Rattle.job.specs.Buffers.{filled, sized}
 use Rattle.job.specs.Mode.{three, exact, modeOf}
 use Rattle.job.specs.Job.{itemAt, unturned, turned, typeOf, turnOf, positionsOf, positions, positionAt, itemsOf, jobOf, boardRight, itemRight, jobWords, fits, larger, demanded, admission}
 use Rattle.listing.specs.Plate.{same, exactFit, mayCut, leaves, kept}
-use Rattle.listing.specs.Waste.{unkept, trim, wasteOf}
+use Rattle.listing.specs.Waste.{unkept, trim, wasteOf, swath, swathOf}
 use Rattle.listing.specs.Listing.{plateAt, cutAt, numberIn, entered, cutDone, limited, pair, overItems, overPlates, walkWithin, walk, modelRow, listingOf, residualTypes}
 use Rattle.listing.specs.Records.{plateWords, cutWords}
 use Rattle.listing.specs.ListCall.{listVerdict, listAnswer, platesEnd, cutsEnd}
@@ -17,10 +17,10 @@ use Rattle.plan.specs.PlanCall.{planVerdict, planAnswer}
 use Rattle.plan.specs.PriceCall.{priceVerdict, priceAnswer}
 use Rattle.layouts.specs.Layout.{widthOf, heightOf, stackWidth, stackHeight, stripHeight, stripWidth, boardHeight, single, fullStack, sameHeights, sameWidths, stageRule, boardRules, layoutRules}
 use Rattle.layouts.specs.Placement.{placementWords, stackLines, stripLines, boardLines, setLines, linesOf, itemsOfStrip, itemsOfBoard, itemsOfSet, typesOfSet, meetsFrom, meetsDemands}
-use Rattle.layouts.specs.Rectangle.{endX, endY, inside, apart, clear, noOverlap}
+use Rattle.layouts.specs.Rectangle.{endX, endY, inside, apart, clear, allApart}
 use Rattle.layouts.specs.Unfold.{spent, search, highest, waitAt, wait, nextTurn, done, step, openBoard, placing, run, stepsFor, unfolded}
 use Rattle.layouts.specs.Offcuts.{chosen, events, eventsOf, placedIn, cutsIn, cutsOn, typesOver, offcut, offcutsIn, offcutsOf, usable, offcutWords}
-use Rattle.layouts.specs.Balance.{itemsOn, offcutsOn, wasteBy}
+use Rattle.layouts.specs.Balance.{itemsOn, offcutsOn, wasteBy, swathBy}
 use Rattle.layouts.specs.Lines.{linesIn, rowsOf, rowRight, layoutWords, sameTurn, follows, inTurn, turns, levelOf, begun, inStrip, inBoard, inSet, beside, before, grouped, setOf}
 use Rattle.layouts.specs.LayoutsRow.{laidBoard, laidSet, lowestStrip, breaksStage, pastBoard, positioned, lacks, layoutsRow}
 use Rattle.layouts.specs.Fold.{insertBy, falling, firstOf, without, toFront, ordered, cutFrom, cutOf, stackCuts, stripCuts, boardCuts, setCuts, folded}
@@ -35,5 +35,5 @@ use Rattle.texts.specs.SawText.{sawAdmits, afterItemPrice, afterPlatePrice, bod
 use Rattle.texts.specs.FoldText.{foldAdmits, foldAfter, foldComplete, foldRows, countLines, foldLines, foldWritten, foldText}
 
 unfoldable pub computed : ℕ
-unfolding flatMap any all sumOf maxOf occurs tally lowest filled sized three exact modeOf itemAt unturned turned typeOf turnOf positionsOf positions positionAt itemsOf jobOf boardRight itemRight jobWords fits larger demanded admission same exactFit mayCut leaves kept unkept trim wasteOf plateAt cutAt numberIn entered cutDone limited pair overItems overPlates walkWithin walk modelRow listingOf residualTypes plateWords cutWords listVerdict listAnswer platesEnd cutsEnd countOf ofItem ofPosition onPlate leavesPlate boards total short overdrawn countsRow planRow pricesOf priceWords itemPrice residualPrice priceLimit worth overLimit modelSized pricesSized pricesRow priced priceSum fewest planVerdict planAnswer priceVerdict priceAnswer widthOf heightOf stackWidth stackHeight stripHeight stripWidth boardHeight single fullStack sameHeights sameWidths stageRule boardRules layoutRules placementWords stackLines stripLines boardLines setLines linesOf itemsOfStrip itemsOfBoard itemsOfSet typesOfSet meetsFrom meetsDemands endX endY inside apart clear noOverlap spent search highest waitAt wait nextTurn done step openBoard placing run stepsFor unfolded chosen events eventsOf placedIn cutsIn cutsOn typesOver offcut offcutsIn offcutsOf usable offcutWords itemsOn offcutsOn wasteBy linesIn rowsOf rowRight layoutWords sameTurn follows inTurn turns levelOf begun inStrip inBoard inSet beside before grouped setOf laidBoard laidSet lowestStrip breaksStage pastBoard positioned lacks layoutsRow insertBy falling firstOf without toFront ordered cutFrom cutOf stackCuts stripCuts boardCuts setCuts folded lengthsRight lengthsRow unfoldVerdict unfoldingOf offcutsFrom unfoldAnswer placementsEnd offcutsEnd foldVerdict foldAnswer countsEnd mark lead group digitsAfter same·columns numberOf put groups lineOf numbersOf readLine begins formed eachWithin values numbersRow lineRow lineRead byteTaken byteRead fed textRow written afterType sawAdmits afterItemPrice afterPlatePrice bodyRead sawAfter sawComplete namedCut cutsNamed cutsRising countFor countsFrom planCounts priceLinesRow sawRows placementLine resultLine sawLines sawWritten sawText foldAdmits foldAfter foldComplete foldRows countLines foldLines foldWritten foldText
+unfolding flatMap any all sumOf gapSum maxOf occurs tally lowest filled sized three exact modeOf itemAt unturned turned typeOf turnOf positionsOf positions positionAt itemsOf jobOf boardRight itemRight jobWords fits larger demanded admission same exactFit mayCut leaves kept unkept trim wasteOf swath swathOf plateAt cutAt numberIn entered cutDone limited pair overItems overPlates walkWithin walk modelRow listingOf residualTypes plateWords cutWords listVerdict listAnswer platesEnd cutsEnd countOf ofItem ofPosition onPlate leavesPlate boards total short overdrawn countsRow planRow pricesOf priceWords itemPrice residualPrice priceLimit worth overLimit modelSized pricesSized pricesRow priced priceSum fewest planVerdict planAnswer priceVerdict priceAnswer widthOf heightOf stackWidth stackHeight stripHeight stripWidth boardHeight single fullStack sameHeights sameWidths stageRule boardRules layoutRules placementWords stackLines stripLines boardLines setLines linesOf itemsOfStrip itemsOfBoard itemsOfSet typesOfSet meetsFrom meetsDemands endX endY inside apart clear allApart spent search highest waitAt wait nextTurn done step openBoard placing run stepsFor unfolded chosen events eventsOf placedIn cutsIn cutsOn typesOver offcut offcutsIn offcutsOf usable offcutWords itemsOn offcutsOn wasteBy swathBy linesIn rowsOf rowRight layoutWords sameTurn follows inTurn turns levelOf begun inStrip inBoard inSet beside before grouped setOf laidBoard laidSet lowestStrip breaksStage pastBoard positioned lacks layoutsRow insertBy falling firstOf without toFront ordered cutFrom cutOf stackCuts stripCuts boardCuts setCuts folded lengthsRight lengthsRow unfoldVerdict unfoldingOf offcutsFrom unfoldAnswer placementsEnd offcutsEnd foldVerdict foldAnswer countsEnd mark lead group digitsAfter same·columns numberOf put groups lineOf numbersOf readLine begins formed eachWithin values numbersRow lineRow lineRead byteTaken byteRead fed textRow written afterType sawAdmits afterItemPrice afterPlatePrice bodyRead sawAfter sawComplete namedCut cutsNamed cutsRising countFor countsFrom planCounts priceLinesRow sawRows placementLine resultLine sawLines sawWritten sawText foldAdmits foldAfter foldComplete foldRows countLines foldLines foldWritten foldText
 computed = 0

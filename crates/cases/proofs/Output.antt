@@ -20,5 +20,5 @@ output =
       demands = refl;
       positions = refl;
       inside-board = refl;
-      no-overlap = refl;
+      all-apart = refl;
     }

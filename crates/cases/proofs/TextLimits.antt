@@ -22,6 +22,7 @@ jobLines =
       height-high = refl;
       types-zero = refl;
       types-high = refl;
+      blade-high = refl;
       item-width-zero = refl;
       item-width-high = refl;
       item-height-zero = refl;

@@ -15,11 +15,11 @@ use Rattle.cases.specs.Refusals.{shortPlates, shortCuts, shortCounts, sh
 
 -- job words with stages 4
 unfoldable pub fourStages : List ℕ
-fourStages = 4 ∷ 0 ∷ 9 ∷ 7 ∷ 1 ∷ 3 ∷ 3 ∷ 1 ∷ 0 ∷ []
+fourStages = 4 ∷ 0 ∷ 9 ∷ 7 ∷ 1 ∷ 0 ∷ 3 ∷ 3 ∷ 1 ∷ 0 ∷ []
 
 -- three item types, of which 2 and 3 are larger than the board
 unfoldable pub twoLarge : List ℕ
-twoLarge = 2 ∷ 0 ∷ 9 ∷ 7 ∷ 3 ∷ 3 ∷ 3 ∷ 1 ∷ 0 ∷ 3 ∷ 8 ∷ 1 ∷ 0 ∷ 10 ∷ 3 ∷ 1 ∷ 0 ∷ []
+twoLarge = 2 ∷ 0 ∷ 9 ∷ 7 ∷ 3 ∷ 0 ∷ 3 ∷ 3 ∷ 1 ∷ 0 ∷ 3 ∷ 8 ∷ 1 ∷ 0 ∷ 10 ∷ 3 ∷ 1 ∷ 0 ∷ []
 
 -- the rows line, job and buffers
 pub record WordFaults : Type 0 where

@@ -8,7 +8,7 @@ use Rattle.texts.specs.FoldText.{foldText}
 -- 3N, 6 by 4: 2 by 4, 1 by 4 and 1 by 2, one of each
 unfoldable pub jobLinesH : List ℕ
 jobLinesH =
-    lineOf (1 ∷ 3 ∷ 0 ∷ 6 ∷ 4 ∷ 3 ∷ [])
+    lineOf (1 ∷ 3 ∷ 0 ∷ 6 ∷ 4 ∷ 3 ∷ 0 ∷ [])
     ++ lineOf (2 ∷ 1 ∷ 2 ∷ 4 ∷ 1 ∷ 0 ∷ [])
     ++ lineOf (2 ∷ 2 ∷ 1 ∷ 4 ∷ 1 ∷ 0 ∷ [])
     ++ lineOf (2 ∷ 3 ∷ 1 ∷ 2 ∷ 1 ∷ 0 ∷ [])
@@ -16,7 +16,7 @@ jobLinesH =
 -- 3N, 5 by 4: 2 by 4 once, 2 by 1 and 2 by 2 once each
 unfoldable pub jobLinesI : List ℕ
 jobLinesI =
-    lineOf (1 ∷ 3 ∷ 0 ∷ 5 ∷ 4 ∷ 3 ∷ [])
+    lineOf (1 ∷ 3 ∷ 0 ∷ 5 ∷ 4 ∷ 3 ∷ 0 ∷ [])
     ++ lineOf (2 ∷ 1 ∷ 2 ∷ 4 ∷ 1 ∷ 0 ∷ [])
     ++ lineOf (2 ∷ 2 ∷ 2 ∷ 1 ∷ 1 ∷ 0 ∷ [])
     ++ lineOf (2 ∷ 3 ∷ 2 ∷ 2 ∷ 1 ∷ 0 ∷ [])
@@ -24,7 +24,7 @@ jobLinesI =
 -- 2N, 6 by 4: 1 by 4 and 3 by 2, one of each
 unfoldable pub jobLinesK : List ℕ
 jobLinesK =
-    lineOf (1 ∷ 2 ∷ 0 ∷ 6 ∷ 4 ∷ 2 ∷ [])
+    lineOf (1 ∷ 2 ∷ 0 ∷ 6 ∷ 4 ∷ 2 ∷ 0 ∷ [])
     ++ lineOf (2 ∷ 1 ∷ 1 ∷ 4 ∷ 1 ∷ 0 ∷ [])
     ++ lineOf (2 ∷ 2 ∷ 3 ∷ 2 ∷ 1 ∷ 0 ∷ [])
 

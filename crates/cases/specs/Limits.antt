@@ -10,17 +10,17 @@ use Rattle.listing.specs.Listing.{going, stopped, walk, walkWithin, listingOf}
 use Rattle.cases.specs.Calls.{listing, plan, prices, unfolding′, folding}
 use Rattle.cases.specs.Jobs.{jobA, jobT, alone}
 
--- job words of one item type without leave: stages, exact, W, H, and the type's width, height and demand
+-- job words of one item type without leave and a blade of 0: stages, exact, W, H, and the type's width, height and demand
 unfoldable pub oneType : ℕ → ℕ → ℕ → ℕ → ℕ → ℕ → ℕ → List ℕ
-oneType stages exact w h wi hi d = stages ∷ exact ∷ w ∷ h ∷ 1 ∷ wi ∷ hi ∷ d ∷ 0 ∷ []
+oneType stages exact w h wi hi d = stages ∷ exact ∷ w ∷ h ∷ 1 ∷ 0 ∷ wi ∷ hi ∷ d ∷ 0 ∷ []
 
 -- 40 item types of 1 by 1 on a board of 1 by 1, each demanded once, with leave, which a square has no use of
 unfoldable pub fortyTypes : List ℕ
-fortyTypes = (2 ∷ 0 ∷ 1 ∷ 1 ∷ 40 ∷ []) ++ replicate 160 1
+fortyTypes = (2 ∷ 0 ∷ 1 ∷ 1 ∷ 40 ∷ 0 ∷ []) ++ replicate 160 1
 
 -- two item types of the board's size, demanded 3,999 times and once
 unfoldable pub fullDemands : List ℕ
-fullDemands = 2 ∷ 0 ∷ 9 ∷ 7 ∷ 2 ∷ 9 ∷ 7 ∷ 3999 ∷ 0 ∷ 9 ∷ 7 ∷ 1 ∷ 0 ∷ []
+fullDemands = 2 ∷ 0 ∷ 9 ∷ 7 ∷ 2 ∷ 0 ∷ 9 ∷ 7 ∷ 3999 ∷ 0 ∷ 9 ∷ 7 ∷ 1 ∷ 0 ∷ []
 
 -- "Board W by H, each 1 to 10,000. Item types 1 to n, n from 1 to 40, each with width, height (1 to 10,000) and demand (1 to 4,000)"
 pub record JobLimits : Type 0 where

@@ -1,19 +1,15 @@
 -- Document 02, request Two: offcuts, the two set lengths and the area balance, at the level of the call; each field says what it shows or shuts out.
 use Prim.Native.Nat.{ℕ, _+_, _-_}
 use mathlib.Core.Path.{_≡_}
-use mathlib.Core.Bool.{true}
 use mathlib.Core.List.{List, [], _∷_, _++_}
 use lib.ListN.{length, replicate}
 use Rattle.job.specs.Sizes.{maxPieces, maxOffcuts, offcutsSize, countsSize}
 use Rattle.job.specs.Buffers.{Answer, given, refused, filled}
-use Rattle.job.specs.Mode.{2N, 3N}
-use Rattle.job.specs.Job.{position, jobOf}
-use Rattle.listing.specs.Plate.{plate}
-use Rattle.listing.specs.Waste.{trim, blade, swath}
+use Rattle.job.specs.Job.{jobOf}
 use Rattle.listing.specs.Listing.{listingOf}
 use Rattle.layouts.specs.Unfold.{unfolded}
 use Rattle.layouts.specs.Offcuts.{eventsOf, cutsOn, offcutsOf}
-use Rattle.layouts.specs.Balance.{itemsOn, offcutsOn, wasteBy}
+use Rattle.layouts.specs.Balance.{itemsOn, offcutsOn, wasteBy, swathBy}
 use Rattle.layouts.specs.UnfoldCall.{unfoldVerdict, unfoldAnswer, offcutsEnd}
 use Rattle.cases.specs.Calls.{plates, cuts, placements, offcuts}
 use Rattle.cases.specs.Jobs.{jobA, planA, jobB, planB, jobT, alone}
@@ -51,35 +47,36 @@ offcutsA a b c = (1 ∷ 6 ∷ 4 ∷ 3 ∷ 3 ∷ a ∷ []) ++ (2 ∷ 5 ∷ 0 ∷ 
 
 -- job A with no demand of type 1, and with item 1 of width 10
 unfoldable pub noDemand : List ℕ
-noDemand = 2 ∷ 0 ∷ 9 ∷ 7 ∷ 2 ∷ 5 ∷ 4 ∷ 0 ∷ 0 ∷ 3 ∷ 3 ∷ 3 ∷ 0 ∷ []
+noDemand = 2 ∷ 0 ∷ 9 ∷ 7 ∷ 2 ∷ 0 ∷ 5 ∷ 4 ∷ 0 ∷ 0 ∷ 3 ∷ 3 ∷ 3 ∷ 0 ∷ []
 
 unfoldable pub wideItem : List ℕ
-wideItem = 2 ∷ 0 ∷ 9 ∷ 7 ∷ 2 ∷ 10 ∷ 4 ∷ 2 ∷ 0 ∷ 3 ∷ 3 ∷ 3 ∷ 0 ∷ []
+wideItem = 2 ∷ 0 ∷ 9 ∷ 7 ∷ 2 ∷ 0 ∷ 10 ∷ 4 ∷ 2 ∷ 0 ∷ 3 ∷ 3 ∷ 3 ∷ 0 ∷ []
 
 -- 3N, 6 by 6: 2 by 4 and 2 by 2, once each; a plan that leaves a piece of each stage over
 unfoldable pub eachStage : List ℕ
-eachStage = 3 ∷ 0 ∷ 6 ∷ 6 ∷ 2 ∷ 2 ∷ 4 ∷ 1 ∷ 0 ∷ 2 ∷ 2 ∷ 1 ∷ 0 ∷ []
+eachStage = 3 ∷ 0 ∷ 6 ∷ 6 ∷ 2 ∷ 0 ∷ 2 ∷ 4 ∷ 1 ∷ 0 ∷ 2 ∷ 2 ∷ 1 ∷ 0 ∷ []
 
 -- 3N, 6 by 6: 3 by 6, 3 by 2 and 2 by 2, once each; a plan of one strip, its second stack of 3 by 2 and above it 2 by 2
 unfoldable pub narrowAbove : List ℕ
-narrowAbove = 3 ∷ 0 ∷ 6 ∷ 6 ∷ 3 ∷ 3 ∷ 6 ∷ 1 ∷ 0 ∷ 3 ∷ 2 ∷ 1 ∷ 0 ∷ 2 ∷ 2 ∷ 1 ∷ 0 ∷ []
+narrowAbove = 3 ∷ 0 ∷ 6 ∷ 6 ∷ 3 ∷ 0 ∷ 3 ∷ 6 ∷ 1 ∷ 0 ∷ 3 ∷ 2 ∷ 1 ∷ 0 ∷ 2 ∷ 2 ∷ 1 ∷ 0 ∷ []
 
 unfoldable pub narrowPlan : List ℕ
 narrowPlan = (1 ∷ 0 ∷ 0 ∷ 0 ∷ 1 ∷ []) ++ replicate 8 0 ++ (1 ∷ []) ++ replicate 7 0
 
 -- 2N, 2 by 2, 1 by 1 some times, and the plan that opens a board for each
 unfoldable pub ones : ℕ → List ℕ
-ones n = 2 ∷ 0 ∷ 2 ∷ 2 ∷ 1 ∷ 1 ∷ 1 ∷ n ∷ 0 ∷ []
+ones n = 2 ∷ 0 ∷ 2 ∷ 2 ∷ 1 ∷ 0 ∷ 1 ∷ 1 ∷ n ∷ 0 ∷ []
 
 unfoldable pub apart : ℕ → List ℕ
 apart n = n ∷ 0 ∷ 0 ∷ []
 
--- the areas of a board of a plan: items, offcuts, waste
+-- the areas of a board of a plan: items, offcuts, waste, and the blade's swath (request Four)
 unfoldable pub areas : ℕ → List ℕ → List ℕ → List ℕ
 areas b ws ns =
     let job = jobOf ws in
     let l = listingOf job in
-    itemsOn job b (unfolded job l ns .placements) ∷ offcutsOn b (offcutsOf job l ns) ∷ wasteBy job l (cutsOn b (eventsOf job l ns)) ∷ []
+    let ks = cutsOn b (eventsOf job l ns) in
+    itemsOn job b (unfolded job l ns .placements) ∷ offcutsOn b (offcutsOf job l ns) ∷ wasteBy job l ks ∷ swathBy job l ks ∷ []
 
 -- "A piece left over in unfolding is listed as board, x, y, width, height and a 1 if usable"
 pub record Shelved : Type 0 where
@@ -129,29 +126,14 @@ pub record Lengths : Type 0 where
   pub unchanged : offcutsEnd (unfoldVerdict jobA 4 3 (filled countsSize planA) plates cuts placements shortOffcuts) jobA 4 3 (filled countsSize planA) shortOffcuts ≡ shortOffcuts
   pub cleared : leftOver 4 3 (alone 10 7) (1 ∷ []) ≡ shelvesNone 3 1
 
--- "for every accepted plan and every board, item areas, offcuts and waste make W×H"
+-- "for every accepted plan and every board, item areas, offcuts and waste make W×H"; with a blade of 0 the swath is 0
 pub record Balances : Type 0 where
   -- job A: 63 each. A trim of wi×(h−hi), the strips' height for an offcut, a residual that is kept as waste, or one that is not as none
-  pub first-board : areas 1 jobA planA ≡ (47 ∷ 9 ∷ 7 ∷ [])
-  pub second-board : areas 2 jobA planA ≡ (20 ∷ 43 ∷ 0 ∷ [])
+  pub first-board : areas 1 jobA planA ≡ (47 ∷ 9 ∷ 7 ∷ 0 ∷ [])
+  pub second-board : areas 2 jobA planA ≡ (20 ∷ 43 ∷ 0 ∷ 0 ∷ [])
   -- job C: 36 each, the trim above the low item w×(h−hi), 6 by 1
-  pub above-low : areas 1 jobC (2 ∷ 0 ∷ 0 ∷ 2 ∷ []) ≡ (21 ∷ 9 ∷ 6 ∷ [])
+  pub above-low : areas 1 jobC (2 ∷ 0 ∷ 0 ∷ 2 ∷ []) ≡ (21 ∷ 9 ∷ 6 ∷ 0 ∷ [])
   -- at stage 3 (w−wi)×h, 1 by 4
-  pub beside-narrow : areas 1 narrowAbove narrowPlan ≡ (28 ∷ 4 ∷ 4 ∷ [])
+  pub beside-narrow : areas 1 narrowAbove narrowPlan ≡ (28 ∷ 4 ∷ 4 ∷ 0 ∷ [])
   -- turned sides: 4 by 5 and 5 by 4
-  pub turned : areas 1 jobT planT ≡ (40 ∷ 0 ∷ 23 ∷ [])
-
--- request Four's swath, "clipped to the piece it divides, its part inside a trim counting as waste", of a blade of 2
-pub record Swaths : Type 0 where
-  -- stage 1, 8 by 9 of 20 by 10: above it 1 is left, less than the blade
-  pub stage-one : swath 2 2N (position 8 9 true) (plate 20 10 1) ≡ 20 + 18
-  -- stage 2 in two stages, 8 by 6 of 10 by 9: not beside the trim, which is whole
-  pub two-stages : swath 2 2N (position 8 6 true) (plate 10 9 2) ≡ 12
-  pub whole-trim : trim 2N (position 8 6 true) (plate 10 9 2) ≡ 30
-  -- in three stages: the whole height beside it, and above it the item's width
-  pub three-stages : swath 2 3N (position 8 6 true) (plate 10 9 2) ≡ 18 + 16
-  -- stage 3: above it only, since what lies beside it is trim
-  pub stage-three : swath 2 3N (position 8 6 true) (plate 10 9 3) ≡ 16
-  pub trim-beside : trim 3N (position 8 6 true) (plate 10 9 3) ≡ 18
-  -- no blade, no swath
-  pub no-blade : swath (blade (jobOf jobA)) 2N (position 8 9 true) (plate 20 10 1) ≡ 0
+  pub turned : areas 1 jobT planT ≡ (40 ∷ 0 ∷ 23 ∷ 0 ∷ [])

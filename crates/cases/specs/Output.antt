@@ -7,7 +7,7 @@ use Rattle.job.specs.Buffers.{filled, placementsSize, countsSize}
 use Rattle.job.specs.Job.{jobOf}
 use Rattle.layouts.specs.Layout.{layoutRules}
 use Rattle.layouts.specs.Placement.{placementWords, linesOf, meetsDemands}
-use Rattle.layouts.specs.Rectangle.{inside, noOverlap}
+use Rattle.layouts.specs.Rectangle.{inside, allApart}
 use Rattle.layouts.specs.Lines.{setOf}
 use Rattle.texts.specs.SawText.{sawText}
 use Rattle.texts.specs.FoldText.{foldText}
@@ -30,4 +30,4 @@ pub record Output : Type 0 where
   pub demands : meetsDemands (jobOf jobA) (setOf linesA) ≡ true
   pub positions : placementWords (linesOf (jobOf jobA) (setOf linesA)) ≡ linesA
   pub inside-board : all (inside (jobOf jobA)) (linesOf (jobOf jobA) (setOf linesA)) ≡ true
-  pub no-overlap : noOverlap (jobOf jobA) (linesOf (jobOf jobA) (setOf linesA)) ≡ true
+  pub all-apart : allApart (jobOf jobA) (linesOf (jobOf jobA) (setOf linesA)) ≡ true

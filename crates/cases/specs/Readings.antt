@@ -13,7 +13,7 @@ use Rattle.cases.specs.Jobs.{jobA, planA, platesA, cutsA, alone}
 
 -- 2N, 9 by 4: 3 by 4 once, 3 by 3 twice; cut 4, item 2 from (6, 4, 2), leaves (3, 3, 2), type 4
 unfoldable pub jobC : List ℕ
-jobC = 2 ∷ 0 ∷ 9 ∷ 4 ∷ 2 ∷ 3 ∷ 4 ∷ 1 ∷ 0 ∷ 3 ∷ 3 ∷ 2 ∷ 0 ∷ []
+jobC = 2 ∷ 0 ∷ 9 ∷ 4 ∷ 2 ∷ 0 ∷ 3 ∷ 4 ∷ 1 ∷ 0 ∷ 3 ∷ 3 ∷ 2 ∷ 0 ∷ []
 
 -- the plate types of job C
 unfoldable pub platesC : List ℕ
@@ -25,11 +25,11 @@ cutsC = ((0 ∷ 2 ∷ 0 ∷ 1 ∷ []) ++ (0 ∷ 4 ∷ 0 ∷ 2 ∷ []) ++ (1 ∷ 
 
 -- 2N, 9 by 7: 4 by 7 three times, two to a board
 unfoldable pub jobD : List ℕ
-jobD = 2 ∷ 0 ∷ 9 ∷ 7 ∷ 1 ∷ 4 ∷ 7 ∷ 3 ∷ 0 ∷ []
+jobD = 2 ∷ 0 ∷ 9 ∷ 7 ∷ 1 ∷ 0 ∷ 4 ∷ 7 ∷ 3 ∷ 0 ∷ []
 
 -- 3N, 10 by 12: 4 by 3, 3 by 12 and 6 by 6, two of each; its plate types and its cuts
 unfoldable pub jobN : List ℕ
-jobN = 3 ∷ 0 ∷ 10 ∷ 12 ∷ 3 ∷ 4 ∷ 3 ∷ 2 ∷ 0 ∷ 3 ∷ 12 ∷ 2 ∷ 0 ∷ 6 ∷ 6 ∷ 2 ∷ 0 ∷ []
+jobN = 3 ∷ 0 ∷ 10 ∷ 12 ∷ 3 ∷ 0 ∷ 4 ∷ 3 ∷ 2 ∷ 0 ∷ 3 ∷ 12 ∷ 2 ∷ 0 ∷ 6 ∷ 6 ∷ 2 ∷ 0 ∷ []
 
 -- the plate types of job N
 unfoldable pub platesN : List ℕ
@@ -41,7 +41,7 @@ cutsN = ((0 ∷ 2 ∷ 1 ∷ 2 ∷ []) ++ (0 ∷ 4 ∷ 0 ∷ 3 ∷ []) ++ (0 ∷ 
 
 -- 3E, 9 by 5: 2 by 5, 7 by 2 and 5 by 2, one of each; its plate types and its cuts
 unfoldable pub jobE : List ℕ
-jobE = 3 ∷ 1 ∷ 9 ∷ 5 ∷ 3 ∷ 2 ∷ 5 ∷ 1 ∷ 0 ∷ 7 ∷ 2 ∷ 1 ∷ 0 ∷ 5 ∷ 2 ∷ 1 ∷ 0 ∷ []
+jobE = 3 ∷ 1 ∷ 9 ∷ 5 ∷ 3 ∷ 0 ∷ 2 ∷ 5 ∷ 1 ∷ 0 ∷ 7 ∷ 2 ∷ 1 ∷ 0 ∷ 5 ∷ 2 ∷ 1 ∷ 0 ∷ []
 
 -- the plate types of job E
 unfoldable pub platesE : List ℕ
@@ -53,7 +53,7 @@ cutsE = ((0 ∷ 2 ∷ 0 ∷ 1 ∷ []) ++ (0 ∷ 4 ∷ 2 ∷ 0 ∷ []) ++ (0 ∷ 
 
 -- 3N, 7 by 5: 3 by 5, 2 by 2 and 1 by 2, one of each
 unfoldable pub jobF : List ℕ
-jobF = 3 ∷ 0 ∷ 7 ∷ 5 ∷ 3 ∷ 3 ∷ 5 ∷ 1 ∷ 0 ∷ 2 ∷ 2 ∷ 1 ∷ 0 ∷ 1 ∷ 2 ∷ 1 ∷ 0 ∷ []
+jobF = 3 ∷ 0 ∷ 7 ∷ 5 ∷ 3 ∷ 0 ∷ 3 ∷ 5 ∷ 1 ∷ 0 ∷ 2 ∷ 2 ∷ 1 ∷ 0 ∷ 1 ∷ 2 ∷ 1 ∷ 0 ∷ []
 
 -- on job F a stack of 1 by 2 and above it 2 by 2, and beside it 3 by 5
 unfoldable pub linesF : List ℕ
@@ -61,7 +61,7 @@ linesF = ((1 ∷ 1 ∷ 1 ∷ 1 ∷ 3 ∷ 0 ∷ 0 ∷ 0 ∷ []) ++ (1 ∷ 1 ∷ 1
 
 -- 2N, 9 by 4: types 1 and 2 both 3 by 3, type 3 of 3 by 4
 unfoldable pub jobG : List ℕ
-jobG = 2 ∷ 0 ∷ 9 ∷ 4 ∷ 3 ∷ 3 ∷ 3 ∷ 1 ∷ 0 ∷ 3 ∷ 3 ∷ 1 ∷ 0 ∷ 3 ∷ 4 ∷ 1 ∷ 0 ∷ []
+jobG = 2 ∷ 0 ∷ 9 ∷ 4 ∷ 3 ∷ 0 ∷ 3 ∷ 3 ∷ 1 ∷ 0 ∷ 3 ∷ 3 ∷ 1 ∷ 0 ∷ 3 ∷ 4 ∷ 1 ∷ 0 ∷ []
 
 -- job A's printed boards with the low item of the first strip first
 unfoldable pub linesA-low-first : List ℕ

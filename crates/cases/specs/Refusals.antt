@@ -34,29 +34,29 @@ shortPlacements = replicate (placementsSize - 1) 7
 
 -- demands of 4,000 and 1
 unfoldable pub tooMany : List ℕ
-tooMany = 2 ∷ 0 ∷ 9 ∷ 7 ∷ 2 ∷ 5 ∷ 4 ∷ 4000 ∷ 0 ∷ 3 ∷ 3 ∷ 1 ∷ 0 ∷ []
+tooMany = 2 ∷ 0 ∷ 9 ∷ 7 ∷ 2 ∷ 0 ∷ 5 ∷ 4 ∷ 4000 ∷ 0 ∷ 3 ∷ 3 ∷ 1 ∷ 0 ∷ []
 
 -- an n of 41 with words for 41 types
 unfoldable pub manyTypes : List ℕ
-manyTypes = (2 ∷ 0 ∷ 9 ∷ 7 ∷ 41 ∷ []) ++ replicate (wordsOfItem * 41) 1
+manyTypes = (2 ∷ 0 ∷ 9 ∷ 7 ∷ 41 ∷ 0 ∷ []) ++ replicate (wordsOfItem * 41) 1
 
 pub record Refusals : Type 0 where
   -- 1: job words of another length, before any limit; n is read as 0 where it is missing
   pub job-empty : listing [] ≡ refuses 1 0 []
-  pub job-length : listing (2 ∷ 0 ∷ 9 ∷ 7 ∷ 41 ∷ []) .answer ≡ refused 1 0
-  pub job-one-more : listing (2 ∷ 0 ∷ 9 ∷ 7 ∷ 1 ∷ 3 ∷ 3 ∷ 1 ∷ 0 ∷ 0 ∷ []) .answer ≡ refused 1 0
+  pub job-length : listing (2 ∷ 0 ∷ 9 ∷ 7 ∷ 41 ∷ 0 ∷ []) .answer ≡ refused 1 0
+  pub job-one-more : listing (2 ∷ 0 ∷ 9 ∷ 7 ∷ 1 ∷ 0 ∷ 3 ∷ 3 ∷ 1 ∷ 0 ∷ 0 ∷ []) .answer ≡ refused 1 0
   -- 2: a value outside its limits, place 0 for the board
-  pub job-number : listing (2 ∷ 0 ∷ 9 ∷ 7 ∷ 0 ∷ []) ≡ refuses 2 0 []
+  pub job-number : listing (2 ∷ 0 ∷ 9 ∷ 7 ∷ 0 ∷ 0 ∷ []) ≡ refuses 2 0 []
   pub job-many-types : listing manyTypes .answer ≡ refused 2 0
-  pub job-stages : listing (4 ∷ 0 ∷ 9 ∷ 7 ∷ 1 ∷ 3 ∷ 3 ∷ 1 ∷ 0 ∷ []) .answer ≡ refused 2 0
-  pub job-exact : listing (2 ∷ 2 ∷ 9 ∷ 7 ∷ 1 ∷ 3 ∷ 3 ∷ 1 ∷ 0 ∷ []) .answer ≡ refused 2 0
+  pub job-stages : listing (4 ∷ 0 ∷ 9 ∷ 7 ∷ 1 ∷ 0 ∷ 3 ∷ 3 ∷ 1 ∷ 0 ∷ []) .answer ≡ refused 2 0
+  pub job-exact : listing (2 ∷ 2 ∷ 9 ∷ 7 ∷ 1 ∷ 0 ∷ 3 ∷ 3 ∷ 1 ∷ 0 ∷ []) .answer ≡ refused 2 0
   -- 2 names the lowest type
-  pub job-type : listing (2 ∷ 0 ∷ 9 ∷ 7 ∷ 2 ∷ 3 ∷ 3 ∷ 4001 ∷ 0 ∷ 0 ∷ 3 ∷ 1 ∷ 0 ∷ []) .answer ≡ refused 2 1
+  pub job-type : listing (2 ∷ 0 ∷ 9 ∷ 7 ∷ 2 ∷ 0 ∷ 3 ∷ 3 ∷ 4001 ∷ 0 ∷ 0 ∷ 3 ∷ 1 ∷ 0 ∷ []) .answer ≡ refused 2 1
   -- 2 of a later type comes before 3 of an earlier one; a side of 10,000 on a small board is 3
-  pub type-before-size : listing (2 ∷ 0 ∷ 9 ∷ 7 ∷ 2 ∷ 10000 ∷ 3 ∷ 1 ∷ 0 ∷ 3 ∷ 0 ∷ 1 ∷ 0 ∷ []) .answer ≡ refused 2 2
-  pub large-item : listing (2 ∷ 0 ∷ 9 ∷ 7 ∷ 2 ∷ 3 ∷ 3 ∷ 1 ∷ 0 ∷ 10000 ∷ 3 ∷ 1 ∷ 0 ∷ []) ≡ refuses 3 2 []
+  pub type-before-size : listing (2 ∷ 0 ∷ 9 ∷ 7 ∷ 2 ∷ 0 ∷ 10000 ∷ 3 ∷ 1 ∷ 0 ∷ 3 ∷ 0 ∷ 1 ∷ 0 ∷ []) .answer ≡ refused 2 2
+  pub large-item : listing (2 ∷ 0 ∷ 9 ∷ 7 ∷ 2 ∷ 0 ∷ 3 ∷ 3 ∷ 1 ∷ 0 ∷ 10000 ∷ 3 ∷ 1 ∷ 0 ∷ []) ≡ refuses 3 2 []
   -- 3 comes before 4
-  pub size-before-demands : listing (2 ∷ 0 ∷ 9 ∷ 7 ∷ 2 ∷ 5 ∷ 4 ∷ 4000 ∷ 0 ∷ 3 ∷ 8 ∷ 1 ∷ 0 ∷ []) .answer ≡ refused 3 2
+  pub size-before-demands : listing (2 ∷ 0 ∷ 9 ∷ 7 ∷ 2 ∷ 0 ∷ 5 ∷ 4 ∷ 4000 ∷ 0 ∷ 3 ∷ 8 ∷ 1 ∷ 0 ∷ []) .answer ≡ refused 3 2
   -- 4: demands above 4,000
   pub demands : listing tooMany ≡ refuses 4 0 []
   -- a refused job with short buffers is refused for the job, and their words are 0

@@ -43,7 +43,7 @@ pub record WithinRows : Type 0 where
       (ws : List ℕ)
       → jobWords ws
       ≡ fromTheTop
-      (refuseIf (not (eqb (length ws) (5 + 4 * getD ws 4 0))) 1 0
+      (refuseIf (not (eqb (length ws) (6 + 4 * getD ws 4 0))) 1 0
       ∷ refuseIf (not (boardRight ws)) 2 0
       ∷ lowest 2 (λ _ it. not (itemRight it)) 1 (jobOf ws .items)
       ∷ [])

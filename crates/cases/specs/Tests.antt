@@ -1,4 +1,4 @@
--- Document 01, "Layouts and folding" and "The words of demand 3": sets of layouts that break a rule, and rectangles that lie outside or overlap.
+-- Document 01, "Layouts and folding" and "The words of demand 3": sets of layouts that break a rule, and rectangles that lie outside or overlap, the blade being 0.
 -- A test that passes all of them would leave demand 3 saying nothing; each field says what it shuts out. Items stand by their numbers: 2 and 4 are types 1 and 2
 -- unturned.
 use mathlib.Core.Path.{_≡_}
@@ -7,7 +7,7 @@ use mathlib.Core.List.{[], _∷_}
 use Rattle.job.specs.Job.{jobOf}
 use Rattle.layouts.specs.Layout.{layoutRules}
 use Rattle.layouts.specs.Placement.{placementOf, meetsDemands}
-use Rattle.layouts.specs.Rectangle.{inside, noOverlap}
+use Rattle.layouts.specs.Rectangle.{inside, allApart}
 use Rattle.cases.specs.Jobs.{jobA, jobA2E, jobB}
 use Rattle.cases.specs.Readings.{jobE}
 
@@ -50,15 +50,15 @@ pub record Rectangles : Type 0 where
   pub past-right : inside (jobOf jobA) (placementOf 1 1 1 1 2 5 3) ≡ false
   pub past-top : inside (jobOf jobA) (placementOf 1 1 1 1 2 4 4) ≡ false
   -- "one ends where or before the other begins, across or upwards", whichever comes first
-  pub beside : noOverlap (jobOf jobA) (placementOf 1 1 1 1 2 0 0 ∷ placementOf 1 1 2 1 4 5 0 ∷ []) ≡ true
-  pub beside-first : noOverlap (jobOf jobA) (placementOf 1 1 1 1 4 5 0 ∷ placementOf 1 1 2 1 2 0 0 ∷ []) ≡ true
-  pub over : noOverlap (jobOf jobA) (placementOf 1 1 1 1 2 0 0 ∷ placementOf 1 2 1 1 4 0 4 ∷ []) ≡ true
-  pub over-first : noOverlap (jobOf jobA) (placementOf 1 1 1 1 4 0 4 ∷ placementOf 1 2 1 1 2 0 0 ∷ []) ≡ true
+  pub beside : allApart (jobOf jobA) (placementOf 1 1 1 1 2 0 0 ∷ placementOf 1 1 2 1 4 5 0 ∷ []) ≡ true
+  pub beside-first : allApart (jobOf jobA) (placementOf 1 1 1 1 4 5 0 ∷ placementOf 1 1 2 1 2 0 0 ∷ []) ≡ true
+  pub over : allApart (jobOf jobA) (placementOf 1 1 1 1 2 0 0 ∷ placementOf 1 2 1 1 4 0 4 ∷ []) ≡ true
+  pub over-first : allApart (jobOf jobA) (placementOf 1 1 1 1 4 0 4 ∷ placementOf 1 2 1 1 2 0 0 ∷ []) ≡ true
   -- one that begins one before the other ends, both ways
-  pub overlap : noOverlap (jobOf jobA) (placementOf 1 1 1 1 2 0 0 ∷ placementOf 1 1 2 1 4 4 3 ∷ []) ≡ false
-  pub overlap-first : noOverlap (jobOf jobA) (placementOf 1 1 1 1 4 4 3 ∷ placementOf 1 1 2 1 2 0 0 ∷ []) ≡ false
+  pub overlap : allApart (jobOf jobA) (placementOf 1 1 1 1 2 0 0 ∷ placementOf 1 1 2 1 4 4 3 ∷ []) ≡ false
+  pub overlap-first : allApart (jobOf jobA) (placementOf 1 1 1 1 4 4 3 ∷ placementOf 1 1 2 1 2 0 0 ∷ []) ≡ false
   -- two that are not neighbours in the list
-  pub overlap-later : noOverlap (jobOf jobA) (placementOf 1 1 1 1 4 0 0 ∷ placementOf 1 1 2 1 4 3 0 ∷ placementOf 1 1 3 1 4 0 0 ∷ []) ≡ false
-  pub overlap-last : noOverlap (jobOf jobA) (placementOf 1 1 1 1 2 0 0 ∷ placementOf 1 1 2 1 4 5 0 ∷ placementOf 1 1 3 1 4 6 0 ∷ []) ≡ false
+  pub overlap-later : allApart (jobOf jobA) (placementOf 1 1 1 1 4 0 0 ∷ placementOf 1 1 2 1 4 3 0 ∷ placementOf 1 1 3 1 4 0 0 ∷ []) ≡ false
+  pub overlap-last : allApart (jobOf jobA) (placementOf 1 1 1 1 2 0 0 ∷ placementOf 1 1 2 1 4 5 0 ∷ placementOf 1 1 3 1 4 6 0 ∷ []) ≡ false
   -- two on different boards
-  pub two-boards : noOverlap (jobOf jobA) (placementOf 1 1 1 1 2 0 0 ∷ placementOf 2 1 1 1 2 0 0 ∷ []) ≡ true
+  pub two-boards : allApart (jobOf jobA) (placementOf 1 1 1 1 2 0 0 ∷ placementOf 2 1 1 1 2 0 0 ∷ []) ≡ true

@@ -10,12 +10,12 @@ use Rattle.cases.specs.TextRefusals.{nine}
 
 -- a job whose one item type is wider than the board
 unfoldable pub largeLines : List ℕ
-largeLines = lineOf (1 ∷ 2 ∷ 0 ∷ 9 ∷ 7 ∷ 1 ∷ []) ++ lineOf (2 ∷ 1 ∷ 10 ∷ 7 ∷ 1 ∷ 0 ∷ [])
+largeLines = lineOf (1 ∷ 2 ∷ 0 ∷ 9 ∷ 7 ∷ 1 ∷ 0 ∷ []) ++ lineOf (2 ∷ 1 ∷ 10 ∷ 7 ∷ 1 ∷ 0 ∷ [])
 
 -- demands of 4,000 and 1
 unfoldable pub manyLines : List ℕ
 manyLines =
-    lineOf (1 ∷ 2 ∷ 0 ∷ 9 ∷ 7 ∷ 2 ∷ [])
+    lineOf (1 ∷ 2 ∷ 0 ∷ 9 ∷ 7 ∷ 2 ∷ 0 ∷ [])
     ++ lineOf (2 ∷ 1 ∷ 5 ∷ 4 ∷ 4000 ∷ 0 ∷ [])
     ++ lineOf (2 ∷ 2 ∷ 3 ∷ 3 ∷ 1 ∷ 0 ∷ [])
 

@@ -16,7 +16,7 @@ use Rattle.cases.specs.TextRefusals.{nine}
 
 -- line 1 of job A with one item type, and one more line
 unfoldable pub afterOne : List ℕ → List ℕ
-afterOne ns = lineOf (1 ∷ 2 ∷ 0 ∷ 9 ∷ 7 ∷ 1 ∷ []) ++ lineOf ns
+afterOne ns = lineOf (1 ∷ 2 ∷ 0 ∷ 9 ∷ 7 ∷ 1 ∷ 0 ∷ []) ++ lineOf ns
 
 -- job A's lines, and one more line
 unfoldable pub afterJob : List ℕ → List ℕ
@@ -39,28 +39,30 @@ afterFive ns =
 abbrev pub lineBegins : {S : Type 0} → S → ℕ → Reader S
 lineBegins s lines = record { state = s; lines = lines; pending = []; verdict = pass }
 
--- "1 stages (2 or 3), exact (1 or 0), W, H, n. 2 type, width, height, demand", and the leave (request One)
+-- "1 stages (2 or 3), exact (1 or 0), W, H, n. 2 type, width, height, demand", and the blade's b (request Four), and the leave (request One)
 pub record JobLines : Type 0 where
   -- a limit one lower: line 1 and line 2 at all their highest values; the line of type 2 is missing
   pub greatest :
-      sawText (lineOf (1 ∷ 3 ∷ 1 ∷ 10000 ∷ 10000 ∷ 40 ∷ []) ++ lineOf (2 ∷ 1 ∷ 10000 ∷ 10000 ∷ 4000 ∷ 1 ∷ [])) ≡ nine 1 3
+      sawText (lineOf (1 ∷ 3 ∷ 1 ∷ 10000 ∷ 10000 ∷ 40 ∷ 20 ∷ []) ++ lineOf (2 ∷ 1 ∷ 10000 ∷ 10000 ∷ 4000 ∷ 1 ∷ [])) ≡ nine 1 3
   pub greatest-fold :
-      foldText (lineOf (1 ∷ 3 ∷ 1 ∷ 10000 ∷ 10000 ∷ 40 ∷ []) ++ lineOf (2 ∷ 1 ∷ 10000 ∷ 10000 ∷ 4000 ∷ 1 ∷ [])) ≡ nine 1 3
+      foldText (lineOf (1 ∷ 3 ∷ 1 ∷ 10000 ∷ 10000 ∷ 40 ∷ 20 ∷ []) ++ lineOf (2 ∷ 1 ∷ 10000 ∷ 10000 ∷ 4000 ∷ 1 ∷ [])) ≡ nine 1 3
   -- a limit one higher: line 1 and line 2 at all their lowest values; nothing is cut
-  pub least : sawText (lineOf (1 ∷ 2 ∷ 0 ∷ 1 ∷ 1 ∷ 1 ∷ []) ++ lineOf (2 ∷ 1 ∷ 1 ∷ 1 ∷ 1 ∷ 0 ∷ [])) ≡ nine 11 1
-  pub least-fold : foldText (lineOf (1 ∷ 2 ∷ 0 ∷ 1 ∷ 1 ∷ 1 ∷ []) ++ lineOf (2 ∷ 1 ∷ 1 ∷ 1 ∷ 1 ∷ 0 ∷ [])) ≡ nine 11 1
+  pub least : sawText (lineOf (1 ∷ 2 ∷ 0 ∷ 1 ∷ 1 ∷ 1 ∷ 0 ∷ []) ++ lineOf (2 ∷ 1 ∷ 1 ∷ 1 ∷ 1 ∷ 0 ∷ [])) ≡ nine 11 1
+  pub least-fold : foldText (lineOf (1 ∷ 2 ∷ 0 ∷ 1 ∷ 1 ∷ 1 ∷ 0 ∷ []) ++ lineOf (2 ∷ 1 ∷ 1 ∷ 1 ∷ 1 ∷ 0 ∷ [])) ≡ nine 11 1
   -- stages 1 or 4; an exact of 2
-  pub stages-low : sawText (lineOf (1 ∷ 1 ∷ 0 ∷ 9 ∷ 7 ∷ 1 ∷ [])) ≡ nine 2 1
-  pub stages-high : foldText (lineOf (1 ∷ 4 ∷ 0 ∷ 9 ∷ 7 ∷ 1 ∷ [])) ≡ nine 2 1
-  pub exact-high : foldText (lineOf (1 ∷ 2 ∷ 2 ∷ 9 ∷ 7 ∷ 1 ∷ [])) ≡ nine 2 1
+  pub stages-low : sawText (lineOf (1 ∷ 1 ∷ 0 ∷ 9 ∷ 7 ∷ 1 ∷ 0 ∷ [])) ≡ nine 2 1
+  pub stages-high : foldText (lineOf (1 ∷ 4 ∷ 0 ∷ 9 ∷ 7 ∷ 1 ∷ 0 ∷ [])) ≡ nine 2 1
+  pub exact-high : foldText (lineOf (1 ∷ 2 ∷ 2 ∷ 9 ∷ 7 ∷ 1 ∷ 0 ∷ [])) ≡ nine 2 1
   -- a W or H of 0 or 10,001
-  pub width-zero : sawText (lineOf (1 ∷ 2 ∷ 0 ∷ 0 ∷ 7 ∷ 1 ∷ [])) ≡ nine 2 1
-  pub width-high : sawText (lineOf (1 ∷ 2 ∷ 0 ∷ 10001 ∷ 7 ∷ 1 ∷ [])) ≡ nine 2 1
-  pub height-zero : sawText (lineOf (1 ∷ 2 ∷ 0 ∷ 9 ∷ 0 ∷ 1 ∷ [])) ≡ nine 2 1
-  pub height-high : sawText (lineOf (1 ∷ 2 ∷ 0 ∷ 9 ∷ 10001 ∷ 1 ∷ [])) ≡ nine 2 1
+  pub width-zero : sawText (lineOf (1 ∷ 2 ∷ 0 ∷ 0 ∷ 7 ∷ 1 ∷ 0 ∷ [])) ≡ nine 2 1
+  pub width-high : sawText (lineOf (1 ∷ 2 ∷ 0 ∷ 10001 ∷ 7 ∷ 1 ∷ 0 ∷ [])) ≡ nine 2 1
+  pub height-zero : sawText (lineOf (1 ∷ 2 ∷ 0 ∷ 9 ∷ 0 ∷ 1 ∷ 0 ∷ [])) ≡ nine 2 1
+  pub height-high : sawText (lineOf (1 ∷ 2 ∷ 0 ∷ 9 ∷ 10001 ∷ 1 ∷ 0 ∷ [])) ≡ nine 2 1
   -- an n of 0 or 41
-  pub types-zero : sawText (lineOf (1 ∷ 2 ∷ 0 ∷ 9 ∷ 7 ∷ 0 ∷ [])) ≡ nine 2 1
-  pub types-high : sawText (lineOf (1 ∷ 2 ∷ 0 ∷ 9 ∷ 7 ∷ 41 ∷ [])) ≡ nine 2 1
+  pub types-zero : sawText (lineOf (1 ∷ 2 ∷ 0 ∷ 9 ∷ 7 ∷ 0 ∷ 0 ∷ [])) ≡ nine 2 1
+  pub types-high : sawText (lineOf (1 ∷ 2 ∷ 0 ∷ 9 ∷ 7 ∷ 41 ∷ 0 ∷ [])) ≡ nine 2 1
+  -- a blade of 21
+  pub blade-high : sawText (lineOf (1 ∷ 2 ∷ 0 ∷ 9 ∷ 7 ∷ 1 ∷ 21 ∷ [])) ≡ nine 2 1
   -- an item's width or height of 0 or 10,001
   pub item-width-zero : sawText (afterOne (2 ∷ 1 ∷ 0 ∷ 3 ∷ 1 ∷ 0 ∷ [])) ≡ nine 2 2
   pub item-width-high : sawText (afterOne (2 ∷ 1 ∷ 10001 ∷ 3 ∷ 1 ∷ 0 ∷ [])) ≡ nine 2 2
@@ -130,7 +132,7 @@ pub record LastLines : Type 0 where
 -- the line row reads, and the words that a text's reader keeps of job and prices; contracts have them by name
 pub record Rooms : Type 0 where
   -- another number of columns, or of numbers on a line
-  pub job-line : jobLineBytes ≡ 55
+  pub job-line : jobLineBytes ≡ 64
   pub type-line : typeLineBytes ≡ 55
   pub plan-line : planLineBytes ≡ 46
   pub prices-line : pricesLineBytes ≡ 37
@@ -141,8 +143,8 @@ pub record Rooms : Type 0 where
   -- a line that is read past the longest kind, 7
   pub longest-line : longestLine ≡ 82
   -- texts of 99,998 or 100,000 lines
-  pub saw-text : longestSawText ≡ 4600323
-  pub fold-text : longestFoldText ≡ 8199864
-  -- a job of 40 types has 165 words; D, 40 prices and 2,047 are 2,088
-  pub job-words : longestJob ≡ 165
+  pub saw-text : longestSawText ≡ 4600332
+  pub fold-text : longestFoldText ≡ 8199873
+  -- a job of 40 types has 166 words; D, 40 prices and 2,047 are 2,088
+  pub job-words : longestJob ≡ 166
   pub price-words : pricesSize ≡ 2088

@@ -35,17 +35,17 @@ pub record TextRefusals : Type 0 where
   pub one-more-number : sawText (jobLinesA ++ lineOf (3 ∷ 0 ∷ 1 ∷ 2 ∷ 0 ∷ 0 ∷ [])) ≡ nine 1 4
   pub one-number-less : sawText (jobLinesA ++ lineOf (3 ∷ 0 ∷ 1 ∷ 2 ∷ [])) ≡ nine 1 4
   -- a second line 1; a kind that is not read
-  pub second-job : sawText (jobLinesA ++ lineOf (1 ∷ 2 ∷ 0 ∷ 9 ∷ 7 ∷ 2 ∷ [])) ≡ nine 1 4
+  pub second-job : sawText (jobLinesA ++ lineOf (1 ∷ 2 ∷ 0 ∷ 9 ∷ 7 ∷ 2 ∷ 0 ∷ [])) ≡ nine 1 4
   pub kind-seven : sawText (jobLinesA ++ lineOf (7 ∷ 1 ∷ 1 ∷ 1 ∷ 1 ∷ 1 ∷ 0 ∷ 0 ∷ 0 ∷ [])) ≡ nine 1 4
   pub kind-eight : sawText (jobLinesA ++ lineOf (8 ∷ 2 ∷ 2 ∷ 1 ∷ 1 ∷ [])) ≡ nine 1 4
   pub kind-three : foldText (jobLinesA ++ lineOf (3 ∷ 0 ∷ 1 ∷ 2 ∷ 0 ∷ [])) ≡ nine 1 4
   -- lines 2 that are missing: one past the last; another line in their place: that line; one too many
-  pub missing-type : sawText (lineOf (1 ∷ 2 ∷ 0 ∷ 9 ∷ 7 ∷ 2 ∷ []) ++ lineOf (2 ∷ 1 ∷ 5 ∷ 4 ∷ 2 ∷ 0 ∷ [])) ≡ nine 1 3
-  pub not-a-type : sawText (lineOf (1 ∷ 2 ∷ 0 ∷ 9 ∷ 7 ∷ 2 ∷ []) ++ lineOf (2 ∷ 1 ∷ 5 ∷ 4 ∷ 2 ∷ 0 ∷ []) ++ lineOf (3 ∷ 0 ∷ 1 ∷ 2 ∷ 0 ∷ [])) ≡ nine 1 3
+  pub missing-type : sawText (lineOf (1 ∷ 2 ∷ 0 ∷ 9 ∷ 7 ∷ 2 ∷ 0 ∷ []) ++ lineOf (2 ∷ 1 ∷ 5 ∷ 4 ∷ 2 ∷ 0 ∷ [])) ≡ nine 1 3
+  pub not-a-type : sawText (lineOf (1 ∷ 2 ∷ 0 ∷ 9 ∷ 7 ∷ 2 ∷ 0 ∷ []) ++ lineOf (2 ∷ 1 ∷ 5 ∷ 4 ∷ 2 ∷ 0 ∷ []) ++ lineOf (3 ∷ 0 ∷ 1 ∷ 2 ∷ 0 ∷ [])) ≡ nine 1 3
   pub type-too-many : sawText (jobLinesA ++ lineOf (2 ∷ 3 ∷ 3 ∷ 3 ∷ 1 ∷ 0 ∷ [])) ≡ nine 1 4
   -- a running number that is not the next is 1, also outside its limits
-  pub type-not-next : sawText (lineOf (1 ∷ 2 ∷ 0 ∷ 9 ∷ 7 ∷ 2 ∷ []) ++ lineOf (2 ∷ 2 ∷ 3 ∷ 3 ∷ 3 ∷ 0 ∷ [])) ≡ nine 1 2
-  pub type-outside : sawText (lineOf (1 ∷ 2 ∷ 0 ∷ 9 ∷ 7 ∷ 2 ∷ []) ++ lineOf (2 ∷ 99 ∷ 5 ∷ 4 ∷ 2 ∷ 0 ∷ [])) ≡ nine 1 2
+  pub type-not-next : sawText (lineOf (1 ∷ 2 ∷ 0 ∷ 9 ∷ 7 ∷ 2 ∷ 0 ∷ []) ++ lineOf (2 ∷ 2 ∷ 3 ∷ 3 ∷ 3 ∷ 0 ∷ [])) ≡ nine 1 2
+  pub type-outside : sawText (lineOf (1 ∷ 2 ∷ 0 ∷ 9 ∷ 7 ∷ 2 ∷ 0 ∷ []) ++ lineOf (2 ∷ 99 ∷ 5 ∷ 4 ∷ 2 ∷ 0 ∷ [])) ≡ nine 1 2
   -- lines 5 before 4, 6 before all of 5, 3 after 4, a second 4
   pub price-first : sawText (jobLinesA ++ lineOf (5 ∷ 1 ∷ 1 ∷ [])) ≡ nine 1 4
   pub plate-price-early : sawText (jobLinesA ++ lineOf (4 ∷ 1 ∷ 2 ∷ 5 ∷ []) ++ lineOf (5 ∷ 1 ∷ 1 ∷ []) ++ lineOf (6 ∷ 1 ∷ 0 ∷ [])) ≡ nine 1 6
@@ -55,8 +55,8 @@ pub record TextRefusals : Type 0 where
   pub prices-missing : sawText (jobLinesA ++ planLinesA ++ lineOf (4 ∷ 1 ∷ 2 ∷ 5 ∷ [])) ≡ nine 1 9
   pub price-too-many : sawText (jobLinesA ++ planLinesA ++ priceLinesA ++ lineOf (6 ∷ 6 ∷ 0 ∷ [])) ≡ nine 1 16
   -- 2: stages and exact are values with limits
-  pub stages : sawText (lineOf (1 ∷ 4 ∷ 0 ∷ 9 ∷ 7 ∷ 2 ∷ [])) ≡ nine 2 1
-  pub exact : sawText (lineOf (1 ∷ 2 ∷ 2 ∷ 9 ∷ 7 ∷ 2 ∷ [])) ≡ nine 2 1
+  pub stages : sawText (lineOf (1 ∷ 4 ∷ 0 ∷ 9 ∷ 7 ∷ 2 ∷ 0 ∷ [])) ≡ nine 2 1
+  pub exact : sawText (lineOf (1 ∷ 2 ∷ 2 ∷ 9 ∷ 7 ∷ 2 ∷ 0 ∷ [])) ≡ nine 2 1
   -- 2: item n + 1, count 0, count 4,001, plate 2,048, a number above 65,535
   pub plan-item : sawText (jobLinesA ++ lineOf (3 ∷ 0 ∷ 3 ∷ 1 ∷ 0 ∷ [])) ≡ nine 2 4
   pub plan-none : sawText (jobLinesA ++ lineOf (3 ∷ 0 ∷ 1 ∷ 0 ∷ 0 ∷ [])) ≡ nine 2 4
@@ -69,11 +69,11 @@ pub record TextRefusals : Type 0 where
   pub prices-denominator : sawText (jobLinesA ++ lineOf (4 ∷ 0 ∷ 2 ∷ 5 ∷ [])) ≡ nine 2 4
   -- a 2 on an earlier line comes before a 1 on a later one; on one line 1 comes before 2
   pub line-by-line : sawText (jobLinesA ++ lineOf (3 ∷ 0 ∷ 3 ∷ 1 ∷ 0 ∷ []) ++ lineOf (9 ∷ 9 ∷ [])) ≡ nine 2 4
-  pub same-line : sawText (lineOf (1 ∷ 2 ∷ 0 ∷ 9 ∷ 7 ∷ 2 ∷ []) ++ lineOf (2 ∷ 2 ∷ 10001 ∷ 3 ∷ 3 ∷ 0 ∷ [])) ≡ nine 1 2
+  pub same-line : sawText (lineOf (1 ∷ 2 ∷ 0 ∷ 9 ∷ 7 ∷ 2 ∷ 0 ∷ []) ++ lineOf (2 ∷ 2 ∷ 10001 ∷ 3 ∷ 3 ∷ 0 ∷ [])) ≡ nine 1 2
   -- a text with a 3 to give and a last line of no form is 1
-  pub form-before-size : sawText (lineOf (1 ∷ 2 ∷ 0 ∷ 9 ∷ 7 ∷ 1 ∷ []) ++ lineOf (2 ∷ 1 ∷ 10 ∷ 7 ∷ 1 ∷ 0 ∷ []) ++ lineOf (9 ∷ 9 ∷ [])) ≡ nine 1 3
+  pub form-before-size : sawText (lineOf (1 ∷ 2 ∷ 0 ∷ 9 ∷ 7 ∷ 1 ∷ 0 ∷ []) ++ lineOf (2 ∷ 1 ∷ 10 ∷ 7 ∷ 1 ∷ 0 ∷ []) ++ lineOf (9 ∷ 9 ∷ [])) ≡ nine 1 3
   -- 3 and 4 after all lines
-  pub size : sawText (lineOf (1 ∷ 2 ∷ 0 ∷ 9 ∷ 7 ∷ 1 ∷ []) ++ lineOf (2 ∷ 1 ∷ 10 ∷ 7 ∷ 1 ∷ 0 ∷ [])) ≡ nine 3 1
+  pub size : sawText (lineOf (1 ∷ 2 ∷ 0 ∷ 9 ∷ 7 ∷ 1 ∷ 0 ∷ []) ++ lineOf (2 ∷ 1 ∷ 10 ∷ 7 ∷ 1 ∷ 0 ∷ [])) ≡ nine 3 1
   -- no line 3: 11, type 1; no line 7 the same
   pub no-plan : sawText jobLinesA ≡ nine 11 1
   pub no-layouts : foldText jobLinesA ≡ nine 11 1

@@ -6,7 +6,7 @@ use Rattle.cases.specs.Bytes.{bytes}
 -- job A, as lines of kinds 1 and 2
 unfoldable pub jobLinesA : List ℕ
 jobLinesA =
-    bytes "        1        2        0        9        7        2\n"
+    bytes "        1        2        0        9        7        2        0\n"
     ++ bytes "        2        1        5        4        2        0\n"
     ++ bytes "        2        2        3        3        3        0\n"
 

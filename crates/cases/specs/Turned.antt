@@ -14,15 +14,15 @@ use Rattle.cases.specs.Jobs.{jobA, jobT}
 
 -- 2N, 5 by 3, one item of 3 by 5, with leave or without
 unfoldable pub tall : ℕ → List ℕ
-tall v = 2 ∷ 0 ∷ 5 ∷ 3 ∷ 1 ∷ 3 ∷ 5 ∷ 1 ∷ v ∷ []
+tall v = 2 ∷ 0 ∷ 5 ∷ 3 ∷ 1 ∷ 0 ∷ 3 ∷ 5 ∷ 1 ∷ v ∷ []
 
 -- 2N, 3 by 3, one item as large as the board, with leave
 unfoldable pub squareJob : List ℕ
-squareJob = 2 ∷ 0 ∷ 3 ∷ 3 ∷ 1 ∷ 3 ∷ 3 ∷ 1 ∷ 1 ∷ []
+squareJob = 2 ∷ 0 ∷ 3 ∷ 3 ∷ 1 ∷ 0 ∷ 3 ∷ 3 ∷ 1 ∷ 1 ∷ []
 
 -- 2N, 9 by 9, one item of 3 by 2 without leave
 unfoldable pub small : List ℕ
-small = 2 ∷ 0 ∷ 9 ∷ 9 ∷ 1 ∷ 3 ∷ 2 ∷ 1 ∷ 0 ∷ []
+small = 2 ∷ 0 ∷ 9 ∷ 9 ∷ 1 ∷ 0 ∷ 3 ∷ 2 ∷ 1 ∷ 0 ∷ []
 
 -- a first line, of type 1 with a turn
 unfoldable pub lineOne : ℕ → List ℕ
@@ -75,19 +75,19 @@ linesT-low-first = (1 ∷ 1 ∷ 1 ∷ 1 ∷ 1 ∷ 0 ∷ 0 ∷ 0 ∷ []) ++ (1 �
 
 -- 2E, 9 by 5, one item of 5 by 4 with leave: turned it is as high as the plate that it leaves
 unfoldable pub exactHeight : List ℕ
-exactHeight = 2 ∷ 1 ∷ 9 ∷ 5 ∷ 1 ∷ 5 ∷ 4 ∷ 1 ∷ 1 ∷ []
+exactHeight = 2 ∷ 1 ∷ 9 ∷ 5 ∷ 1 ∷ 0 ∷ 5 ∷ 4 ∷ 1 ∷ 1 ∷ []
 
 -- 3E, 5 by 10, an item of 5 by 4 with leave, and one of 1 by 10: turned the first is as wide as the plate above it
 unfoldable pub exactWidth : List ℕ
-exactWidth = 3 ∷ 1 ∷ 5 ∷ 10 ∷ 2 ∷ 5 ∷ 4 ∷ 1 ∷ 1 ∷ 1 ∷ 10 ∷ 1 ∷ 0 ∷ []
+exactWidth = 3 ∷ 1 ∷ 5 ∷ 10 ∷ 2 ∷ 0 ∷ 5 ∷ 4 ∷ 1 ∷ 1 ∷ 1 ∷ 10 ∷ 1 ∷ 0 ∷ []
 
 -- 3N, 6 by 8, an item of 5 by 3 with leave, twice, and one of 1 by 8
 unfoldable pub bothTurns : List ℕ
-bothTurns = 3 ∷ 0 ∷ 6 ∷ 8 ∷ 2 ∷ 5 ∷ 3 ∷ 2 ∷ 1 ∷ 1 ∷ 8 ∷ 1 ∷ 0 ∷ []
+bothTurns = 3 ∷ 0 ∷ 6 ∷ 8 ∷ 2 ∷ 0 ∷ 5 ∷ 3 ∷ 2 ∷ 1 ∷ 1 ∷ 8 ∷ 1 ∷ 0 ∷ []
 
 -- 2N, 5 by 3, an item of 3 by 2 with leave, and one of 2 by 3: turned the first has the sides of the second
 unfoldable pub sameSides : List ℕ
-sameSides = 2 ∷ 0 ∷ 5 ∷ 3 ∷ 2 ∷ 3 ∷ 2 ∷ 1 ∷ 1 ∷ 2 ∷ 3 ∷ 1 ∷ 0 ∷ []
+sameSides = 2 ∷ 0 ∷ 5 ∷ 3 ∷ 2 ∷ 0 ∷ 3 ∷ 2 ∷ 1 ∷ 1 ∷ 2 ∷ 3 ∷ 1 ∷ 0 ∷ []
 
 -- "A cut becomes plate, type and turn, the unturned first; a square item has no turned cut"
 pub record TurnedCuts : Type 0 where

@@ -9,7 +9,7 @@ use Rattle.cases.specs.TextRefusals.{nine}
 
 -- 2N, a board and one item type of demand 1
 unfoldable pub oneType : ℕ → ℕ → ℕ → ℕ → ℕ → List ℕ
-oneType W H w h leave = lineOf (1 ∷ 2 ∷ 0 ∷ W ∷ H ∷ 1 ∷ []) ++ lineOf (2 ∷ 1 ∷ w ∷ h ∷ 1 ∷ leave ∷ [])
+oneType W H w h leave = lineOf (1 ∷ 2 ∷ 0 ∷ W ∷ H ∷ 1 ∷ 0 ∷ []) ++ lineOf (2 ∷ 1 ∷ w ∷ h ∷ 1 ∷ leave ∷ [])
 
 -- line 3 of the board, type 1 and a turn, counted once
 unfoldable pub cutOnce : ℕ → List ℕ
@@ -54,4 +54,4 @@ pub record TurnedTexts : Type 0 where
   -- a line 7 of eight numbers, a line 3 of four, a line 2 of five: 1
   pub no-turn-laid : foldText (oneType 9 9 3 2 1 ++ lineOf (7 ∷ 1 ∷ 1 ∷ 1 ∷ 1 ∷ 1 ∷ 0 ∷ 0 ∷ [])) ≡ nine 1 3
   pub no-turn-cut : sawText (oneType 9 9 3 2 1 ++ lineOf (3 ∷ 0 ∷ 1 ∷ 1 ∷ [])) ≡ nine 1 3
-  pub no-leave : sawText (lineOf (1 ∷ 2 ∷ 0 ∷ 9 ∷ 9 ∷ 1 ∷ []) ++ lineOf (2 ∷ 1 ∷ 3 ∷ 2 ∷ 1 ∷ [])) ≡ nine 1 2
+  pub no-leave : sawText (lineOf (1 ∷ 2 ∷ 0 ∷ 9 ∷ 9 ∷ 1 ∷ 0 ∷ []) ++ lineOf (2 ∷ 1 ∷ 3 ∷ 2 ∷ 1 ∷ [])) ≡ nine 1 2

@@ -10,7 +10,7 @@ use Rattle.cases.specs.Jobs.{jobA}
 -- 3N, 7 by 5: 3 by 5 once, 2 by 2 four times; a plan of one board with two stacks of 2 by 2
 unfoldable pub twoStacksLines : List ℕ
 twoStacksLines =
-    lineOf (1 ∷ 3 ∷ 0 ∷ 7 ∷ 5 ∷ 2 ∷ [])
+    lineOf (1 ∷ 3 ∷ 0 ∷ 7 ∷ 5 ∷ 2 ∷ 0 ∷ [])
     ++ lineOf (2 ∷ 1 ∷ 3 ∷ 5 ∷ 1 ∷ 0 ∷ [])
     ++ lineOf (2 ∷ 2 ∷ 2 ∷ 2 ∷ 4 ∷ 0 ∷ [])
     ++ lineOf (3 ∷ 0 ∷ 1 ∷ 1 ∷ 0 ∷ [])
@@ -21,7 +21,7 @@ twoStacksLines =
 -- 2N, 9 by 7: 3 by 3 four times; a plan of one item to a board, top and right left over each time
 unfoldable pub leftOverLines : List ℕ
 leftOverLines =
-    lineOf (1 ∷ 2 ∷ 0 ∷ 9 ∷ 7 ∷ 1 ∷ [])
+    lineOf (1 ∷ 2 ∷ 0 ∷ 9 ∷ 7 ∷ 1 ∷ 0 ∷ [])
     ++ lineOf (2 ∷ 1 ∷ 3 ∷ 3 ∷ 4 ∷ 0 ∷ [])
     ++ lineOf (3 ∷ 0 ∷ 1 ∷ 4 ∷ 0 ∷ [])
 

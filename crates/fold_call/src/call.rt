@@ -93,10 +93,10 @@ fn fold_checks(job: &[u16], layouts: &[u16], plates: &[u16], cuts: &[u16], count
 // Refused are 1 and 2 of the job's words; 1 a layout line cut short, 2 one with a value outside its limits, and then 19 one that turns a square type or
 // one without leave, naming the line; 3 and 4 of the job; 5 a buffer shorter than its full size, plates 1, cuts 2, counts 3; 6 and 7 of the model, naming
 // 0; then the layouts row: 10 more than 4,000 lines, naming 0; 15 a line that is not the next in turn; 16 a strip that breaks the stage rule and 17 one
-// that passes the board, naming its first line; 18 a line whose x or y is wrong; 11 a type that lies in the lines, in both turns together, less often
-// than demanded. Plates and cuts end as the listing, counts as the plan; after 5 all three are unchanged, after another refusal every word of them is
-// 0, after success the unused words are 0. On success the layouts are the lines of a set that demand 3 names, and the counts are an accepted plan that
-// opens as many boards as the set has.
+// that passes the board, naming its first line; 18 a line whose x or y is wrong, where neighbours lie just a blade's width apart; 11 a type that lies in
+// the lines, in both turns together, less often than demanded. Plates and cuts end as the listing, counts as the plan; after 5 all three are unchanged,
+// after another refusal every word of them is 0, after success the unused words are 0. On success the layouts are the lines of a set that demand 3
+// names, and the counts are an accepted plan that opens as many boards as the set has.
 pub fn fold(
     job: &[u16],
     layouts: &[u16],

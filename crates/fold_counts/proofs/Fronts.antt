@@ -4,6 +4,7 @@ use mathlib.Core.Path.{_≡_, refl, sym, ap, _∙_}
 use mathlib.Core.Bool.{Bool, true, false, cond, _&&_}
 use mathlib.Core.List.{List, [], _∷_, _++_, map}
 use lib.Dec.{eqb}
+use Rattle.job.specs.Lists.{gapSum}
 use Rattle.job.specs.Job.{Job}
 use Rattle.listing.specs.Listing.{Listing, cutAt}
 use Rattle.layouts.specs.Layout.{Stack, Strip, widthOf, heightOf, stackHeight, single, fullStack}
@@ -24,8 +25,9 @@ module _ (job : Job) (h : ℕ) where
 
   -- ordering a stack keeps it
   full-falling : (k : Stack) → fullStack job h (falling (widthOf job) k) ≡ fullStack job h k
-  unfolding fullStack stackHeight
-  full-falling k = rw (← single-length 0 (falling (widthOf job) k), length-falling (widthOf job) k, single-length 0 k, sum-falling (widthOf job) (heightOf job) k)
+  unfolding fullStack stackHeight gapSum
+  full-falling k =
+      rw (← single-length 0 (falling (widthOf job) k), length-falling (widthOf job) k, single-length 0 k, sum-falling (widthOf job) (λ i. heightOf job i + job .blade) k)
 
   -- a full stack has no further item
   pub full-one : (i : ℕ) (is : Stack) → fullStack job h (i ∷ is) ≡ true → is ≡ []

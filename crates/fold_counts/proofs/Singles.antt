@@ -5,12 +5,13 @@ use mathlib.Core.Path.{_≡_, refl, sym, ap, _∙_}
 use mathlib.Core.Logic.{inl, inr}
 use mathlib.Core.Bool.{true, false}
 use mathlib.Core.List.{List, [], _∷_, map, flatMap}
-use Rattle.job.specs.Lists.{any, all, sumOf}
+use Rattle.job.specs.Lists.{any, all}
 use Rattle.job.specs.Mode.{three}
 use Rattle.job.specs.Job.{Job}
 use Rattle.job.proofs.Tests.{and-left}
+use Rattle.job.proofs.Sums.{gapSum-one}
 use Rattle.listing.specs.Listing.{Listing, cutAt}
-use Rattle.layouts.specs.Layout.{Stack, Strip, stackHeight, stripHeight, single, fullStack, stageRule}
+use Rattle.layouts.specs.Layout.{Stack, Strip, heightOf, stackHeight, stripHeight, single, fullStack, stageRule}
 use Rattle.layouts.specs.Placement.{itemsOfStrip}
 use Rattle.layouts.specs.Rules.{Filled}
 use Rattle.layouts.specs.Fold.{insertBy, falling, ordered, cutOf, stackCuts, stripCuts}
@@ -60,8 +61,8 @@ singles ((i ∷ []) ∷ s) e = ap (λ (ks : Strip). (i ∷ []) ∷ ks) (singles 
 singles ((i ∷ i′ ∷ is) ∷ s) e = absurd (mathlib.Core.Bool.false≢true e)
 
 alone-high : (job : Job) (i : ℕ) → stackHeight job (alone i) ≡ keyOf job false i
-unfolding stackHeight sumOf
-alone-high job i = omega arith
+unfolding stackHeight
+alone-high job i = gapSum-one (job .blade) (heightOf job) i
 
 two-ordered : (job : Job) (s : Strip) → three (job .mode) ≡ false → all single s ≡ true → ordered job s ≡ map alone (falling (keyOf job false) (itemsOfStrip s))
 two-ordered job s t e =

@@ -12,7 +12,7 @@ use Rattle.job.specs.declared.item.Item.{Item}
 use Rattle.job.specs.Sizes.{jobSize}
 use Rattle.job.specs.declared.item.Position.{Position}
 use Rattle.job.specs.Verdict.{pass, _then_, refuseIf, lowest, within}
-use Rattle.job.specs.Job.{Job, noItem, itemAt, unturned, turned, positionAt, fits, jobOf, side, boardRight, itemRight, jobWords, larger, demanded, admission, maxSide, maxTypes, maxPieces}
+use Rattle.job.specs.Job.{Job, noItem, itemAt, unturned, turned, positionAt, fits, jobOf, side, boardRight, itemRight, jobWords, larger, demanded, admission, maxSide, maxBlade, maxTypes, maxPieces}
 use Rattle.job.specs.Admitted.{Between, ItemLimits, WordsRight, Fits, Fitting, AdmittedWords, Admitted, Sided}
 use Rattle.job.proofs.Tests.{and-left, and-right, or-true, true-or}
 use Rattle.job.proofs.Decides.{Decides, decides-self, decides-le, decides-and, decides-within}
@@ -47,7 +47,7 @@ item-limits-test it l =
       decides-within 0 1 (it .leave) .1 (l .leave-limits),
     )
 
--- the limits of the first five words, tested
+-- the limits of the words of the head, tested
 abbrev pub BoardLimits : List ℕ → Type 0
 BoardLimits ws =
     Between 2 3 (getD ws 0 0)
@@ -55,6 +55,7 @@ BoardLimits ws =
     × Between 1 maxSide (getD ws 2 0)
     × Between 1 maxSide (getD ws 3 0)
     × Between 1 maxTypes (getD ws 4 0)
+    × Between 0 maxBlade (getD ws 5 0)
 
 pub board-limits : (ws : List ℕ) → boardRight ws ≡ true → BoardLimits ws
 unfolding boardRight
@@ -64,14 +65,17 @@ board-limits ws e =
     let c = side (getD ws 2 0) in
     let d = side (getD ws 3 0) in
     let n = within 1 maxTypes (getD ws 4 0) in
-    let abcd = and-left (a && b && c && d) n e in
+    let k = within 0 maxBlade (getD ws 5 0) in
+    let abcdn = and-left (a && b && c && d && n) k e in
+    let abcd = and-left (a && b && c && d) n abcdn in
     let abc = and-left (a && b && c) d abcd in
     let ab = and-left (a && b) c abc in (
       decides-within 2 3 (getD ws 0 0) .0 (and-left a b ab),
       decides-within 0 1 (getD ws 1 0) .0 (and-right a b ab),
       decides-within 1 maxSide (getD ws 2 0) .0 (and-right (a && b) c abc),
       decides-within 1 maxSide (getD ws 3 0) .0 (and-right (a && b && c) d abcd),
-      decides-within 1 maxTypes (getD ws 4 0) .0 (and-right (a && b && c && d) n e),
+      decides-within 1 maxTypes (getD ws 4 0) .0 (and-right (a && b && c && d) n abcdn),
+      decides-within 0 maxBlade (getD ws 5 0) .0 (and-right (a && b && c && d && n) k e),
     )
 
 pub board-limits-test : (ws : List ℕ) → BoardLimits ws → boardRight ws ≡ true
@@ -83,6 +87,7 @@ board-limits-test ws l =
       decides-within 1 maxSide (getD ws 2 0) .1 (l .2),
       decides-within 1 maxSide (getD ws 3 0) .1 (l .3),
       decides-within 1 maxTypes (getD ws 4 0) .1 (l .4),
+      decides-within 0 maxBlade (getD ws 5 0) .1 (l .5),
     )
 
 -- a check over the item types passes where no type fails its test, the types numbered from 1
@@ -122,6 +127,7 @@ words-right ws h =
       width-limits = l .2;
       height-limits = l .3;
       types-limits = l .4;
+      blade-limits = l .5;
       each-item = λ i p q. item-limits (itemAt (jobOf ws) i) (not-false _ (good i p (rw (items-length ws (getD ws 4 0) whole) q)));
     }
 
@@ -131,7 +137,7 @@ unfolding jobWords
 right-words ws r =
     rw (
       eq-eqb (length ws) (jobSize (getD ws 4 0)) (r .whole),
-      board-limits-test ws (r .stages-limits, r .exact-limits, r .width-limits, r .height-limits, r .types-limits),
+      board-limits-test ws (r .stages-limits, r .exact-limits, r .width-limits, r .height-limits, r .types-limits, r .blade-limits),
     )
     (types-pass 2 (λ it. not (itemRight it)) (jobOf ws)
     (λ i p q. ap not (item-limits-test (itemAt (jobOf ws) i) (r .each-item i p (rw (items-length ws (getD ws 4 0) (r .whole)) at q)))))
@@ -214,6 +220,7 @@ admitted-job ws a =
       width-limits = a .right .width-limits;
       height-limits = a .right .height-limits;
       types-limits = rw n (a .right .types-limits);
+      blade-limits = a .right .blade-limits;
       each-item = λ i p q. a .right .each-item i p (rw n at q);
       fitting = a .fitting;
     }

@@ -8,7 +8,7 @@ use lib.Dec.{eqb}
 use lib.ListN.{length, getD, take}
 use lib.Seq.{take-suc}
 use borrow.Author.Tests.{eq-eqb, ne-eqb}
-use Rattle.job.specs.Lists.{sumOf, maxOf, occurs, tally}
+use Rattle.job.specs.Lists.{sumOf, gapSum, maxOf, occurs, tally}
 
 module _ {A : Type 0} where
   -- one list after another
@@ -16,6 +16,25 @@ module _ {A : Type 0} where
   unfolding sumOf
   sumOf-append f [] bs = omega arith
   sumOf-append f (a ∷ as′) bs = omega (arith, sumOf-append f as′ bs)
+
+  -- a gap between neighbours: none where there is no value or one alone, and one more for each value more
+  pub gapSum-none : (gap : ℕ) (f : A → ℕ) → gapSum gap f [] ≡ 0
+  unfolding gapSum sumOf
+  gapSum-none gap f = omega arith
+
+  pub gapSum-one : (gap : ℕ) (f : A → ℕ) (a : A) → gapSum gap f (a ∷ []) ≡ f a
+  unfolding gapSum sumOf
+  gapSum-one gap f a = omega arith
+
+  pub gapSum-more : (gap : ℕ) (f : A → ℕ) (a b : A) (as′ : List A) → gapSum gap f (a ∷ b ∷ as′) ≡ f a + gap + gapSum gap f (b ∷ as′)
+  unfolding gapSum sumOf
+  gapSum-more gap f a b as′ = omega arith
+
+  -- without a gap it is the sum
+  pub gapSum-zero : (f : A → ℕ) (as′ : List A) → gapSum 0 f as′ ≡ sumOf f as′
+  unfolding gapSum sumOf
+  gapSum-zero f [] = refl
+  gapSum-zero f (a ∷ as′) = let z : gapSum 0 f as′ ≡ sumOf f as′ = gapSum-zero f as′ in omega arith
 
   -- one element more
   pub sumOf-take : (f : A → ℕ) (as′ : List A) (i : ℕ) (d : A) → i < length as′ → sumOf f (take (suc i) as′) ≡ sumOf f (take i as′) + f (getD as′ i d)

@@ -8,7 +8,7 @@ use lib.ListN.{length, getD}
 use Rattle.job.specs.declared.item.Item.{Item}
 use Rattle.job.specs.declared.item.Position.{Position}
 use Rattle.job.specs.Sizes.{jobSize}
-use Rattle.job.specs.Job.{Job, itemAt, typeOf, turnOf, positionAt, permitted, jobOf, demanded, maxSide, maxTypes, maxPieces}
+use Rattle.job.specs.Job.{Job, itemAt, typeOf, turnOf, positionAt, permitted, jobOf, demanded, maxSide, maxBlade, maxTypes, maxPieces}
 
 -- a value from one limit to another, both included
 abbrev pub Between : ℕ → ℕ → ℕ → Type 0
@@ -29,6 +29,7 @@ pub record WordsRight (ws : List ℕ) : Type 0 where
   pub width-limits : Between 1 maxSide (getD ws 2 0)
   pub height-limits : Between 1 maxSide (getD ws 3 0)
   pub types-limits : Between 1 maxTypes (getD ws 4 0)
+  pub blade-limits : Between 0 maxBlade (getD ws 5 0)
   pub each-item : (i : ℕ) → 1 ≤ i → i ≤ getD ws 4 0 → ItemLimits (itemAt (jobOf ws) i)
 
 -- request One: an item may lie in position q. Its type is "1 to n", and its turn is 0, or else 1 for a type with leave that is not square
@@ -75,6 +76,7 @@ pub record Admitted (job : Job) : Type 0 where
   pub width-limits : Between 1 maxSide (job .width)
   pub height-limits : Between 1 maxSide (job .height)
   pub types-limits : Between 1 maxTypes (length (job .items))
+  pub blade-limits : Between 0 maxBlade (job .blade)
   pub each-item : (i : ℕ) → 1 ≤ i → i ≤ length (job .items) → ItemLimits (itemAt job i)
   pub fitting : Fitting job
 

@@ -9,15 +9,16 @@ use Rattle.job.specs.declared.item.Item.{Item}
 use Rattle.job.specs.declared.item.Position.{Position}
 use Rattle.job.specs.Lists.{sumOf}
 use Rattle.job.specs.Sizes.{wordsOfHead, jobSize}
-pub use Rattle.job.specs.Sizes.{maxSide, maxTypes, maxPieces}
+pub use Rattle.job.specs.Sizes.{maxSide, maxBlade, maxTypes, maxPieces}
 use Rattle.job.specs.Verdict.{Verdict, _then_, refuseIf, within, lowest}
 use Rattle.job.specs.Mode.{modeOf}
 
--- a job: its stage mode, the board's sides, and its item types; type i, from 1, stands at place i - 1
+-- a job: its stage mode, the board's sides, the width of the blade (request Four), and its item types; type i, from 1, stands at place i - 1
 pub record Job : Type 0 where
   pub mode : Mode
   pub width : ℕ
   pub height : ℕ
+  pub blade : ℕ
   pub items : List Item
 
 -- an item type by its words: width, height, demand, and its leave (request One), "1 if the type may be turned, 0 if not"
@@ -86,13 +87,15 @@ itemsOf (w ∷ h ∷ []) = []
 itemsOf (w ∷ h ∷ d ∷ []) = []
 itemsOf (w ∷ h ∷ d ∷ v ∷ ws) = item w h d v ∷ itemsOf ws
 
--- "as words a job is stages, exact, W, H, n, then width, height, demand of each type", and its leave (request One)
+-- "as words a job is stages, exact, W, H, n, then width, height, demand of each type", and its leave (request One); b is "the last number of line 1"
+-- (request Four), and so stands after n, before the types
 unfoldable pub jobOf : List ℕ → Job
 jobOf ws =
     record {
       mode = modeOf (getD ws 0 0) (getD ws 1 0);
       width = getD ws 2 0;
       height = getD ws 3 0;
+      blade = getD ws 5 0;
       items = itemsOf (drop wordsOfHead ws);
     }
 
@@ -100,7 +103,7 @@ jobOf ws =
 abbrev pub side : ℕ → Bool
 side x = within 1 maxSide x
 
--- the first five words are within their limits
+-- the words of the head are within their limits; the blade is 0 to 20 (request Four)
 unfoldable pub boardRight : List ℕ → Bool
 boardRight ws =
     within 2 3 (getD ws 0 0)
@@ -108,6 +111,7 @@ boardRight ws =
     && side (getD ws 2 0)
     && side (getD ws 3 0)
     && within 1 maxTypes (getD ws 4 0)
+    && within 0 maxBlade (getD ws 5 0)
 
 -- the words of an item type are within their limits; a leave is 0 or 1
 unfoldable pub itemRight : Item → Bool
@@ -118,6 +122,7 @@ itemRight it =
     && within 0 1 (it .leave)
 
 -- the line row of job words: 1 another length than that of n types; 2 a value outside its limits, naming the type, or 0 for the board
+-- and the blade
 unfoldable pub jobWords : List ℕ → Verdict
 jobWords ws =
     refuseIf (not (eqb (length ws) (jobSize (getD ws 4 0)))) 1 0

@@ -9,7 +9,7 @@ use Rattle.job.specs.Job.{jobOf, maxTypes}
 
 -- `ws` are the words of a job of this mode with n item types
 pub record JobWords (ws : List ℕ) (mode : Mode) (n : ℕ) : Type 0 where
-  -- five words, and four for each type
+  -- six words, and four for each type
   pub words : length ws ≡ jobSize n
   -- at most 40 types
   pub few : n ≤ maxTypes

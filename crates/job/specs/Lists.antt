@@ -1,5 +1,5 @@
 -- Tests, sums and the greatest value over a list.
-use Prim.Native.Nat.{ℕ, zero, suc, _+_, max}
+use Prim.Native.Nat.{ℕ, zero, suc, _+_, _-_, max}
 use mathlib.Core.Bool.{Bool, true, false}
 use mathlib.Core.List.{List, [], _∷_}
 use lib.Dec.{eqb}
@@ -19,6 +19,14 @@ module _ {A : Type 0} where
   unfoldable pub sumOf : (A → ℕ) → List A → ℕ
   sumOf f [] = 0
   sumOf f (a ∷ as′) = f a + sumOf f as′
+
+  -- the values of f, added up with a gap after each
+  abbrev pub gapsAfter : ℕ → (A → ℕ) → List A → ℕ
+  gapsAfter gap f as′ = sumOf (λ a. f a + gap) as′
+
+  -- request Four, "b between neighbours": the values of f, added up with a gap between neighbours, so that the gap after the last is taken back
+  unfoldable pub gapSum : ℕ → (A → ℕ) → List A → ℕ
+  gapSum gap f as′ = gapsAfter gap f as′ - gap
 
   -- the greatest value of f, 0 where there is none
   unfoldable pub maxOf : (A → ℕ) → List A → ℕ

@@ -7,6 +7,10 @@ use lib.ListN.{length}
 abbrev pub maxSide : ℕ
 maxSide = 10000
 
+-- request Four: "b from 0 to 20 mm", the greatest width of the blade
+abbrev pub maxBlade : ℕ
+maxBlade = 20
+
 -- "The job": the most item types
 abbrev pub maxTypes : ℕ
 maxTypes = 40
@@ -34,9 +38,9 @@ maxResiduals = maxPlates - 1
 abbrev pub maxPrice : ℕ
 maxPrice = 9999
 
--- the words of a job before its item types: stages, exact, W, H, n
+-- the words of a job before its item types: stages, exact, W, H, n, and the blade's b (request Four)
 abbrev pub wordsOfHead : ℕ
-wordsOfHead = 5
+wordsOfHead = 6
 
 -- the words of an item type: width, height, demand, leave
 abbrev pub wordsOfItem : ℕ

@@ -14,10 +14,12 @@ use crate::item::Position;
 use crate::position::turned;
 use crate::position::unturned;
 use crate::row::Row;
+use crate::sizes::BLADE;
 use crate::sizes::EXACT;
 use crate::sizes::HEAD_WORDS;
 use crate::sizes::HEIGHT;
 use crate::sizes::ITEM_WORDS;
+use crate::sizes::MAX_BLADE;
 use crate::sizes::MAX_PIECES;
 use crate::sizes::MAX_SIDE;
 use crate::sizes::MAX_TYPES;
@@ -43,6 +45,7 @@ fn board_right(job: &[u16]) -> bool
         && within(1, MAX_SIDE, job[WIDTH])
         && within(1, MAX_SIDE, job[HEIGHT])
         && within(1, MAX_TYPES, job[TYPES])
+        && within(0, MAX_BLADE, job[BLADE])
 }
 
 // Whether the words of an item type are within their limits.

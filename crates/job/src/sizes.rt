@@ -3,6 +3,9 @@
 // "board W by H, each 1 to 10,000": the greatest side of board and item, and the greatest x and y of a layout line.
 pub const MAX_SIDE: u16 = 10000;
 
+// The greatest width of the blade.
+pub const MAX_BLADE: u16 = 20;
+
 // The most item types.
 pub const MAX_TYPES: u16 = 40;
 
@@ -24,10 +27,10 @@ pub const MAX_CUTS: u16 = 8192;
 // The greatest price, and the greatest D.
 pub const MAX_PRICE: u16 = 9999;
 
-// The words of a job before its item types: stages, exact, W, H, n.
-pub const HEAD_WORDS: usize = 5;
+// The words of a job before its item types: stages, exact, W, H, n, b.
+pub const HEAD_WORDS: usize = 6;
 
-// Where stages, exact, W, H and n stand among them.
+// Where stages, exact, W, H, n and the blade's b stand among them.
 pub const STAGES: usize = 0;
 
 pub const EXACT: usize = 1;
@@ -37,6 +40,8 @@ pub const WIDTH: usize = 2;
 pub const HEIGHT: usize = 3;
 
 pub const TYPES: usize = 4;
+
+pub const BLADE: usize = 5;
 
 // The words of an item type: width, height, demand, leave.
 pub const ITEM_WORDS: usize = 4;

@@ -1,5 +1,5 @@
--- Request Two, "the area balance": "for every accepted plan and every board, item areas, offcuts and waste make W×H". What is left over of each plate
--- type, and how many offcuts there are, rest on the same sums.
+-- Request Two, "the area balance": "for every accepted plan and every board, item areas, offcuts and waste make W×H"; request Four: "the area balance gains
+-- the blade's swath". What is left over of each plate type, and how many offcuts there are, rest on the same sums.
 use Prim.Native.Nat.{ℕ, suc, _+_, _*_, _≤_}
 use mathlib.Core.Path.{_≡_}
 use mathlib.Core.Bool.{Bool, cond}
@@ -11,7 +11,7 @@ use Rattle.job.specs.Sizes.{maxOffcuts}
 use Rattle.job.specs.Job.{Job, positionAt}
 use Rattle.listing.specs.Listing.{Cut, Listing, plateAt, cutAt}
 use Rattle.listing.specs.Model.{itemOf}
-use Rattle.listing.specs.Waste.{itemArea, wasteOf}
+use Rattle.listing.specs.Waste.{itemArea, wasteOf, swathOf}
 use Rattle.plan.specs.Plan.{countOf, onPlate, leavesPlate, boards, total}
 use Rattle.layouts.specs.Placement.{Placement}
 use Rattle.layouts.specs.Offcuts.{Event, placedIn, cutsIn, cutsOn, typesOver, Offcut, offcutsIn}
@@ -32,6 +32,10 @@ offcutsOn b os = sumOf (λ o. onBoard b (o .board) (o .width * o .height)) os
 unfoldable pub wasteBy : Job → Listing → List ℕ → ℕ
 wasteBy job l ks = sumOf (λ k. wasteOf job (itemOf job (cutAt l k)) (plateAt l (cutAt l k .plate))) ks
 
+-- the blade's swath of some cuts (request Four)
+unfoldable pub swathBy : Job → Listing → List ℕ → ℕ
+swathBy job l ks = sumOf (λ k. swathOf job (itemOf job (cutAt l k)) (plateAt l (cutAt l k .plate))) ks
+
 -- the top, or the right, of a cut is kept: it has a number
 abbrev pub keepsTop : Cut → Bool
 keepsTop c = ltb 0 (c .top)
@@ -39,18 +43,18 @@ keepsTop c = ltb 0 (c .top)
 abbrev pub keepsRight : Cut → Bool
 keepsRight c = ltb 0 (c .right)
 
--- what request Two says of a plan's counts, the placements ps of its unfolding, and what its steps do, es
+-- what requests Two and Four say of a plan's counts, the placements ps of its unfolding, and what its steps do, es
 pub record AreaBalance (job : Job) (l : Listing) (counts : List ℕ) (ps : List Placement) (es : List Event) : Type 0 where
   -- the steps place these items, each by a cut of its type and turn, and do each cut as often as it is counted
   pub same-items : placedIn es ≡ ps
   pub cut-items : map (λ k. cutAt l k .item) (cutsIn es) ≡ map (λ p. p .item) ps
   pub cuts-done : (c : ℕ) → occurs (suc c) (cutsIn es) ≡ getD counts c 0
-  -- "for .. every board, item areas, offcuts and waste make W×H"
+  -- "for .. every board, item areas, offcuts and waste make W×H", with the swath of the cuts done on it (request Four)
   pub each-board :
       (b : ℕ)
       → 1 ≤ b
       → b ≤ boards l counts
-      → itemsOn job b ps + offcutsOn b (offcutsIn l es) + wasteBy job l (cutsOn b es) ≡ job .width * job .height
+      → itemsOn job b ps + offcutsOn b (offcutsIn l es) + wasteBy job l (cutsOn b es) + swathBy job l (cutsOn b es) ≡ job .width * job .height
   -- of each residual type as many are left over as arise and are not cut; of boards none
   pub left-over : (j : ℕ) → 1 ≤ j → occurs j (typesOver es) + countOf (onPlate j) (l .cuts) counts ≡ countOf (leavesPlate j) (l .cuts) counts
   pub no-board-over : occurs 0 (typesOver es) ≡ 0

@@ -1,5 +1,5 @@
 -- Demand 3, in its own words, for every job whose listing is not refused: every accepted plan unfolds into layouts that keep the rules, with the offcuts
--- and the area balance of request Two; every set of layouts that keeps the rules folds into an accepted plan; every accepted price list bounds every such
+-- and the area balance of requests Two and Four; every set of layouts that keeps the rules folds into an accepted plan; every accepted price list bounds every such
 -- set. `Demand3` is the whole of it.
 use Prim.Native.Nat.{ℕ, _*_, _-_, _≤_, _<_}
 use mathlib.Core.Path.{_≡_}
@@ -17,7 +17,7 @@ use Rattle.plan.specs.Plan.{countOf, ofItem, ofPosition, boards, total, countsR
 use Rattle.plan.specs.Prices.{pricesOf, priceWords, pricesSized, pricesRow, priceSum, fewest}
 use Rattle.layouts.specs.Layout.{Stack, Strip, Board, widthOf, stackHeight, layoutRules}
 use Rattle.layouts.specs.Placement.{placementWords, linesOf, itemsOfSet, typesOfSet, meetsDemands}
-use Rattle.layouts.specs.Rectangle.{inside, noOverlap}
+use Rattle.layouts.specs.Rectangle.{inside, allApart}
 use Rattle.layouts.specs.Unfold.{Run, unfolded}
 use Rattle.layouts.specs.Lines.{layoutWords, turns, setOf}
 use Rattle.layouts.specs.LayoutsRow.{layoutsRow}
@@ -57,9 +57,9 @@ module _ (job : Job) (l : Listing) where
   pub record UnfoldsTo (counts : List ℕ) (set : List Board) (es : List Event) : Type 0 where
     -- it keeps the rules of the mode, meets every demand and has at most 4,000 pieces
     pub named : Named set
-    -- rectangles inside their boards, no two overlapping
+    -- rectangles inside their boards; any two of a board at least b apart across or at least b apart upwards (request Four), so that none overlap
     pub inside-boards : all (inside job) (linesOf job set) ≡ true
-    pub no-overlap : noOverlap job (linesOf job set) ≡ true
+    pub all-apart : allApart job (linesOf job set) ≡ true
     -- exactly as many boards as the plan opened, none of them empty
     pub as-many : length set ≡ boards l counts
     pub none-empty : all nonEmpty set ≡ true
@@ -72,9 +72,9 @@ module _ (job : Job) (l : Listing) where
     pub in-turn : turns 1 (linesOf job set) ≡ pass
     -- folding it gives back the counts, word for word
     pub back : filled (length counts) (folded job l set) ≡ counts
-    -- request Two: the area balance of every board, what is left over of each type, the number of offcuts
+    -- requests Two and Four: the area balance of every board with the blade's swath, what is left over of each type, the number of offcuts
     pub balance : AreaBalance job l counts (linesOf job set) es
-    -- its offcuts are inside their boards, and none overlaps another or an item
+    -- its offcuts are inside their boards, and at least b apart from each other and from every item
     pub offcuts-lie : OffcutsLie job (linesOf job set) (offcutsIn l es)
 
   -- what the unfolding r of a plan gives, and its steps, es

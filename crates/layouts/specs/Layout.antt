@@ -3,7 +3,7 @@ use Prim.Native.Nat.{ℕ}
 use mathlib.Core.Bool.{Bool, true, false, cond, not, _&&_, _||_}
 use mathlib.Core.List.{List, [], _∷_}
 use lib.Dec.{leb, eqb}
-use Rattle.job.specs.Lists.{any, all, sumOf, maxOf, nonEmpty}
+use Rattle.job.specs.Lists.{any, all, gapSum, maxOf, nonEmpty}
 use Rattle.job.specs.Mode.{three, exact}
 use Rattle.job.specs.Job.{Job, positionAt, permitted}
 
@@ -25,22 +25,23 @@ widthOf job i = positionAt job i .width
 unfoldable pub heightOf : Job → ℕ → ℕ
 heightOf job i = positionAt job i .height
 
--- "a stack's width is its widest item, its height the sum; a strip's height is its highest stack"
+-- "a stack's width is its widest item, its height the sum; a strip's height is its highest stack". Request Four, "Layouts need b between neighbours in
+-- strips, stacks and strip order": the gaps between the items of a stack "count in a stack's height", and so in the strip's; a stack's width has none
 unfoldable pub stackWidth : Job → Stack → ℕ
 stackWidth job s = maxOf (widthOf job) s
 
 unfoldable pub stackHeight : Job → Stack → ℕ
-stackHeight job s = sumOf (heightOf job) s
+stackHeight job s = gapSum (job .blade) (heightOf job) s
 
 unfoldable pub stripHeight : Job → Strip → ℕ
 stripHeight job s = maxOf (stackHeight job) s
 
--- stack widths of a strip, strip heights of a board, added up
+-- stack widths of a strip, strip heights of a board, added up with the gaps between them: these count too "in the sums against W and H" (request Four)
 unfoldable pub stripWidth : Job → Strip → ℕ
-stripWidth job s = sumOf (stackWidth job) s
+stripWidth job s = gapSum (job .blade) (stackWidth job) s
 
 unfoldable pub boardHeight : Job → Board → ℕ
-boardHeight job b = sumOf (stripHeight job) b
+boardHeight job b = gapSum (job .blade) (stripHeight job) b
 
 -- a stack that is one item
 unfoldable pub single : Stack → Bool

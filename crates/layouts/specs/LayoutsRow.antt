@@ -12,7 +12,7 @@ use Rattle.layouts.specs.Layout.{Strip, Board, stripWidth, stripHeight, 
 use Rattle.layouts.specs.Placement.{Placement, itemsOfStrip, itemsOfBoard, linesOf}
 use Rattle.layouts.specs.Lines.{turns, grouped}
 
--- a strip of a set, the number of its first line, and the height of the strips below it
+-- a strip of a set, the number of its first line, and the height of the strips below it, b after each of them (request Four)
 pub record Laid : Type 0 where
   pub line : ℕ
   pub below : ℕ
@@ -25,7 +25,7 @@ laidAt line y s = record { line = line; below = y; strip = s }
 unfoldable pub laidBoard : Job → ℕ → ℕ → Board → List Laid
 laidBoard job line y [] = []
 laidBoard job line y (s ∷ ss) =
-    laidAt line y s ∷ laidBoard job (line + length (itemsOfStrip s)) (y + stripHeight job s) ss
+    laidAt line y s ∷ laidBoard job (line + length (itemsOfStrip s)) (y + stripHeight job s + job .blade) ss
 
 -- the strips of a set that begins at a line
 unfoldable pub laidSet : Job → ℕ → List Board → List Laid

@@ -1,10 +1,9 @@
--- Request Two: where offcuts lie. Each is inside its board, and apart from every other and from every item, by the blade's width.
+-- Requests Two and Four: where offcuts lie. Each is inside its board, and at least b apart from every other and from every item, b the blade's width.
 use Prim.Native.Nat.{ℕ, _+_, _≤_}
 use mathlib.Core.Path.{_≡_}
 use mathlib.Core.Logic.{_⊎_}
 use mathlib.Core.List.{List, [], _∷_}
 use Rattle.job.specs.Job.{Job}
-use Rattle.listing.specs.Waste.{blade}
 use Rattle.layouts.specs.Layout.{widthOf, heightOf}
 use Rattle.layouts.specs.Placement.{Placement}
 use Rattle.layouts.specs.Rules.{Every}
@@ -28,9 +27,9 @@ ApartBy b r s =
     ⊎ ((r .y + r .height + b ≤ s .y)
     ⊎ (s .y + s .height + b ≤ r .y)))
 
--- on different boards, or apart by the blade's width
+-- on different boards, or at least b apart across or upwards, b the blade's width (request Four)
 abbrev pub Clear : Job → Offcut → Offcut → Type 0
-Clear job r s = (r .board ≡ s .board → ⊥) ⊎ ApartBy (blade job) r s
+Clear job r s = (r .board ≡ s .board → ⊥) ⊎ ApartBy (job .blade) r s
 
 -- each entry and every later one
 abbrev pub Pairs : {A : Type 0} → (A → A → Type 0) → List A → Type 0

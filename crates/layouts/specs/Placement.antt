@@ -40,23 +40,24 @@ placementWords ps =
     (λ p. p .turn .board ∷ p .turn .strip ∷ p .turn .stack ∷ p .turn .place ∷ typeOf (p .item) ∷ p .x ∷ p .y ∷ turnOf (p .item) ∷ [])
     ps
 
--- "y the strips below plus the items below it in its stack": the items of a stack from place p on, at x, from y upwards
+-- "y the strips below plus the items below it in its stack", with b after each of them, for "positions move accordingly" (request Four): the items of a
+-- stack from place p on, at x, from y upwards
 unfoldable pub stackLines : Job → ℕ → ℕ → ℕ → ℕ → ℕ → ℕ → Stack → List Placement
 stackLines job b s k p x y [] = []
 stackLines job b s k p x y (i ∷ is) =
-    placementOf b s k p i x y ∷ stackLines job b s k (suc p) x (y + heightOf job i) is
+    placementOf b s k p i x y ∷ stackLines job b s k (suc p) x (y + heightOf job i + job .blade) is
 
--- "x the widths of the stacks before it": the items of a strip from stack k on, at the strip's y, from x rightwards
+-- "x the widths of the stacks before it", with b after each of them: the items of a strip from stack k on, at the strip's y, from x rightwards
 unfoldable pub stripLines : Job → ℕ → ℕ → ℕ → ℕ → ℕ → Strip → List Placement
 stripLines job b s k x y [] = []
 stripLines job b s k x y (stack ∷ stacks) =
-    stackLines job b s k 1 x y stack ++ stripLines job b s (suc k) (x + stackWidth job stack) y stacks
+    stackLines job b s k 1 x y stack ++ stripLines job b s (suc k) (x + stackWidth job stack + job .blade) y stacks
 
 -- the items of a board from strip s on, from y upwards
 unfoldable pub boardLines : Job → ℕ → ℕ → ℕ → Board → List Placement
 boardLines job b s y [] = []
 boardLines job b s y (strip ∷ strips) =
-    stripLines job b s 1 0 y strip ++ boardLines job b (suc s) (y + stripHeight job strip) strips
+    stripLines job b s 1 0 y strip ++ boardLines job b (suc s) (y + stripHeight job strip + job .blade) strips
 
 -- the items of a set from board b on
 unfoldable pub setLines : Job → ℕ → List Board → List Placement

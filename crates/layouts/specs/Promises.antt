@@ -24,8 +24,9 @@ module _ (ws : List ℕ) where
     pub events : List Event
     pub pieces-over : offcuts ≡ filled (length offcuts) (offcutWords first second (offcutsIn (L ws) events))
     pub offcuts-given : left ≡ length (offcutsIn (L ws) events)
-    -- it is the set that an accepted plan unfolds into: inside its boards, with no overlap, as many boards and as often each type as the plan has;
-    -- on each board items, offcuts and waste make W×H, at most 8,000 offcuts lie inside their boards, and none overlaps another or an item
+    -- it is the set that an accepted plan unfolds into: inside its boards, any two rectangles of a board at least b apart across or upwards, as many boards and
+    -- as often each type as the plan has; on each board items, offcuts, waste and the blade's swath make W×H, at most 8,000 offcuts lie inside their boards, at least b
+    -- apart from each other and from every item
     pub unfolds-to : UnfoldsTo (J ws) (L ws) counts set events
 
   -- folding: of the layouts passed in, the counts as they end, and "boards"

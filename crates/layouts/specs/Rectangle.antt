@@ -1,4 +1,4 @@
--- Document 01, "The words of demand 3": rectangles inside their board, and rectangles that do not overlap.
+-- Document 01, "The words of demand 3", and request Four: rectangles inside their board, and rectangles that are at least b apart.
 use Prim.Native.Nat.{ℕ, _+_}
 use mathlib.Core.Bool.{Bool, true, not, _&&_, _||_}
 use mathlib.Core.List.{List, [], _∷_}
@@ -19,19 +19,20 @@ endY job p = p .y + heightOf job (p .item)
 unfoldable pub inside : Job → Placement → Bool
 inside job p = leb (endX job p) (job .width) && leb (endY job p) (job .height)
 
--- "two on one board do not overlap if one ends where or before the other begins, across or upwards"
+-- "any two rectangles of a board are at least b apart across or at least b apart upwards" (request Four): one ends b or more before the other begins. For b of 0
+-- it is document 01's "two on one board do not overlap if one ends where or before the other begins, across or upwards"
 unfoldable pub apart : Job → Placement → Placement → Bool
 apart job p q =
-    leb (endX job p) (q .x)
-    || leb (endX job q) (p .x)
-    || leb (endY job p) (q .y)
-    || leb (endY job q) (p .y)
+    leb (endX job p + job .blade) (q .x)
+    || leb (endX job q + job .blade) (p .x)
+    || leb (endY job p + job .blade) (q .y)
+    || leb (endY job q + job .blade) (p .y)
 
--- two on different boards never overlap
+-- of two on different boards nothing is asked
 unfoldable pub clear : Job → Placement → Placement → Bool
 clear job p q = not (eqb (p .turn .board) (q .turn .board)) || apart job p q
 
--- no two rectangles of a list overlap
-unfoldable pub noOverlap : Job → List Placement → Bool
-noOverlap job [] = true
-noOverlap job (p ∷ ps) = all (clear job p) ps && noOverlap job ps
+-- any two rectangles of a list are apart, where they are of one board
+unfoldable pub allApart : Job → List Placement → Bool
+allApart job [] = true
+allApart job (p ∷ ps) = all (clear job p) ps && allApart job ps

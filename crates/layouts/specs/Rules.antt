@@ -1,5 +1,5 @@
 -- Document 01, "Layouts and folding", first paragraph, and "The words of demand 3", in plain statements: what the tests `boardRules`,
--- `meetsDemands`, `inside` and `noOverlap` decide.
+-- `meetsDemands`, `inside` and `allApart` decide.
 use Prim.Native.Nat.{ℕ, _+_, _≤_, _<_}
 use mathlib.Core.Path.{_≡_}
 use mathlib.Core.Logic.{_⊎_}
@@ -49,7 +49,8 @@ pub record Staged (job : Job) (s : Strip) : Type 0 where
   pub full : three (job .mode) ≡ true → Some (λ k. Single k × (stackHeight job k ≡ stripHeight job s)) s
   pub even : three (job .mode) ≡ true → exact (job .mode) ≡ true → Every (Alike (widthOf job)) s
 
--- a strip that keeps the rules: nothing in it is empty, its items are of the job in permitted positions, and "stack widths of a strip add up to at most W"
+-- a strip that keeps the rules: nothing in it is empty, its items are of the job in permitted positions, and "stack widths of a strip add up to at most W", with the
+-- gaps between them (request Four)
 pub record StripOk (job : Job) (s : Strip) : Type 0 where
   pub filled : Filled s
   pub stacks : Every Filled s
@@ -57,7 +58,7 @@ pub record StripOk (job : Job) (s : Strip) : Type 0 where
   pub staged : Staged job s
   pub across : stripWidth job s ≤ job .width
 
--- a board that keeps the rules: "strip heights [add up] to at most H"
+-- a board that keeps the rules: "strip heights [add up] to at most H", with the gaps between them (request Four)
 pub record BoardOk (job : Job) (b : Board) : Type 0 where
   pub filled : Filled b
   pub strips : Every (StripOk job) b
@@ -75,17 +76,17 @@ MeetsDemands job bs = (i : ℕ) → 1 ≤ i → i ≤ length (job .items) → it
 abbrev pub Inside : Job → Placement → Type 0
 Inside job p = (p .x + widthOf job (p .item) ≤ job .width) × (p .y + heightOf job (p .item) ≤ job .height)
 
--- "two on one board do not overlap if one ends where or before the other begins, across or upwards"
+-- "any two rectangles of a board are at least b apart across or at least b apart upwards" (request Four)
 abbrev pub Apart : Job → Placement → Placement → Type 0
 Apart job p q =
-    (p .x + widthOf job (p .item) ≤ q .x)
-    ⊎ (q .x + widthOf job (q .item) ≤ p .x)
-    ⊎ (p .y + heightOf job (p .item) ≤ q .y)
-    ⊎ (q .y + heightOf job (q .item) ≤ p .y)
+    (p .x + widthOf job (p .item) + job .blade ≤ q .x)
+    ⊎ (q .x + widthOf job (q .item) + job .blade ≤ p .x)
+    ⊎ (p .y + heightOf job (p .item) + job .blade ≤ q .y)
+    ⊎ (q .y + heightOf job (q .item) + job .blade ≤ p .y)
 
--- any two placements of one board do not overlap; j and k are their places in the list, from 0
-abbrev pub NoOverlap : Job → List Placement → Type 0
-NoOverlap job ps =
+-- any two placements of one board are apart; j and k are their places in the list, from 0
+abbrev pub AllApart : Job → List Placement → Type 0
+AllApart job ps =
     (j k : ℕ)
     → j < k
     → k < length ps

@@ -105,7 +105,8 @@ pub data Step : Type 0 where
   leftOver : Piece → State → Step
   idle : Step
 
--- cut k on the piece taken: "the item lies in the piece's lower left corner", "top directly above the item, right directly beside it"
+-- cut k on the piece taken: "the item lies in the piece's lower left corner", "top directly above the item, right directly beside it", each past the
+-- blade, for "positions move accordingly" (request Four)
 unfoldable pub done : Job → Listing → State → Taken → ℕ → Step
 done job l st t k =
     let c = cutAt l k in
@@ -116,7 +117,7 @@ done job l st t k =
     placed (record { turn = here; item = c .item; x = x; y = y })
     (record {
       counts = spent (st .counts) k;
-      waiting = wait l (c .top) x (y + item .height) (wait l (c .right) (x + item .width) y (t .rest));
+      waiting = wait l (c .top) x (y + item .height + job .blade) (wait l (c .right) (x + item .width + job .blade) y (t .rest));
       turn = here;
     })
 

@@ -245,13 +245,13 @@ module _ (job : Job) where
       let e : length (itemsOfStrip s) + 0 ≡ length (itemsOfStrip s) = omega arith in
       rw (board-items s [], no-items, e) (ap (λ (l : List Laid). laidAt line y s ∷ l) (laid-from-none (line + length (itemsOfStrip s)) bs))
 
-  laid-beside : (line y : ℕ) (s : Strip) (b : Board) (bs : List Board) → laidFrom job line y ((s ∷ b) ∷ bs) ≡ laidAt line y s ∷ laidFrom job (line + length (itemsOfStrip s)) (y + stripHeight job s) (b ∷ bs)
+  laid-beside : (line y : ℕ) (s : Strip) (b : Board) (bs : List Board) → laidFrom job line y ((s ∷ b) ∷ bs) ≡ laidAt line y s ∷ laidFrom job (line + length (itemsOfStrip s)) (y + stripHeight job s + job .blade) (b ∷ bs)
   unfolding laidBoard
   laid-beside line y s b bs =
       let e : line + (length (itemsOfStrip s) + length (itemsOfBoard b)) ≡ line + length (itemsOfStrip s) + length (itemsOfBoard b) = omega arith in
       rw (board-items s b, e)
 
-  laid-over : (o : Option Level) (line y : ℕ) (s : Strip) (bs : List Board) → laidFrom job line y (over o s bs) ≡ laidAt line y s ∷ laidFrom job (line + length (itemsOfStrip s)) (belowNext o (y + stripHeight job s)) bs
+  laid-over : (o : Option Level) (line y : ℕ) (s : Strip) (bs : List Board) → laidFrom job line y (over o s bs) ≡ laidAt line y s ∷ laidFrom job (line + length (itemsOfStrip s)) (belowNext o (y + stripHeight job s + job .blade)) bs
   laid-over o line y s [] = laid-alone line y s []
   laid-over none line y s (b ∷ bs) = laid-alone line y s (b ∷ bs)
   laid-over (some stack) line y s (b ∷ bs) = laid-alone line y s (b ∷ bs)
@@ -264,7 +264,7 @@ module _ (job : Job) where
       → stripOf (r ∷ rs) ≡ s
       → begun (behindStrip s (r ∷ rs)) ≡ o
       → laidFrom job line y (grouped (r ∷ rs))
-      ≡ laidAt line y s ∷ laidFrom job (line + length (itemsOfStrip s)) (belowNext o (y + stripHeight job s)) (grouped (behindStrip s (r ∷ rs)))
+      ≡ laidAt line y s ∷ laidFrom job (line + length (itemsOfStrip s)) (belowNext o (y + stripHeight job s + job .blade)) (grouped (behindStrip s (r ∷ rs)))
   laid-strips line y r rs {s} {o} a b =
       let f = strip-first r rs in
       let after = behindStrip (f .first) (r ∷ rs) in

@@ -10,6 +10,7 @@ use lib.Dec.{ltb}
 use lib.ListN.{length, drop}
 use lib.Seq.{drop-drop}
 use Rattle.job.specs.Sizes.{wordsOfPlacement}
+use Rattle.job.specs.Lists.{gapSum}
 use Rattle.job.specs.Verdict.{Verdict, pass, refuse}
 use Rattle.job.specs.Job.{Job}
 use Rattle.job.proofs.Tests.{not-both}
@@ -67,7 +68,7 @@ module _ (job : Job) where
       (line y : ℕ) (rs : List Placement) (r : Placement) (rs′ : List Placement)
       → rs ≡ r ∷ rs′
       → laidFrom job line y (grouped rs)
-      ≡ laidAt line y (stripOf rs) ∷ laidFrom job (line + length (itemsOfStrip (stripOf rs))) (belowNext (begun (behindStrip (stripOf rs) rs)) (y + stripHeight job (stripOf rs))) (grouped (behindStrip (stripOf rs) rs))
+      ≡ laidAt line y (stripOf rs) ∷ laidFrom job (line + length (itemsOfStrip (stripOf rs))) (belowNext (begun (behindStrip (stripOf rs) rs)) (y + stripHeight job (stripOf rs) + job .blade)) (grouped (behindStrip (stripOf rs) rs))
   laid-of line y rs r rs′ q = rw q (laid-strips job line y r rs′ refl refl)
 
   module _ (ws : List ℕ) (number : ℕ) (bad : Laid → Bool) (k : ℕ) where
@@ -81,7 +82,7 @@ module _ (job : Job) where
       row-end h = sym (w ∙ rw (rows-end ws n a l h, no-lines) (strip-none number bad))
 
       module _ {x : StripMeasure} (h : a < n) (s : StripIs job a (stripOf (drop a (rowsOf ws))) x) where
-        laid-line : laidFrom job (k + a) y (grouped (drop a (rowsOf ws))) ≡ laidAt (k + a) y (stripOf (drop a (rowsOf ws))) ∷ laidFrom job (k + x .end) (belowNext (begun (drop (x .end) (rowsOf ws))) (y + x .height)) (grouped (drop (x .end) (rowsOf ws)))
+        laid-line : laidFrom job (k + a) y (grouped (drop a (rowsOf ws))) ≡ laidAt (k + a) y (stripOf (drop a (rowsOf ws))) ∷ laidFrom job (k + x .end) (belowNext (begun (drop (x .end) (rowsOf ws))) (y + x .height + job .blade)) (grouped (drop (x .end) (rowsOf ws)))
         laid-line =
             let e : k + (a + length (itemsOfStrip (stripOf (drop a (rowsOf ws))))) ≡ k + a + length (itemsOfStrip (stripOf (drop a (rowsOf ws)))) = omega arith in
             rw (s .ended, s .high, e, ← drop-drop (length (itemsOfStrip (stripOf (drop a (rowsOf ws))))) a (rowsOf ws))
@@ -91,7 +92,7 @@ module _ (job : Job) where
         pub row-found : bad (laidAt (k + a) y (stripOf (drop a (rowsOf ws)))) ≡ true → refuse number (k + a) ≡ whole
         row-found t = sym (w ∙ ap (lowestStrip number bad) laid-line ∙ strip-here number bad (laidAt (k + a) y (stripOf (drop a (rowsOf ws)))) _ t)
 
-        pub row-next : bad (laidAt (k + a) y (stripOf (drop a (rowsOf ws)))) ≡ false → whole ≡ lowestStrip number bad (laidFrom job (k + x .end) (belowNext (begun (drop (x .end) (rowsOf ws))) (y + x .height)) (grouped (drop (x .end) (rowsOf ws))))
+        pub row-next : bad (laidAt (k + a) y (stripOf (drop a (rowsOf ws)))) ≡ false → whole ≡ lowestStrip number bad (laidFrom job (k + x .end) (belowNext (begun (drop (x .end) (rowsOf ws))) (y + x .height + job .blade)) (grouped (drop (x .end) (rowsOf ws))))
         row-next t = w ∙ ap (lowestStrip number bad) laid-line ∙ strip-after number bad (laidAt (k + a) y (stripOf (drop a (rowsOf ws)))) _ t
 
   -- the height below, as the code keeps it
@@ -104,18 +105,20 @@ module _ (job : Job) where
   breaks line y s e f = ap not (sym e ∙ f)
 
 -- 17, as the code decides it, with the board's sides at hand
-module _ (job : Job) (line y a : ℕ) (s : Strip) {x : StripMeasure} {w h : ℕ} (m : StripIs job a s x) (across : w ≡ job .width) (up : h ≡ job .height) where
-  pub past-wide : w < x .width → pastBoard job (laidAt line y s) ≡ true
-  unfolding pastBoard
+module _ (job : Job) (line y a : ℕ) (s : Strip) {x : StripMeasure} {w h b : ℕ} (m : StripIs job a s x) (across : w ≡ job .width) (up : h ≡ job .height) (gap : b ≡ job .blade) where
+  -- one gap after each stack is one more than between them
+  pub past-wide : w + b < x .across → pastBoard job (laidAt line y s) ≡ true
+  unfolding pastBoard stripWidth gapSum
   past-wide p = rw (lt-ltb (job .width) (stripWidth job s) (omega arith))
 
-  not-wide : x .width ≤ w → ltb (job .width) (stripWidth job s) ≡ false
+  not-wide : x .across ≤ w + b → ltb (job .width) (stripWidth job s) ≡ false
+  unfolding stripWidth gapSum
   not-wide p = le-ltb (job .width) (stripWidth job s) (omega arith)
 
-  pub past-high : x .width ≤ w → h < y + x .height → pastBoard job (laidAt line y s) ≡ true
+  pub past-high : x .across ≤ w + b → h < y + x .height → pastBoard job (laidAt line y s) ≡ true
   unfolding pastBoard
   past-high p q = rw (not-wide p, lt-ltb (job .height) (y + stripHeight job s) (omega arith))
 
-  pub past-not : x .width ≤ w → y + x .height ≤ h → pastBoard job (laidAt line y s) ≡ false
+  pub past-not : x .across ≤ w + b → y + x .height ≤ h → pastBoard job (laidAt line y s) ≡ false
   unfolding pastBoard
   past-not p q = rw (not-wide p, le-ltb (job .height) (y + stripHeight job s) (omega arith))

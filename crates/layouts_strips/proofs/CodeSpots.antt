@@ -1,6 +1,6 @@
--- Position positions line by line: they are those of the lines of the set that the lines make.
+-- Item positions line by line: they are those of the lines of the set that the lines make.
 use mathlib.Core.Path.{_≡_, refl, sym, ap, _∙_}
-use Prim.Native.Nat.{ℕ, suc, _+_, _*_, _≤_, _<_, max}
+use Prim.Native.Nat.{ℕ, suc, _+_, _-_, _*_, _≤_, _<_, max}
 use mathlib.Core.Bool.{true, false, _&&_}
 use mathlib.Core.List.{List, [], _∷_, _++_}
 use mathlib.Core.Option.{Option, none, some}
@@ -10,7 +10,7 @@ use lib.Dec.{eqb}
 use lib.ListN.{length, drop}
 use Rattle.job.specs.Sizes.{wordsOfPlacement}
 use Rattle.job.specs.declared.item.Position.{Position}
-use Rattle.job.specs.Lists.{sumOf, maxOf}
+use Rattle.job.specs.Lists.{sumOf, gapsAfter, gapSum, maxOf}
 use Rattle.job.specs.Verdict.{Verdict, pass, refuse}
 use Rattle.job.specs.Job.{Job, positionAt}
 use Rattle.layouts.specs.Layout.{Stack, Strip, Board, widthOf, heightOf, stackWidth, stackHeight, stripHeight}
@@ -21,7 +21,7 @@ use Rattle.placement.specs.PlacementRead.{placementAt}
 use Rattle.placement.proofs.Rows.{rows-from, rows-end}
 use Rattle.layouts.proofs.row.Grouping.{grouped-on, grouped-new}
 use Rattle.layouts_strips.specs.declared.spot.Spot.{Spot}
-use Rattle.layouts_strips.specs.Measures.{maxWord}
+use Rattle.layouts_strips.specs.Measures.{maxWord, maxStep}
 use Rattle.layouts_strips.specs.Spots.{spot, putOn, movedTo, SpotSmall}
 
 -- the turn of the next line
@@ -36,8 +36,8 @@ module _ (job : Job) where
   abbrev rest : Turn → Spot → Stack → Strip → Board → List Board → List Placement
   rest t s k ks ss bs =
       stackLines job (t .board) (t .strip) (t .stack) (t .place) (s .x) (s .y) k
-      ++ stripLines job (t .board) (t .strip) (suc (t .stack)) (s .x + max (s .width) (stackWidth job k)) (s .base) ks
-      ++ boardLines job (t .board) (suc (t .strip)) (max (s .top) (max (s .y + stackHeight job k) (s .base + stripHeight job ks))) ss
+      ++ stripLines job (t .board) (t .strip) (suc (t .stack)) (s .x + max (s .width) (stackWidth job k) + job .blade) (s .base) ks
+      ++ boardLines job (t .board) (suc (t .strip)) (max (s .above) (max (s .y + gapsAfter (job .blade) (heightOf job) k) (s .base + stripHeight job ks + job .blade))) ss
       ++ setLines job (suc (t .board)) bs
 
   abbrev linesFrom : Turn → Spot → List Board → List Placement
@@ -52,19 +52,21 @@ module _ (job : Job) where
   -- the further lines of a stack that an item lies in
   same-rest :
       (t : Turn) (i : ℕ) (s : Spot) (k : Stack) (ks : Strip) (ss : Board) (bs : List Board)
-      → rest t s (i ∷ k) ks ss bs ≡ lineOn t i s ∷ rest (nextTurn none t) (putOn s (positionAt job i)) k ks ss bs
-  unfolding stackLines stackWidth stackHeight maxOf sumOf widthOf heightOf
+      → rest t s (i ∷ k) ks ss bs ≡ lineOn t i s ∷ rest (nextTurn none t) (putOn (job .blade) s (positionAt job i)) k ks ss bs
+  unfolding stackLines stackWidth maxOf sumOf widthOf heightOf
   same-rest t i s k ks ss bs =
       let w = positionAt job i .width in
       let h = positionAt job i .height in
+      let g = job .blade in
+      let hs = gapsAfter g (heightOf job) k in
       let a : max (s .width) (max w (maxOf (widthOf job) k)) ≡ max (max (s .width) w) (maxOf (widthOf job) k) = omega arith in
-      let b : max (s .top) (max (s .y + (h + sumOf (heightOf job) k)) (s .base + stripHeight job ks)) ≡ max (max (s .top) (s .y + h)) (max (s .y + h + sumOf (heightOf job) k) (s .base + stripHeight job ks)) = omega arith in
+      let b : max (s .above) (max (s .y + (h + g + hs)) (s .base + stripHeight job ks + g)) ≡ max (max (s .above) (s .y + h + g)) (max (s .y + h + g + hs) (s .base + stripHeight job ks + g)) = omega arith in
       rw (a, b)
 
   -- where the lines after an item go on with its stack
   lines-place :
       (t : Turn) (i : ℕ) (s : Spot) (bs : List Board)
-      → linesFrom t s (inSet i bs) ≡ lineOn t i s ∷ linesFrom (nextTurn none t) (putOn s (positionAt job i)) bs
+      → linesFrom t s (inSet i bs) ≡ lineOn t i s ∷ linesFrom (nextTurn none t) (putOn (job .blade) s (positionAt job i)) bs
   unfolding inSet inBoard inStrip
   lines-place t i s [] = same-rest t i s [] [] [] []
   lines-place t i s ([] ∷ bs) = same-rest t i s [] [] [] bs
@@ -73,27 +75,30 @@ module _ (job : Job) where
 
   -- the lines of a strip from a stack on, of a board from a strip on, of a set
   from-stack :
-      (b s k x y top : ℕ) (ks : Strip) (ss : Board) (bs : List Board)
-      → stripLines job b s (suc k) x y ks ++ boardLines job b (suc s) (max top (y + stripHeight job ks)) ss ++ setLines job (suc b) bs
-      ≡ linesFrom (turn b s (suc k) 1) (spot x y y 0 top) ((ks ∷ ss) ∷ bs)
-  unfolding stripLines stackLines stackHeight stripHeight stackWidth maxOf sumOf
-  from-stack b s k x y top [] ss bs =
-      let e : max top (max (y + 0) (y + 0)) ≡ max top (y + 0) = omega arith in
+      (b s k x y above : ℕ) (ks : Strip) (ss : Board) (bs : List Board)
+      → stripLines job b s (suc k) x y ks ++ boardLines job b (suc s) (max above (y + stripHeight job ks + job .blade)) ss ++ setLines job (suc b) bs
+      ≡ linesFrom (turn b s (suc k) 1) (spot x y y 0 above) ((ks ∷ ss) ∷ bs)
+  unfolding stripLines stackLines stackHeight stripHeight stackWidth maxOf sumOf gapSum
+  from-stack b s k x y above [] ss bs =
+      let g = job .blade in
+      let e : max above (max (y + 0) (y + 0 + g)) ≡ max above (y + 0 + g) = omega arith in
       rw e
-  from-stack b s k x y top (l ∷ ls) ss bs =
+  from-stack b s k x y above (l ∷ ls) ss bs =
+      let g = job .blade in
+      let hs = gapsAfter g (heightOf job) l in
       let a : x + max 0 (stackWidth job l) ≡ x + stackWidth job l = omega arith in
-      let h : max top (max (y + stackHeight job l) (y + maxOf (stackHeight job) ls)) ≡ max top (y + max (stackHeight job l) (maxOf (stackHeight job) ls)) = omega arith in
+      let h : max above (max (y + hs) (y + maxOf (stackHeight job) ls + g)) ≡ max above (y + max (hs - g) (maxOf (stackHeight job) ls) + g) = omega arith in
       rw (a, h)
 
   from-strip :
-      (b s top : ℕ) (ss : Board) (bs : List Board)
-      → boardLines job b (suc s) top ss ++ setLines job (suc b) bs ≡ linesFrom (turn b (suc s) 1 1) (spot 0 top top 0 top) (ss ∷ bs)
+      (b s base : ℕ) (ss : Board) (bs : List Board)
+      → boardLines job b (suc s) base ss ++ setLines job (suc b) bs ≡ linesFrom (turn b (suc s) 1 1) (spot 0 base base 0 base) (ss ∷ bs)
   unfolding boardLines stripLines stackLines
-  from-strip b s top [] bs = refl
-  from-strip b s top (ks ∷ ss) bs =
-      let e : top + stripHeight job ks ≡ max top (top + stripHeight job ks) = omega arith in
-      ap (λ (y : ℕ). stripLines job b (suc s) 1 0 top ks ++ boardLines job b (suc (suc s)) y ss ++ setLines job (suc b) bs) e
-      ∙ from-stack b (suc s) 0 0 top top ks ss bs
+  from-strip b s base [] bs = refl
+  from-strip b s base (ks ∷ ss) bs =
+      let e : base + stripHeight job ks + job .blade ≡ max base (base + stripHeight job ks + job .blade) = omega arith in
+      ap (λ (y : ℕ). stripLines job b (suc s) 1 0 base ks ++ boardLines job b (suc (suc s)) y ss ++ setLines job (suc b) bs) e
+      ∙ from-stack b (suc s) 0 0 base base ks ss bs
 
   from-board : (b : ℕ) (bs : List Board) → setLines job (suc b) bs ≡ linesFrom (turn (suc b) 1 1 1) (spot 0 0 0 0 0) bs
   unfolding setLines boardLines stripLines stackLines
@@ -103,46 +108,47 @@ module _ (job : Job) where
   -- a stack that has ended
   stack-opened :
       (t : Turn) (p : Spot) (ks : Strip) (ss : Board) (bs : List Board)
-      → p .y ≤ p .top
-      → rest (nextTurn none t) p [] ks ss bs ≡ linesFrom (nextTurn (some stack) t) (movedTo (some stack) p) ((ks ∷ ss) ∷ bs)
-  unfolding stackLines stackWidth stackHeight maxOf sumOf
+      → p .y ≤ p .above
+      → rest (nextTurn none t) p [] ks ss bs ≡ linesFrom (nextTurn (some stack) t) (movedTo (job .blade) (some stack) p) ((ks ∷ ss) ∷ bs)
+  unfolding stackLines stackWidth maxOf sumOf
   stack-opened t p ks ss bs h =
+      let g = job .blade in
       let a : p .x + max (p .width) 0 ≡ p .x + p .width = omega arith in
-      let e : max (p .top) (max (p .y + 0) (p .base + stripHeight job ks)) ≡ max (p .top) (p .base + stripHeight job ks) = omega arith in
-      rw (a, e) (from-stack (t .board) (t .strip) (t .stack) (p .x + p .width) (p .base) (p .top) ks ss bs)
+      let e : max (p .above) (max (p .y + 0) (p .base + stripHeight job ks + g)) ≡ max (p .above) (p .base + stripHeight job ks + g) = omega arith in
+      rw (a, e) (from-stack (t .board) (t .strip) (t .stack) (p .x + p .width + g) (p .base) (p .above) ks ss bs)
 
   -- a strip that has ended
   strip-opened :
       (t : Turn) (p : Spot) (ss : Board) (bs : List Board)
-      → p .y ≤ p .top
-      → p .base ≤ p .top
-      → rest (nextTurn none t) p [] [] ss bs ≡ linesFrom (nextTurn (some strip) t) (movedTo (some strip) p) (ss ∷ bs)
-  unfolding stackLines stripLines stackHeight stripHeight maxOf sumOf
+      → p .y ≤ p .above
+      → p .base + job .blade ≤ p .above
+      → rest (nextTurn none t) p [] [] ss bs ≡ linesFrom (nextTurn (some strip) t) (movedTo (job .blade) (some strip) p) (ss ∷ bs)
+  unfolding stackLines stripLines stripHeight maxOf sumOf
   strip-opened t p ss bs h l =
-      let e : max (p .top) (max (p .y + 0) (p .base + 0)) ≡ p .top = omega arith in
-      rw e (from-strip (t .board) (t .strip) (p .top) ss bs)
+      let e : max (p .above) (max (p .y + 0) (p .base + 0 + job .blade)) ≡ p .above = omega arith in
+      rw e (from-strip (t .board) (t .strip) (p .above) ss bs)
 
   -- where they begin a stack, a strip, a board
   lines-stack :
       (t : Turn) (i : ℕ) (s : Spot) (bs : List Board)
-      → linesFrom t s (before stack (i ∷ []) bs) ≡ lineOn t i s ∷ linesFrom (nextTurn (some stack) t) (movedTo (some stack) (putOn s (positionAt job i))) bs
+      → linesFrom t s (before stack (i ∷ []) bs) ≡ lineOn t i s ∷ linesFrom (nextTurn (some stack) t) (movedTo (job .blade) (some stack) (putOn (job .blade) s (positionAt job i))) bs
   unfolding before beside stackLines stripLines boardLines setLines
   lines-stack t i s [] = refl
   lines-stack t i s ([] ∷ bs) = refl
-  lines-stack t i s ((ks ∷ ss) ∷ bs) = same-rest t i s [] ks ss bs ∙ ap (λ (l : List Placement). lineOn t i s ∷ l) (stack-opened t (putOn s (positionAt job i)) ks ss bs (omega arith))
+  lines-stack t i s ((ks ∷ ss) ∷ bs) = same-rest t i s [] ks ss bs ∙ ap (λ (l : List Placement). lineOn t i s ∷ l) (stack-opened t (putOn (job .blade) s (positionAt job i)) ks ss bs (omega arith))
 
   lines-strip :
       (t : Turn) (i : ℕ) (s : Spot) (bs : List Board)
-      → s .base ≤ s .top
-      → linesFrom t s (before strip (i ∷ []) bs) ≡ lineOn t i s ∷ linesFrom (nextTurn (some strip) t) (movedTo (some strip) (putOn s (positionAt job i))) bs
+      → s .base ≤ s .y
+      → linesFrom t s (before strip (i ∷ []) bs) ≡ lineOn t i s ∷ linesFrom (nextTurn (some strip) t) (movedTo (job .blade) (some strip) (putOn (job .blade) s (positionAt job i))) bs
   unfolding before stackLines stripLines boardLines setLines
   lines-strip t i s [] h = refl
   lines-strip t i s (ss ∷ bs) h =
-      same-rest t i s [] [] ss bs ∙ ap (λ (l : List Placement). lineOn t i s ∷ l) (strip-opened t (putOn s (positionAt job i)) ss bs (omega arith) (omega arith))
+      same-rest t i s [] [] ss bs ∙ ap (λ (l : List Placement). lineOn t i s ∷ l) (strip-opened t (putOn (job .blade) s (positionAt job i)) ss bs (omega arith) (omega arith))
 
   lines-board :
       (t : Turn) (i : ℕ) (s : Spot) (bs : List Board)
-      → linesFrom t s (before board (i ∷ []) bs) ≡ lineOn t i s ∷ linesFrom (nextTurn (some board) t) (movedTo (some board) (putOn s (positionAt job i))) bs
+      → linesFrom t s (before board (i ∷ []) bs) ≡ lineOn t i s ∷ linesFrom (nextTurn (some board) t) (movedTo (job .blade) (some board) (putOn (job .blade) s (positionAt job i))) bs
   unfolding before stackLines stripLines boardLines setLines
   lines-board t i s [] = refl
   lines-board t i s (b ∷ bs) = ap (λ (l : List Placement). lineOn t i s ∷ l) (from-board (t .board) (b ∷ bs))
@@ -150,12 +156,12 @@ module _ (job : Job) where
   -- a line before the lines that are left, by what these begin
   lines-step :
       (t : Turn) (s : Spot) (r : Placement) (rs : List Placement)
-      → s .base ≤ s .top
-      → linesFrom t s (grouped (r ∷ rs)) ≡ lineOn t (r .item) s ∷ linesFrom (nextTurn (begun rs) t) (movedTo (begun rs) (putOn s (positionAt job (r .item)))) (grouped rs)
+      → s .base ≤ s .y
+      → linesFrom t s (grouped (r ∷ rs)) ≡ lineOn t (r .item) s ∷ linesFrom (nextTurn (begun rs) t) (movedTo (job .blade) (begun rs) (putOn (job .blade) s (positionAt job (r .item)))) (grouped rs)
   lines-step t s r rs h = go (begun rs) refl
     where
       go : (o : Option Level) → begun rs ≡ o
-          → linesFrom t s (grouped (r ∷ rs)) ≡ lineOn t (r .item) s ∷ linesFrom (nextTurn o t) (movedTo o (putOn s (positionAt job (r .item)))) (grouped rs)
+          → linesFrom t s (grouped (r ∷ rs)) ≡ lineOn t (r .item) s ∷ linesFrom (nextTurn o t) (movedTo (job .blade) o (putOn (job .blade) s (positionAt job (r .item)))) (grouped rs)
       go none e = ap (linesFrom t s) (grouped-on r rs e) ∙ lines-place t (r .item) s (grouped rs)
       go (some stack) e = ap (linesFrom t s) (grouped-new r rs stack e) ∙ lines-stack t (r .item) s (grouped rs)
       go (some strip) e = ap (linesFrom t s) (grouped-new r rs strip e) ∙ lines-strip t (r .item) s (grouped rs) h
@@ -167,23 +173,23 @@ module _ (job : Job) where
   spotted k s (r ∷ rs) =
       elim (eqb (r .x) (s .x) && eqb (r .y) (s .y)) [
         | false ↦ refuse 18 k
-        | true ↦ spotted (suc k) (movedTo (begun rs) (putOn s (positionAt job (r .item)))) rs
+        | true ↦ spotted (suc k) (movedTo (job .blade) (begun rs) (putOn (job .blade) s (positionAt job (r .item)))) rs
       ]
 
-  based : (o : Option Level) (s : Spot) → s .base ≤ s .top → movedTo o s .base ≤ movedTo o s .top
+  based : (o : Option Level) (s : Spot) → s .base ≤ s .y → movedTo (job .blade) o s .base ≤ movedTo (job .blade) o s .y
   based none s h = h
-  based (some stack) s h = h
+  based (some stack) s h = omega arith
   based (some strip) s h = omega arith
   based (some board) s h = omega arith
 
-  spotted-lines : (k : ℕ) (t : Turn) (s : Spot) (rs : List Placement) → s .base ≤ s .top → positioned k rs (linesFrom t s (grouped rs)) ≡ spotted k s rs
+  spotted-lines : (k : ℕ) (t : Turn) (s : Spot) (rs : List Placement) → s .base ≤ s .y → positioned k rs (linesFrom t s (grouped rs)) ≡ spotted k s rs
   unfolding positioned spotted
   spotted-lines k t s [] h = refl
   spotted-lines k t s (r ∷ rs) h =
-      let next = movedTo (begun rs) (putOn s (positionAt job (r .item))) in
+      let next = movedTo (job .blade) (begun rs) (putOn (job .blade) s (positionAt job (r .item))) in
       ap (positioned k (r ∷ rs)) (lines-step t s r rs h)
       ∙ ap (λ (v : Verdict). elim (eqb (r .x) (s .x) && eqb (r .y) (s .y)) as (λ _. Verdict) [ false ↦ refuse 18 k | true ↦ v ])
-      (spotted-lines (suc k) (nextTurn (begun rs) t) next rs (based (begun rs) (putOn s (positionAt job (r .item))) (omega arith)))
+      (spotted-lines (suc k) (nextTurn (begun rs) t) next rs (based (begun rs) (putOn (job .blade) s (positionAt job (r .item))) (omega arith)))
 
   -- from the first line on
   spotted-whole : (k : ℕ) (rs : List Placement) → positioned k rs (linesOf job (grouped rs)) ≡ spotted k (spot 0 0 0 0 0) rs
@@ -202,7 +208,7 @@ module _ (job : Job) where
     unfolding spotted
     spotted-y e h = rw (eq-eqb (r .x) (s .x) e, ne-eqb (r .y) (s .y) h, spotted)
 
-    spotted-on : r .x ≡ s .x → r .y ≡ s .y → spotted k s (r ∷ rs) ≡ spotted (suc k) (movedTo (begun rs) (putOn s (positionAt job (r .item)))) rs
+    spotted-on : r .x ≡ s .x → r .y ≡ s .y → spotted k s (r ∷ rs) ≡ spotted (suc k) (movedTo (job .blade) (begun rs) (putOn (job .blade) s (positionAt job (r .item)))) rs
     unfolding spotted
     spotted-on e h = rw (eq-eqb (r .x) (s .x) e, eq-eqb (r .y) (s .y) h, spotted)
 
@@ -222,24 +228,25 @@ module _ (job : Job) where
       pub off-up : r .x ≡ s .x → (r .y ≡ s .y → ⊥) → refuse 18 (k + c) ≡ whole
       off-up e d = sym (at-line ∙ spotted-y (k + c) s r (drop (c + 1) (rowsOf ws)) e d)
 
-      pub spots-next : r .x ≡ s .x → r .y ≡ s .y → {s′ : Spot} → s′ ≡ movedTo (begun (drop (c + 1) (rowsOf ws))) (putOn s (positionAt job (placementAt ws c .item))) → whole ≡ spotted (k + (c + 1)) s′ (drop (c + 1) (rowsOf ws))
+      pub spots-next : r .x ≡ s .x → r .y ≡ s .y → {s′ : Spot} → s′ ≡ movedTo (job .blade) (begun (drop (c + 1) (rowsOf ws))) (putOn (job .blade) s (positionAt job (placementAt ws c .item))) → whole ≡ spotted (k + (c + 1)) s′ (drop (c + 1) (rowsOf ws))
       spots-next a b e =
           let q : k + (c + 1) ≡ suc (k + c) = omega arith in
           at-line ∙ spotted-on (k + c) s r (drop (c + 1) (rowsOf ws)) a b ∙ rw (q, e, read)
 
 -- the spot of the next line, as the code makes it
-pub spot-said : (b : Option Level) {o : Option Level} (s : Spot) {p r : Spot} {it it′ : Position} → r ≡ movedTo b p → b ≡ o → p ≡ putOn s it → it ≡ it′ → r ≡ movedTo o (putOn s it′)
-spot-said b s e f g h = rw (← f, ← h, ← g) e
+pub spot-said : (b : Option Level) {o : Option Level} (s : Spot) {p r : Spot} {it it′ : Position} {g g′ : ℕ} → r ≡ movedTo g b p → b ≡ o → p ≡ putOn g s it → it ≡ it′ → g ≡ g′ → r ≡ movedTo g′ o (putOn g′ s it′)
+spot-said b s e f g h q = rw (← q, ← f, ← h, ← g) e
 
--- limits
-pub put-small : {c : ℕ} {s p : Spot} (it : Position) → SpotSmall c s → it .width ≤ maxWord → it .height ≤ maxWord → p ≡ putOn s it → SpotSmall (c + 1) p
-put-small it q a b e = rw e (record { across = omega arith; up = omega arith; below = omega arith; high = omega arith })
+-- limits: an item and a gap add at most a step
+module _ {c g : ℕ} (s : Spot) (it : Position) (small : SpotSmall c s) (wide : it .width ≤ maxWord) (high : it .height ≤ maxWord) (gap : g ≤ maxWord) where
+  pub put-across : {p : Spot} → p ≡ putOn g s it → p .x + p .width + g ≤ maxStep * (c + 1)
+  put-across e = rw e (omega arith)
 
-pub moved-small : (o : Option Level) {c : ℕ} {s r : Spot} → SpotSmall c s → r ≡ movedTo o s → SpotSmall c r
-moved-small o {c} {s} q e = rw e (go o)
-  where
-    go : (v : Option Level) → SpotSmall c (movedTo v s)
-    go none = q
-    go (some stack) = record { across = omega arith; up = omega arith; below = omega arith; high = omega arith }
-    go (some strip) = record { across = omega arith; up = omega arith; below = omega arith; high = omega arith }
-    go (some board) = record { across = omega arith; up = omega arith; below = omega arith; high = omega arith }
+  pub spot-small : (o : Option Level) {p r : Spot} → p ≡ putOn g s it → r ≡ movedTo g o p → SpotSmall (c + 1) r
+  spot-small o e f = rw (f, e) (go o)
+    where
+      go : (v : Option Level) → SpotSmall (c + 1) (movedTo g v (putOn g s it))
+      go none = record { across = omega arith; up = omega arith; below = omega arith; high = omega arith }
+      go (some stack) = record { across = omega arith; up = omega arith; below = omega arith; high = omega arith }
+      go (some strip) = record { across = omega arith; up = omega arith; below = omega arith; high = omega arith }
+      go (some board) = record { across = omega arith; up = omega arith; below = omega arith; high = omega arith }

@@ -10,7 +10,7 @@ use lib.Dec.{eqb}
 use lib.ListN.{length, drop}
 use Rattle.job.specs.Sizes.{wordsOfPlacement, jobSize}
 use Rattle.job.specs.declared.item.Position.{Position}
-use Rattle.job.specs.Lists.{all, sumOf, maxOf}
+use Rattle.job.specs.Lists.{all, sumOf, gapsAfter, gapSum, maxOf}
 use Rattle.job.specs.Job.{Job, typeOf, positionAt}
 use Rattle.job.proofs.Positions.{type-turn, turn-small}
 use Rattle.job.proofs.Tests.{not-both, same-test, and-left, and-right, and-both}
@@ -76,7 +76,7 @@ module _ (job : Job) where
   -- items put on a stack, one after another
   unfoldable pub itemsOn : StackMeasure → List ℕ → StackMeasure
   itemsOn m [] = m
-  itemsOn m (i ∷ is) = itemsOn (itemOn m (positionAt job i)) is
+  itemsOn m (i ∷ is) = itemsOn (itemOn (job .blade) m (positionAt job i)) is
 
   -- a further item keeps the width only if it has it
   even-on : (e : Bool) (w x : ℕ) (is : List ℕ) → (e && eqb x w) && all (λ i. eqb (widthOf job i) (max w x)) is ≡ (e && (eqb x w && all (λ i. eqb (widthOf job i) w) is))
@@ -90,34 +90,34 @@ module _ (job : Job) where
   on-end : (m : StackMeasure) (is : List ℕ) → itemsOn m is .end ≡ m .end + length is
   unfolding itemsOn
   on-end m [] = omega arith
-  on-end m (i ∷ is) = let e = on-end (itemOn m (positionAt job i)) is in omega arith
+  on-end m (i ∷ is) = let e = on-end (itemOn (job .blade) m (positionAt job i)) is in omega arith
 
   on-width : (m : StackMeasure) (is : List ℕ) → itemsOn m is .width ≡ max (m .width) (maxOf (widthOf job) is)
   unfolding itemsOn maxOf widthOf
   on-width m [] = omega arith
-  on-width m (i ∷ is) = let e = on-width (itemOn m (positionAt job i)) is in omega arith
+  on-width m (i ∷ is) = let e = on-width (itemOn (job .blade) m (positionAt job i)) is in omega arith
 
-  on-height : (m : StackMeasure) (is : List ℕ) → itemsOn m is .height ≡ m .height + sumOf (heightOf job) is
+  on-height : (m : StackMeasure) (is : List ℕ) → itemsOn m is .height ≡ m .height + gapsAfter (job .blade) (heightOf job) is
   unfolding itemsOn sumOf heightOf
   on-height m [] = omega arith
-  on-height m (i ∷ is) = let e = on-height (itemOn m (positionAt job i)) is in omega arith
+  on-height m (i ∷ is) = let e = on-height (itemOn (job .blade) m (positionAt job i)) is in omega arith
 
   on-even : (m : StackMeasure) (is : List ℕ) → itemsOn m is .even ≡ (m .even && all (λ i. eqb (widthOf job i) (m .width)) is)
   unfolding itemsOn all widthOf
   on-even m [] = and-true (m .even)
   on-even m (i ∷ is) =
-      on-even (itemOn m (positionAt job i)) is
+      on-even (itemOn (job .blade) m (positionAt job i)) is
       ∙ even-on (m .even) (m .width) (positionAt job i .width) is
       ∙ ap (λ (t : Bool). m .even && t) (sym (all-cons (λ j. eqb (widthOf job j) (m .width)) i is))
 
   -- with the further items on it, it has the measures of the stack
   stack-measured : (c i : ℕ) (is : List ℕ) → StackIs job c (i ∷ is) (itemsOn (oneItem c (positionAt job i)) is)
-  unfolding stackWidth stackHeight sameWidths widthOf heightOf maxOf sumOf
+  unfolding stackWidth stackHeight sameWidths widthOf heightOf maxOf sumOf gapSum
   stack-measured c i is =
       record {
         ended = omega (arith, on-end (oneItem c (positionAt job i)) is);
         wide = on-width (oneItem c (positionAt job i)) is;
-        high = on-height (oneItem c (positionAt job i)) is;
+        high = omega (arith, on-height (oneItem c (positionAt job i)) is);
         evenly = on-even (oneItem c (positionAt job i)) is ∙ same-first (widthOf job) i is;
       }
 
@@ -130,22 +130,23 @@ module _ (job : Job) where
     stack-begins f g = rw (stack-line, g, f) (stack-measured c (placementAt ws c .item) (itemsLeft ws (c + 1)))
 
     -- the line at which the stack goes on is the next item
-    stack-goes-on : {it : Position} {b : Bool} (m : StackMeasure) → it ≡ positionAt job (placementAt ws c .item) → b ≡ goesOn (begun (drop c (rowsOf ws))) → b ≡ true → itemsOn m (itemsLeft ws c) ≡ itemsOn (itemOn m it) (itemsLeft ws (c + 1))
+    stack-goes-on : {it : Position} {b : Bool} (m : StackMeasure) → it ≡ positionAt job (placementAt ws c .item) → b ≡ goesOn (begun (drop c (rowsOf ws))) → b ≡ true → itemsOn m (itemsLeft ws c) ≡ itemsOn (itemOn (job .blade) m it) (itemsLeft ws (c + 1))
     unfolding itemsOn
     stack-goes-on m f t u =
         rw (goes-on-none (begun (drop c (rowsOf ws))) (stackOf (drop c (rowsOf ws))) (sym t ∙ u), stack-line, f)
 
   pub stack-next :
-      (ws : List ℕ) (n c : ℕ) (m : StackMeasure) {k : Stack} {it : Position} {b : Bool} {m′ : StackMeasure}
+      (ws : List ℕ) (n c : ℕ) (m : StackMeasure) {k : Stack} {it : Position} {b : Bool} {gap : ℕ} {m′ : StackMeasure}
       → length ws ≡ wordsOfPlacement * n
       → m .end < n
       → it ≡ positionAt job (placementAt ws (m .end) .item)
       → b ≡ goesOn (begun (drop (m .end) (rowsOf ws)))
       → b ≡ true
-      → m′ ≡ itemOn m it
+      → m′ ≡ itemOn gap m it
+      → gap ≡ job .blade
       → StackIs job c k (itemsOn m (itemsLeft ws (m .end)))
       → StackIs job c k (itemsOn m′ (itemsLeft ws (m′ .end)))
-  stack-next ws n c m e h f t u g s = rw g (rw (stack-goes-on ws n (m .end) e h m f t u) at s)
+  stack-next ws n c m e h f t u g q s = rw (g, q) (rw (stack-goes-on ws n (m .end) e h m f t u) at s)
 
   -- where it does not go on nothing is left
   pub stack-ends : (ws : List ℕ) (c e : ℕ) {k : Stack} {b : Bool} {m : StackMeasure} → b ≡ goesOn (begun (drop e (rowsOf ws))) → b ≡ false → StackIs job c k (itemsOn m (itemsLeft ws e)) → StackIs job c k m
@@ -153,8 +154,8 @@ module _ (job : Job) where
   stack-ends ws c e t u s = rw (goes-not (begun (drop e (rowsOf ws))) (stackOf (drop e (rowsOf ws))) (sym t ∙ u)) at s
 
 -- the measures stay small
-pub small-next : {c n : ℕ} {m m′ : StackMeasure} (it : Position) → StackSmall c n m → m .end < n → it .width ≤ maxWord → it .height ≤ maxWord → m′ ≡ itemOn m it → StackSmall c n m′
-small-next it s h a b e = rw e (record { begun = omega arith; inside = omega arith; narrow = omega arith; low = omega arith })
+pub small-next : {c n gap : ℕ} {m m′ : StackMeasure} (it : Position) → StackSmall c n m → m .end < n → it .width ≤ maxWord → it .height ≤ maxWord → gap ≤ maxWord → m′ ≡ itemOn gap m it → StackSmall c n m′
+small-next it s h a b g e = rw e (record { begun = omega arith; inside = omega arith; narrow = omega arith; low = omega arith })
 
 -- the item of a line that is lent: its number is small, and the words of its type are there
 pub lent-small : {job ws : List ℕ} {n : ℕ} → LentLines job ws n → (c : ℕ) → c < n → placementAt ws c .item < 2 ^ 16

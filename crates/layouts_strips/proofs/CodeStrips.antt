@@ -1,6 +1,6 @@
 -- The stacks of a strip, one by one: what has been measured, and the stacks that are left.
 use mathlib.Core.Path.{_≡_, refl, sym, _∙_}
-use Prim.Native.Nat.{ℕ, _+_, _*_, _<_, max}
+use Prim.Native.Nat.{ℕ, _+_, _*_, _≤_, _<_, max}
 use mathlib.Core.Bool.{Bool, true, false}
 use mathlib.Core.List.{List, [], _∷_, flatMap}
 use mathlib.Core.Option.{Option, none, some}
@@ -8,10 +8,10 @@ use native.Mathlib.Omega.{arith}
 use lib.ListN.{length, drop, length-append}
 use lib.Seq.{drop-drop}
 use Rattle.job.specs.Sizes.{wordsOfPlacement}
-use Rattle.job.specs.Lists.{sumOf, maxOf}
+use Rattle.job.specs.Lists.{sumOf, gapsAfter, maxOf}
 use Rattle.job.specs.Job.{Job}
 use Rattle.job.proofs.Tests.{not-both}
-use Rattle.layouts.specs.Layout.{Stack, Strip, stackWidth, stackHeight, stripWidth, stripHeight}
+use Rattle.layouts.specs.Layout.{Stack, Strip, stackWidth, stackHeight, stripHeight}
 use Rattle.layouts.specs.Placement.{Placement, itemsOfStrip}
 use Rattle.layouts.specs.Lines.{Level, stack, strip, board, begun, rowsOf}
 use Rattle.placement.specs.PlacementRead.{placementAt}
@@ -20,7 +20,7 @@ use Rattle.layouts_strips.specs.declared.stack.StackMeasure.{StackMeasur
 use Rattle.layouts_strips.specs.declared.strip.StripMeasure.{StripMeasure}
 use Rattle.layouts_strips.specs.Begun.{beginsStack}
 use Rattle.layouts_strips.specs.First.{stackOf, stripOf}
-use Rattle.layouts_strips.specs.Measures.{StackIs, StackSmall, stackIn, StripIs, StripSmall}
+use Rattle.layouts_strips.specs.Measures.{maxWord, StackIs, StackSmall, stackIn, StripIs, StripSmall}
 use Rattle.layouts_strips.proofs.CodeFirst.{whenStack, strip-stacks}
 
 -- the stacks of a strip that are left from the line behind e others on, where that begins a further stack
@@ -66,7 +66,7 @@ module _ (job : Job) where
 
   -- stacks put into a strip, one after another
   abbrev stackOn : StripMeasure → Stack → StripMeasure
-  stackOn m k = record { end = m .end + length k; width = m .width + stackWidth job k; height = max (m .height) (stackHeight job k) }
+  stackOn m k = record { end = m .end + length k; across = m .across + stackWidth job k + job .blade; height = max (m .height) (stackHeight job k) }
 
   unfoldable pub stacksIn : StripMeasure → Strip → StripMeasure
   stacksIn m [] = m
@@ -77,7 +77,7 @@ module _ (job : Job) where
   in-end m [] = omega arith
   in-end m (k ∷ ks) = let e = in-end (stackOn m k) ks in omega (arith, length-append k (flatMap (λ l. l) ks))
 
-  in-width : (m : StripMeasure) (s : Strip) → stacksIn m s .width ≡ m .width + sumOf (stackWidth job) s
+  in-width : (m : StripMeasure) (s : Strip) → stacksIn m s .across ≡ m .across + gapsAfter (job .blade) (stackWidth job) s
   unfolding stacksIn sumOf
   in-width m [] = omega arith
   in-width m (k ∷ ks) = let e = in-width (stackOn m k) ks in omega arith
@@ -89,11 +89,11 @@ module _ (job : Job) where
 
   -- a strip of no stack, behind a lines
   abbrev noStack : ℕ → StripMeasure
-  noStack a = record { end = a; width = 0; height = 0 }
+  noStack a = record { end = a; across = 0; height = 0 }
 
   -- with its stacks in it, it has the measures of the strip
   pub strip-begins : (a : ℕ) (s : Strip) → StripIs job a s (stacksIn (noStack a) s)
-  unfolding stripWidth stripHeight
+  unfolding stripHeight
   strip-begins a s =
       record {
         ended = in-end (noStack a) s;
@@ -101,23 +101,24 @@ module _ (job : Job) where
         high = omega (arith, in-height (noStack a) s);
       }
 
-  stack-put : (m : StripMeasure) {k : Stack} {x : StackMeasure} → StackIs job (m .end) k x → stackIn m x ≡ stackOn m k
+  stack-put : (m : StripMeasure) {k : Stack} {x : StackMeasure} → StackIs job (m .end) k x → stackIn (job .blade) m x ≡ stackOn m k
   stack-put m s = rw (s .ended, s .wide, s .high)
 
   module _
-      (ws : List ℕ) (n a : ℕ) (m : StripMeasure) {x : StackMeasure} {m′ : StripMeasure} {s : Strip}
+      (ws : List ℕ) (n a : ℕ) (m : StripMeasure) {x : StackMeasure} {gap : ℕ} {m′ : StripMeasure} {s : Strip}
       (l : length ws ≡ wordsOfPlacement * n)
       (h : m .end < n)
       (k : StackIs job (m .end) (stackOf (drop (m .end) (rowsOf ws))) x)
-      (g : m′ ≡ stackIn m x)
+      (g : m′ ≡ stackIn gap m x)
+      (q : gap ≡ job .blade)
       (i : StripIs job a s (stacksIn m (stripOf (drop (m .end) (rowsOf ws)))))
     where
-      one-more : stacksIn m (stripOf (drop (m .end) (rowsOf ws))) ≡ stacksIn (stackIn m x) (stacksLeft ws (x .end))
+      one-more : stacksIn m (stripOf (drop (m .end) (rowsOf ws))) ≡ stacksIn (stackIn (job .blade) m x) (stacksLeft ws (x .end))
       unfolding stacksIn
       one-more = rw (strip-line ws n (m .end) l h k, stack-put m k)
 
       left : StripIs job a s (stacksIn m′ (stacksLeft ws (m′ .end)))
-      left = rw g (rw one-more at i)
+      left = rw (g, q) (rw one-more at i)
 
       -- a further stack begins, or nothing is left
       pub strip-next : {b : Bool} → b ≡ beginsStack (begun (drop (m′ .end) (rowsOf ws))) → b ≡ true → StripIs job a s (stacksIn m′ (stripOf (drop (m′ .end) (rowsOf ws))))
@@ -128,5 +129,5 @@ module _ (job : Job) where
       strip-ends t u = rw (left-none ws (m′ .end) t u) at left
 
 -- the measures stay small
-pub strip-small : {a n : ℕ} {m m′ : StripMeasure} {x : StackMeasure} → StripSmall a n m → StackSmall (m .end) n x → m′ ≡ stackIn m x → StripSmall a n m′
-strip-small s k e = rw e (record { begun = omega arith; inside = omega arith; narrow = omega arith; low = omega arith })
+pub strip-small : {a n gap : ℕ} {m m′ : StripMeasure} {x : StackMeasure} → StripSmall a n m → StackSmall (m .end) n x → gap ≤ maxWord → m′ ≡ stackIn gap m x → StripSmall a n m′
+strip-small s k g e = rw e (record { begun = omega arith; inside = omega arith; narrow = omega arith; low = omega arith })

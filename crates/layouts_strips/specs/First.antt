@@ -32,7 +32,7 @@ abbrev pub laidFrom : Job → ℕ → ℕ → List Board → List Laid
 laidFrom job line y [] = []
 laidFrom job line y (b ∷ bs) = laidBoard job line y b ++ laidSet job (line + length (itemsOfBoard b)) bs
 
--- the height below the next strip: that of the strips so far where it is on the same board, else 0
+-- the height below the next strip: that of the strips so far, a gap after each (request Four), where it is on the same board, else 0
 abbrev pub belowNext : Option Level → ℕ → ℕ
 belowNext none y = 0
 belowNext (some stack) y = 0

@@ -22,7 +22,7 @@ pub fn positions_row(job: &[u16], layouts: &[u16], lines: usize, k: usize) -> Ro
         y: 0,
         base: 0,
         width: 0,
-        top: 0,
+        above: 0,
     };
     let mut c: usize = 0;
     while c < lines {

@@ -7,8 +7,9 @@ ghost use Rattle.job.specs.Job.{jobOf, positionAt};
 ghost use Rattle.layouts.specs.Lines.{rowsOf};
 ghost use Rattle.placement.specs.PlacementRead.{placementAt};
 ghost use Rattle.layouts_strips.specs.First.{stackOf};
-ghost use Rattle.layouts_strips.specs.Measures.{maxWord, LentLines, StackIs, StackSmall, itemOn};
+ghost use Rattle.layouts_strips.specs.Measures.{maxStep, LentLines, StackIs, StackSmall, itemOn};
 use crate::begins::goes_on;
+use job::head::head_of;
 use job::item::Position;
 use job::position::position_at;
 use placement::placement_at;
@@ -40,17 +41,17 @@ pub fn item_of(job: &[u16], layouts: &[u16], lines: usize, c: usize) -> Position
     position_at(job, line.position())
 }
 
-// A stack with one item more on it.
-fn with_item(m: StackMeasure, item: Position) -> StackMeasure
-    requires { ⌜ (m .end ≤ maxPieces) × (m .height ≤ maxWord * maxPieces) ⌝ }
-    ensures { λ r. ⌜ r ≡ itemOn m item ⌝ }
+// A stack with one item more on it, a blade's width above the item below.
+fn with_item(m: StackMeasure, item: Position, blade: u16) -> StackMeasure
+    requires { ⌜ (m .end ≤ maxPieces) × (m .height ≤ maxStep * maxPieces) ⌝ }
+    ensures { λ r. ⌜ r ≡ itemOn blade m item ⌝ }
 {
     let width = item.width as u32;
     let before = m.width;
     StackMeasure {
         end: m.end + 1,
         width: greater(before, width),
-        height: m.height + item.height as u32,
+        height: m.height + blade as u32 + item.height as u32,
         even: m.even && width == before,
     }
 }
@@ -60,6 +61,7 @@ pub fn stack_at(job: &[u16], layouts: &[u16], lines: usize, c: usize) -> StackMe
     requires { ⌜ (LentLines (now job) (now layouts) lines) × (c < lines) ⌝ }
     ensures { λ r. ⌜ (StackIs (jobOf (now (job .entry))) c (stackOf (drop c (rowsOf (now (layouts .entry))))) r) × (StackSmall c lines r) ⌝ }
 {
+    let head = head_of(job);
     let first = item_of(job, layouts, lines, c);
     let mut m = StackMeasure {
         end: c + 1,
@@ -69,7 +71,7 @@ pub fn stack_at(job: &[u16], layouts: &[u16], lines: usize, c: usize) -> StackMe
     };
     while goes_on(layouts, lines, m.end) {
         let item = item_of(job, layouts, lines, m.end);
-        m = with_item(m, item);
+        m = with_item(m, item, head.blade);
     }
     m
 }

@@ -6,27 +6,28 @@ ghost use Rattle.job.specs.Sizes.{maxPieces};
 ghost use Rattle.job.specs.Job.{jobOf};
 ghost use Rattle.layouts.specs.Lines.{rowsOf};
 ghost use Rattle.layouts_strips.specs.First.{stripOf};
-ghost use Rattle.layouts_strips.specs.Measures.{maxWord, LentLines, StripIs, StripSmall, stackIn};
+ghost use Rattle.layouts_strips.specs.Measures.{maxWord, maxStep, LentLines, StripIs, StripSmall, stackIn};
 use crate::begins::begins_stack;
 use crate::stack::StackMeasure;
 use crate::stack::greater;
 use crate::stack::stack_at;
+use job::head::head_of;
 
-// A strip: the line behind its last, its width and its height.
+// A strip: the line behind its last, the widths of its stacks with a blade's width after each, and its height.
 pub struct StripMeasure {
     pub end: usize,
-    pub width: u32,
+    pub across: u32,
     pub height: u32,
 }
 
 // A strip with one stack more in it.
-fn with_stack(m: StripMeasure, stack: StackMeasure) -> StripMeasure
-    requires { ⌜ (m .width ≤ maxWord * maxPieces) × (stack .width ≤ maxWord) ⌝ }
-    ensures { λ r. ⌜ r ≡ stackIn m stack ⌝ }
+fn with_stack(m: StripMeasure, stack: StackMeasure, blade: u16) -> StripMeasure
+    requires { ⌜ (m .across ≤ maxStep * maxPieces) × (stack .width ≤ maxWord) ⌝ }
+    ensures { λ r. ⌜ r ≡ stackIn blade m stack ⌝ }
 {
     StripMeasure {
         end: stack.end,
-        width: m.width + stack.width,
+        across: m.across + stack.width + blade as u32,
         height: greater(m.height, stack.height),
     }
 }
@@ -36,14 +37,15 @@ pub fn strip_at(job: &[u16], layouts: &[u16], lines: usize, a: usize) -> StripMe
     requires { ⌜ (LentLines (now job) (now layouts) lines) × (a < lines) ⌝ }
     ensures { λ r. ⌜ (StripIs (jobOf (now (job .entry))) a (stripOf (drop a (rowsOf (now (layouts .entry))))) r) × ((StripSmall a lines r) × (a < r .end)) ⌝ }
 {
+    let head = head_of(job);
     let mut m = StripMeasure {
         end: a,
-        width: 0,
+        across: 0,
         height: 0,
     };
     loop {
         let stack = stack_at(job, layouts, lines, m.end);
-        m = with_stack(m, stack);
+        m = with_stack(m, stack, head.blade);
         if !begins_stack(layouts, lines, m.end) {
             return m;
         }

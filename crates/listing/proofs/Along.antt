@@ -20,11 +20,11 @@ module _ (P C : ℕ) (job : Job) where
   pub pair-goes :
       (j : ℕ) (p : Plate) (i : ℕ) (it : Position) (l l′ : Listing)
       → pair P C job j p i it l ≡ going l′
-      → (l′ ≡ l) ⊎ ((l′ ≡ cutDone job j i (leaves (job .mode) it p) l) × (length (l′ .plates) ≤ P) × (length (l′ .cuts) ≤ C))
+      → (l′ ≡ l) ⊎ ((l′ ≡ cutDone job j i (leaves (job .mode) (job .blade) it p) l) × (length (l′ .plates) ≤ P) × (length (l′ .cuts) ≤ C))
   pair-goes j p i it l l′ e = go (mayCut (job .mode) it p) refl (at-most-or-above (length (next .cuts)) C) (at-most-or-above (length (next .plates)) P)
     where
       next : Listing
-      next = cutDone job j i (leaves (job .mode) it p) l
+      next = cutDone job j i (leaves (job .mode) (job .blade) it p) l
 
       go :
           (t : Bool)
@@ -92,7 +92,7 @@ module _ (P C : ℕ) (job : Job) where
   pair-grown j p i it l l′ e = go (pair-goes j p i it l l′ e)
     where
       r : Residuals
-      r = leaves (job .mode) it p
+      r = leaves (job .mode) (job .blade) it p
 
       go : (l′ ≡ l) ⊎ ((l′ ≡ cutDone job j i r l) × (length (l′ .plates) ≤ P) × (length (l′ .cuts) ≤ C)) → Grown l l′
       go (inl s) = rw s (grown-same l)

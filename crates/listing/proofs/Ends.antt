@@ -74,7 +74,7 @@ module _ (P C : ℕ) (job : Job) where
       next = after job j (suc k) l
 
       left : Residuals
-      left = leaves (job .mode) (positionAt job (suc k)) (plateAt l j)
+      left = leaves (job .mode) (job .blade) (positionAt job (suc k)) (plateAt l j)
 
       b : k < length (positions job)
       b = omega arith

@@ -34,7 +34,7 @@ module _ (job : Job) where
   -- a cut that is done, where the residual types so far are numbered as met
   module _ (j i : ℕ) (l : Listing) (r : Reached job j i l) (before : AsMet l) where
     abbrev left : Residuals
-    left = leaves (job .mode) (positionAt job i) (plateAt l j)
+    left = leaves (job .mode) (job .blade) (positionAt job i) (plateAt l j)
 
     abbrev next : Listing
     next = after job j i l

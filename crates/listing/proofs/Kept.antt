@@ -59,16 +59,16 @@ module _ (job : Job) where
 
     -- the residuals of a permitted pair are smaller than the plate
     module _ (p : Plate) (i : ℕ) (c : CutFrom p i) where
-      cut-smaller : (sides (leaves (job .mode) (positionAt job i) p .top) < sides p) × (sides (leaves (job .mode) (positionAt job i) p .right) < sides p)
+      cut-smaller : (sides (leaves (job .mode) (job .blade) (positionAt job i) p .top) < sides p) × (sides (leaves (job .mode) (job .blade) (positionAt job i) p .right) < sides p)
       cut-smaller =
           let r = may-cut (job .mode) (positionAt job i) p (c .allowed) in
           let s = sided i (r .allowed) in
-          residuals-smaller (job .mode) (positionAt job i) p (s .0) (s .1) (r .in-width) (r .in-height)
+          residuals-smaller (job .mode) (job .blade) (positionAt job i) p (s .0) (s .1) (r .in-width) (r .in-height)
 
-      pub top-smaller : sides (leaves (job .mode) (positionAt job i) p .top) < sides p
+      pub top-smaller : sides (leaves (job .mode) (job .blade) (positionAt job i) p .top) < sides p
       top-smaller = cut-smaller .0
 
-      pub right-smaller : sides (leaves (job .mode) (positionAt job i) p .right) < sides p
+      pub right-smaller : sides (leaves (job .mode) (job .blade) (positionAt job i) p .right) < sides p
       right-smaller = cut-smaller .1
 
     -- a residual that is kept has a stage from 1 to 3
@@ -77,8 +77,8 @@ module _ (job : Job) where
     kept-staged q (inr s) h = s
 
     module _ (p : Plate) (item : Position) where
-      pub top-staged : kept job (leaves (job .mode) item p .top) ≡ true → Staged (leaves (job .mode) item p .top)
-      top-staged = kept-staged (leaves (job .mode) item p .top) (residuals-staged (job .mode) item p .0)
+      pub top-staged : kept job (leaves (job .mode) (job .blade) item p .top) ≡ true → Staged (leaves (job .mode) (job .blade) item p .top)
+      top-staged = kept-staged (leaves (job .mode) (job .blade) item p .top) (residuals-staged (job .mode) (job .blade) item p .0)
 
-      pub right-staged : kept job (leaves (job .mode) item p .right) ≡ true → Staged (leaves (job .mode) item p .right)
-      right-staged = kept-staged (leaves (job .mode) item p .right) (residuals-staged (job .mode) item p .1)
+      pub right-staged : kept job (leaves (job .mode) (job .blade) item p .right) ≡ true → Staged (leaves (job .mode) (job .blade) item p .right)
+      right-staged = kept-staged (leaves (job .mode) (job .blade) item p .right) (residuals-staged (job .mode) (job .blade) item p .1)

@@ -95,7 +95,7 @@ module _ (P C P′ C′ : ℕ) (job : Job) (some : 1 ≤ P) (p : P ≤ P′) (c 
       next = after job (h .plate) (h .item) (h .listing)
 
       more : length (next .cuts) ≡ suc (length (h .listing .cuts))
-      more = done-count job (h .plate) (h .item) (leaves (job .mode) (positionAt job (h .item)) (plateAt (h .listing) (h .plate))) (h .listing)
+      more = done-count job (h .plate) (h .item) (leaves (job .mode) (job .blade) (positionAt job (h .item)) (plateAt (h .listing) (h .plate))) (h .listing)
 
       few : Few P′ C′ (h .listing)
       few = few-larger (h .listing) (h .few)
@@ -111,7 +111,7 @@ module _ (P C P′ C′ : ℕ) (job : Job) (some : 1 ≤ P) (p : P ≤ P′) (c 
   pub larger-cuts : (l : Listing) → walkWithin P C job ≡ stopped 7 → walkWithin P′ C′ job ≡ going l → C < length (l .cuts)
   larger-cuts l e f =
       let h = walk-halted P C job some 7 e in
-      let left = leaves (job .mode) (positionAt job (h .item)) (plateAt (h .listing) (h .plate)) in
+      let left = leaves (job .mode) (job .blade) (positionAt job (h .item)) (plateAt (h .listing) (h .plate)) in
       omega (arith, larger-grown 7 h l f .cuts-longer .no-fewer, done-count job (h .plate) (h .item) left (h .listing), over-seven (h .passed))
 
   pub larger-plates : (l : Listing) → walkWithin P C job ≡ stopped 6 → walkWithin P′ C′ job ≡ going l → P < length (l .plates)

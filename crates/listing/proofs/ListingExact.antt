@@ -73,7 +73,7 @@ module _ (job : Job) (sided : Sided job) where
         begins = reached-begins job m is sided (done (h .reached) (h .on-plate) (h .of-item) (h .allowed))
 
         more : length (next .cuts) ≡ suc (length (h .listing .cuts))
-        more = done-count job (h .plate) (h .item) (leaves (job .mode) (positionAt job (h .item)) (plateAt (h .listing) (h .plate))) (h .listing)
+        more = done-count job (h .plate) (h .item) (leaves (job .mode) (job .blade) (positionAt job (h .item)) (plateAt (h .listing) (h .plate))) (h .listing)
 
         go : Over maxPlates maxCuts n (h .listing) next → ⊥
         go (by-cut e c) = omega (arith, more, begins .cuts-longer .no-fewer, is .model .few-cuts)

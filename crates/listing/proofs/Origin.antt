@@ -39,7 +39,7 @@ module _ (job : Job) where
   reached-left (done {j = j} {i = i} {l = l} r p q s) k a b = go (at-most-or-above (length (l .plates)) k) (λ h. reached-left r k a h)
     where
       left : Residuals
-      left = leaves (job .mode) (positionAt job i) (plateAt l j)
+      left = leaves (job .mode) (job .blade) (positionAt job i) (plateAt l j)
 
       next : Listing
       next = after job j i l

@@ -128,7 +128,7 @@ module _ (job : Job) (m : Listing) (is : IsListing job m) where
       n = length (l .cuts)
 
       abbrev left : Residuals
-      left = leaves (job .mode) (positionAt job i) (plateAt l j)
+      left = leaves (job .mode) (job .blade) (positionAt job i) (plateAt l j)
 
       -- it is the next cut of the job's listing
       record Next : Type 0 where

@@ -18,7 +18,7 @@ use Rattle.listing.proofs.Walked.{Walked, walked-start, walked-skip, wa
 
 -- the listing after the pair of plate type j and position i, which is permitted
 abbrev pub after : Job → ℕ → ℕ → Listing → Listing
-after job j i l = cutDone job j i (leaves (job .mode) (positionAt job i) (plateAt l j)) l
+after job j i l = cutDone job j i (leaves (job .mode) (job .blade) (positionAt job i) (plateAt l j)) l
 
 module _ (job : Job) where
   -- the walk comes to position i of plate type j with listing l; past the last position it comes to the next plate type
@@ -70,7 +70,7 @@ module _ (P C : ℕ) (job : Job) where
   -- a listing whose next cut keeps the limits keeps them itself
   pub few-before : (j i : ℕ) (l : Listing) → Few P C (after job j i l) → Few P C l
   few-before j i l f =
-      let r = leaves (job .mode) (positionAt job i) (plateAt l j) in
+      let r = leaves (job .mode) (job .blade) (positionAt job i) (plateAt l j) in
       record {
         few-plates = omega (arith, f .few-plates, done-longer job j i r l .no-fewer);
         few-cuts = omega (arith, f .few-cuts, done-count job j i r l);
@@ -170,7 +170,7 @@ module _ (P C : ℕ) (job : Job) where
       reached-rest r f
       ∙ rest-going j i l l (reached-from-one job r) b a a refl (pair-skipped P C job j (plateAt l j) i (positionAt job i) l c)
   reached-rest (done {j = j} {i = i} {l = l} r a b c) f =
-      let left = leaves (job .mode) (positionAt job i) (plateAt l j) in
+      let left = leaves (job .mode) (job .blade) (positionAt job i) (plateAt l j) in
       let next = after job j i l in
       reached-rest r (few-before j i l f)
       ∙ rest-going j i l next (reached-from-one job r) b a (omega (arith, done-longer job j i left l .no-fewer)) (done-plate job j i left l j a)
@@ -191,7 +191,7 @@ module _ (P C : ℕ) (job : Job) where
     -- a permitted pair past the limit of cuts
     pub reached-seven : C ≤ length (l .cuts) → walkWithin P C job ≡ stopped 7
     reached-seven h =
-        let left = leaves (job .mode) (positionAt job i) (plateAt l j) in
+        let left = leaves (job .mode) (job .blade) (positionAt job i) (plateAt l j) in
         reached-rest r f
         ∙ rest-stopped j i l 7 (reached-from-one job r) b a
         (pair-cut P C job j (plateAt l j) i (positionAt job i) l c ∙ limited-cuts P C job (after job j i l) (omega (arith, done-count job j i left l)))
@@ -199,7 +199,7 @@ module _ (P C : ℕ) (job : Job) where
     -- a permitted pair within the limit of cuts, whose residuals pass the limit of plate types
     pub reached-six : length (l .cuts) < C → P < length (after job j i l .plates) → walkWithin P C job ≡ stopped 6
     reached-six h k =
-        let left = leaves (job .mode) (positionAt job i) (plateAt l j) in
+        let left = leaves (job .mode) (job .blade) (positionAt job i) (plateAt l j) in
         reached-rest r f
         ∙ rest-stopped j i l 6 (reached-from-one job r) b a
         (pair-cut P C job j (plateAt l j) i (positionAt job i) l c ∙ limited-plates P C job (after job j i l) (omega (arith, done-count job j i left l)) k)

@@ -68,7 +68,7 @@ module _ (plateLimit cutLimit : ℕ) (job : Job) where
   pub pair-cut :
       (j : ℕ) (p : Plate) (i : ℕ) (it : Position) (l : Listing)
       → mayCut (job .mode) it p ≡ true
-      → pair plateLimit cutLimit job j p i it l ≡ limited plateLimit cutLimit job (cutDone job j i (leaves (job .mode) it p) l)
+      → pair plateLimit cutLimit job j p i it l ≡ limited plateLimit cutLimit job (cutDone job j i (leaves (job .mode) (job .blade) it p) l)
   unfolding pair
   pair-cut j p i it l h = rw (h, pair)
 

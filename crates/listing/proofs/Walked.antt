@@ -127,7 +127,7 @@ module _ (job : Job) where
 
   module _ (sided : Sided job) (j i : ℕ) (l : Listing) (v : Walked j i l) (b : j < length (l .plates)) (f : CutFrom job (plateAt l j) i) where
     abbrev left : Residuals
-    left = leaves (job .mode) (positionAt job i) (plateAt l j)
+    left = leaves (job .mode) (job .blade) (positionAt job i) (plateAt l j)
 
     abbrev next : Listing
     next = cutDone job j i left l

@@ -1,7 +1,6 @@
 -- The law of one cut: item, residuals, trim and swath make the plate, for a blade of any width; so do item, kept residuals, waste and swath.
 use Prim.Native.Nat.{ℕ, _+_, _*_, _-_, _≤_, min}
 use native.Mathlib.Omega.{arith}
-use native.Mathlib.Nat.{sub-zero}
 use mathlib.Core.Path.{_≡_, refl}
 use mathlib.Core.Bool.{Bool, true, false, cond}
 use lib.Dec.{eqb}
@@ -10,30 +9,9 @@ use Rattle.job.specs.declared.item.Position.{Position}
 use Rattle.job.specs.Mode.{three}
 use Rattle.job.specs.Job.{Job}
 use Rattle.listing.specs.declared.plate.Plate.{Plate}
-use Rattle.listing.specs.declared.plate.Residuals.{Residuals}
-use Rattle.listing.specs.Plate.{plate, waste, residuals, mayCut, leaves, kept}
+use Rattle.listing.specs.Plate.{mayCut, leaves, kept}
 use Rattle.listing.proofs.Plates.{may-cut}
-use Rattle.listing.specs.Waste.{area, itemArea, unkept, trim, wasteOf, blade, swath}
-
--- what a cut leaves with a blade of width b: "a residual side is what remains minus b"
-unfoldable pub leavesLess : ℕ → Mode → Position → Plate → Residuals
-leavesLess b m item p =
-    let w = p .width in
-    let h = p .height in
-    let wi = item .width in
-    let hi = item .height in
-    cond (eqb (p .stage) 1)
-    (residuals (plate w (h - hi - b) 1) (plate (w - wi - b) hi 2))
-    (cond (eqb (p .stage) 2)
-    (cond (three m)
-    (residuals (plate wi (h - hi - b) 3) (plate (w - wi - b) h 2))
-    (residuals waste (plate (w - wi - b) hi 2)))
-    (residuals (plate wi (h - hi - b) 3) waste))
-
--- without a blade it leaves what document 01 says
-pub no-blade : (m : Mode) (item : Position) (p : Plate) → leavesLess 0 m item p ≡ leaves m item p
-unfolding leavesLess leaves
-no-blade m item p = simp sub-zero
+use Rattle.listing.specs.Waste.{area, itemArea, unkept, trim, wasteOf, swath, swathOf}
 
 -- the four kinds of cut, with w = wi + dx + rx and h = hi + dy + ry
 module _ (w h wi hi dx rx dy ry : ℕ) (e : w ≡ wi + (dx + rx)) (f : h ≡ hi + (dy + ry)) where
@@ -57,8 +35,8 @@ rest-of b x y = omega arith
 
 module _ (m : Mode) (item : Position) (p : Plate) (across : item .width ≤ p .width) (upwards : item .height ≤ p .height) where
   -- item, both residuals whether kept or not, trim and swath make the plate
-  pub cut-area : (b : ℕ) → itemArea item + area (leavesLess b m item p .top) + area (leavesLess b m item p .right) + trim m item p + swath b m item p ≡ area p
-  unfolding leavesLess trim swath
+  pub cut-area : (b : ℕ) → itemArea item + area (leaves m b item p .top) + area (leaves m b item p .right) + trim m item p + swath m b item p ≡ area p
+  unfolding leaves trim swath
   cut-area b = go (eqb (p .stage) 1) (eqb (p .stage) 2) (three m) refl refl refl
     where
       w : ℕ
@@ -80,16 +58,16 @@ module _ (m : Mode) (item : Position) (p : Plate) (across : item .width ≤ p .w
       f = split b h hi upwards
 
       go : (s t u : Bool) → eqb (p .stage) 1 ≡ s → eqb (p .stage) 2 ≡ t → three m ≡ u
-          → itemArea item + area (leavesLess b m item p .top) + area (leavesLess b m item p .right) + trim m item p + swath b m item p ≡ area p
+          → itemArea item + area (leaves m b item p .top) + area (leaves m b item p .right) + trim m item p + swath m b item p ≡ area p
       go true t u i j k =
-          rw (i, leavesLess, trim, swath) (one w h wi hi (min b (w - wi)) (w - wi - b) (min b (h - hi)) (h - hi - b) e f)
+          rw (i, leaves, trim, swath) (one w h wi hi (min b (w - wi)) (w - wi - b) (min b (h - hi)) (h - hi - b) e f)
       go false true true i j k =
-          rw (i, j, k, leavesLess, trim, swath) (two-three w h wi hi (min b (w - wi)) (w - wi - b) (min b (h - hi)) (h - hi - b) e f)
+          rw (i, j, k, leaves, trim, swath) (two-three w h wi hi (min b (w - wi)) (w - wi - b) (min b (h - hi)) (h - hi - b) e f)
       go false true false i j k =
-          rw (i, j, k, leavesLess, trim, swath)
+          rw (i, j, k, leaves, trim, swath)
           (two w h wi hi (min b (w - wi)) (w - wi - b) (min b (h - hi)) (h - hi - b) e f (h - hi) (rest-of b h hi))
       go false false u i j k =
-          rw (i, j, leavesLess, trim, swath)
+          rw (i, j, leaves, trim, swath)
           (stage-three w h wi hi (min b (w - wi)) (w - wi - b) (min b (h - hi)) (h - hi - b) e f (w - wi) (rest-of b w wi))
 
 -- the area of a residual, if it is kept
@@ -106,19 +84,19 @@ kept-or-not job q = go (kept job q)
 
 -- the law of one cut, with the job's blade
 pub cut-balance : (job : Job) (item : Position) (p : Plate) → mayCut (job .mode) item p ≡ true
-    → itemArea item + (keptArea job (leaves (job .mode) item p .top) + keptArea job (leaves (job .mode) item p .right)) + wasteOf job item p + swath (blade job) (job .mode) item p ≡ area p
-unfolding wasteOf blade
+    → itemArea item + (keptArea job (leaves (job .mode) (job .blade) item p .top) + keptArea job (leaves (job .mode) (job .blade) item p .right)) + wasteOf job item p + swathOf job item p ≡ area p
+unfolding wasteOf swathOf
 cut-balance job item p h =
     let f = may-cut (job .mode) item p h in
     omega (
       arith,
-      kept-or-not job (leaves (job .mode) item p .top),
-      kept-or-not job (leaves (job .mode) item p .right),
-      rw (no-blade (job .mode) item p) at (cut-area (job .mode) item p (f .in-width) (f .in-height) 0),
+      kept-or-not job (leaves (job .mode) (job .blade) item p .top),
+      kept-or-not job (leaves (job .mode) (job .blade) item p .right),
+      cut-area (job .mode) item p (f .in-width) (f .in-height) (job .blade),
     )
 
 -- without a blade there is no swath
-pub no-swath : (m : Mode) (item : Position) (p : Plate) → swath 0 m item p ≡ 0
+pub no-swath : (m : Mode) (item : Position) (p : Plate) → swath m 0 item p ≡ 0
 unfolding swath
 no-swath m item p = go (eqb (p .stage) 1) (eqb (p .stage) 2) (three m)
   where

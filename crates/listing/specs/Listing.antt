@@ -93,7 +93,7 @@ module _ (plateLimit cutLimit : ℕ) (job : Job) where
   pair j p i item l =
       elim (mayCut (job .mode) item p) [
         | false ↦ going l
-        | true ↦ limited (cutDone job j i (leaves (job .mode) item p) l)
+        | true ↦ limited (cutDone job j i (leaves (job .mode) (job .blade) item p) l)
       ]
 
   -- "at each, item types in rising number", each "the unturned first" (request One): positions from i on

@@ -27,7 +27,7 @@ abbrev pub itemOf : Job → Cut → Position
 itemOf job c = positionAt job (c .item)
 
 abbrev pub leftBy : Job → Listing → Cut → Residuals
-leftBy job l c = leaves (job .mode) (itemOf job c) (plateAt l (c .plate))
+leftBy job l c = leaves (job .mode) (job .blade) (itemOf job c) (plateAt l (c .plate))
 
 -- the plate types and cuts of a job; cut k stands at place k - 1, so places c, d are those of cuts suc c, suc d
 pub record Model (job : Job) (l : Listing) : Type 0 where

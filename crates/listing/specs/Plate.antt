@@ -52,31 +52,32 @@ mayCut m item p =
 abbrev pub residuals : Plate → Plate → Residuals
 residuals top right = record { top = top; right = right }
 
--- "The cut leaves, with wi and hi for the item's sides", as it lies, in document 01's four rows:
+-- "The cut leaves, with wi and hi for the item's sides", as it lies, in document 01's four rows. The side that a cut divides is "what remains minus b"
+-- (request Four), and 0 "where b or less remains", which holds no item; the other side is whole.
 -- "Stage 1: top (w, h−hi, 1); right (w−wi, hi, 2)."
-abbrev pub stageOne : Position → Plate → Residuals
-stageOne item p = residuals (plate (p .width) (p .height - item .height) 1) (plate (p .width - item .width) (item .height) 2)
+abbrev pub stageOne : ℕ → Position → Plate → Residuals
+stageOne b item p = residuals (plate (p .width) (p .height - item .height - b) 1) (plate (p .width - item .width - b) (item .height) 2)
 
 -- "Stage 2, two-stage modes: right (w−wi, hi, 2); what lies above is waste."
-abbrev pub stageTwoOfTwo : Position → Plate → Residuals
-stageTwoOfTwo item p = residuals waste (plate (p .width - item .width) (item .height) 2)
+abbrev pub stageTwoOfTwo : ℕ → Position → Plate → Residuals
+stageTwoOfTwo b item p = residuals waste (plate (p .width - item .width - b) (item .height) 2)
 
 -- "Stage 2, three-stage modes: top (wi, h−hi, 3); right (w−wi, h, 2)."
-abbrev pub stageTwoOfThree : Position → Plate → Residuals
-stageTwoOfThree item p = residuals (plate (item .width) (p .height - item .height) 3) (plate (p .width - item .width) (p .height) 2)
+abbrev pub stageTwoOfThree : ℕ → Position → Plate → Residuals
+stageTwoOfThree b item p = residuals (plate (item .width) (p .height - item .height - b) 3) (plate (p .width - item .width - b) (p .height) 2)
 
 -- "Stage 3: top (wi, h−hi, 3); what lies beside is waste."
-abbrev pub stageThree : Position → Plate → Residuals
-stageThree item p = residuals (plate (item .width) (p .height - item .height) 3) waste
+abbrev pub stageThree : ℕ → Position → Plate → Residuals
+stageThree b item p = residuals (plate (item .width) (p .height - item .height - b) 3) waste
 
--- the row that holds, by the plate's stage and the mode
-unfoldable pub leaves : Mode → Position → Plate → Residuals
-leaves m item p =
+-- the row that holds, by the plate's stage and the mode, for a blade of width b
+unfoldable pub leaves : Mode → ℕ → Position → Plate → Residuals
+leaves m b item p =
     cond (eqb (p .stage) 1)
-    (stageOne item p)
+    (stageOne b item p)
     (cond (eqb (p .stage) 2)
-    (cond (three m) (stageTwoOfThree item p) (stageTwoOfTwo item p))
-    (stageThree item p))
+    (cond (three m) (stageTwoOfThree b item p) (stageTwoOfTwo b item p))
+    (stageThree b item p))
 
 -- "a residual is kept if at least one item type may be cut from it, otherwise it is waste": in some position, unturned or turned (request One)
 unfoldable pub kept : Job → Plate → Bool

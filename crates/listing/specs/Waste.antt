@@ -1,5 +1,5 @@
 -- Request Two, "Waste has its own definition": what the cut of an item from a plate wastes, w and h being the plate's sides, wi and hi the item's as it lies.
--- Request Four's swath of the blade stands here for a blade of any width; a job's blade has none.
+-- Request Four: the swath that the blade takes beside that.
 use Prim.Native.Nat.{ℕ, _+_, _*_, _-_, min}
 use mathlib.Core.Bool.{cond}
 use lib.Dec.{eqb}
@@ -32,19 +32,17 @@ trim m item p =
     (cond (three m) 0 (w * (h - item .height)))
     ((w - item .width) * h))
 
--- the waste of the cut: its residuals that are not kept, and the trim
+-- the waste of the cut: its residuals that are not kept, less b as they are, and the trim
 unfoldable pub wasteOf : Job → Position → Plate → ℕ
 wasteOf job item p =
-    let r = leaves (job .mode) item p in
+    let r = leaves (job .mode) (job .blade) item p in
     unkept job (r .top) + unkept job (r .right) + trim (job .mode) item p
 
--- the width of a job's blade: 0, since no number of a job gives one
-unfoldable pub blade : Job → ℕ
-blade job = 0
-
--- request Four: "the blade's swath, clipped to the piece it divides, its part inside a trim counting as waste", for a blade of width b
-unfoldable pub swath : ℕ → Mode → Position → Plate → ℕ
-swath b m item p =
+-- request Four: "the blade's swath, clipped to the piece it divides, its part inside a trim counting as waste", for a blade of width b: dx of what remains
+-- across, dy of what remains upwards. At stage 2 of two stages the swath beside the item ends where the trim above it begins; at stage 3 the swath above
+-- it ends where the trim beside it begins
+unfoldable pub swath : Mode → ℕ → Position → Plate → ℕ
+swath m b item p =
     let w = p .width in
     let h = p .height in
     let wi = item .width in
@@ -56,3 +54,7 @@ swath b m item p =
     (cond (eqb (p .stage) 2)
     (cond (three m) (dx * h + wi * dy) (dx * hi))
     (wi * dy))
+
+-- the swath of a cut with the job's blade
+unfoldable pub swathOf : Job → Position → Plate → ℕ
+swathOf job item p = swath (job .mode) (job .blade) item p

@@ -1,6 +1,6 @@
 // A plate, what may be cut from it, and what the cut leaves.
 ghost use mathlib.Core.Path.{_≡_};
-ghost use Prim.Native.Nat.{_≤_};
+ghost use Prim.Native.Nat.{_-_, _≤_};
 ghost use Rattle.listing.specs.Plate.{mayCut, leaves, same};
 use job::item::Position;
 use job::mode::Mode;
@@ -40,10 +40,21 @@ pub fn may_cut(mode: Mode, item: Position, p: Plate) -> bool
     p.stage != 2 || item.height == p.height
 }
 
-// The top and the right residual of a cut, by the plate's stage and the mode: 0 and 1 are the two-stage modes, 2 and 3 the three-stage ones.
-pub fn cut_leaves(mode: Mode, item: Position, p: Plate) -> Residuals
+// The side of a residual: what remains minus the blade's width, and 0 where that width or less remains.
+fn past_blade(remains: u16, blade: u16) -> u16
+    ensures { λ r. ⌜ r ≡ remains - blade ⌝ }
+{
+    if remains <= blade {
+        return 0;
+    }
+    remains - blade
+}
+
+// The top and the right residual of a cut, by the plate's stage and the mode: 0 and 1 are the two-stage modes, 2 and 3 the three-stage ones. The blade is
+// taken off the side that it divides, not off the other.
+pub fn cut_leaves(mode: Mode, blade: u16, item: Position, p: Plate) -> Residuals
     requires { ⌜ (item .width ≤ p .width) × (item .height ≤ p .height) ⌝ }
-    ensures { λ r. ⌜ r ≡ leaves mode item p ⌝ }
+    ensures { λ r. ⌜ r ≡ leaves mode blade item p ⌝ }
 {
     let m = mode.0;
     let stage = p.stage;
@@ -52,8 +63,8 @@ pub fn cut_leaves(mode: Mode, item: Position, p: Plate) -> Residuals
         height: 0,
         stage: 0,
     };
-    let across = p.width - item.width;
-    let up = p.height - item.height;
+    let across = past_blade(p.width - item.width, blade);
+    let up = past_blade(p.height - item.height, blade);
     match stage {
         1 => Residuals {
             top: Plate {

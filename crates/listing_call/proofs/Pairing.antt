@@ -27,7 +27,7 @@ module _ (job : Job) (j : ℕ) (p : Plate) (i : ℕ) (item : Position) (l : List
   step-none e = record { l = l; rep = h; goes-on = sym (pair-skipped maxPlates maxCuts job j p i item l e) }
 
   -- the pair is permitted, and leaves `left`
-  module _ (e : mayCut (job .mode) item p ≡ true) (left : Residuals) (el : left ≡ leaves (job .mode) item p) where
+  module _ (e : mayCut (job .mode) item p ≡ true) (left : Residuals) (el : left ≡ leaves (job .mode) (job .blade) item p) where
     abbrev top : Entry
     top = entered job (left .top) (l .plates)
 

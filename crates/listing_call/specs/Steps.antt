@@ -5,6 +5,7 @@ use mathlib.Core.List.{List}
 use lib.ListN.{length}
 use Rattle.job.specs.declared.mode.Mode.{Mode}
 use Rattle.job.specs.Sizes.{maxPlates, maxCuts, platesSize, cutsSize}
+use Rattle.job.specs.Job.{jobOf}
 use Rattle.job.specs.JobWords.{JobWords}
 use Rattle.listing.specs.Listing.{Listing, Walk, going, stopped, Entry}
 use Rattle.listing.specs.Records.{plateWords, cutWords}
@@ -14,9 +15,10 @@ use Rattle.listing_call.specs.declared.entry.Entered.the-variants.{As, F
 use Rattle.listing_call.specs.declared.walk.Step.{Step}
 use Rattle.listing_call.specs.declared.walk.Step.the-variants.{Next, Stop}
 
--- room for every plate type and every cut, and the job's words
-pub record Room (ws : List ℕ) (mode : Mode) (n : ℕ) (plates cuts : List ℕ) (m k : ℕ) : Type 0 where
+-- room for every plate type and every cut, and the job's words, with its blade (request Four)
+pub record Room (ws : List ℕ) (mode : Mode) (blade n : ℕ) (plates cuts : List ℕ) (m k : ℕ) : Type 0 where
   pub of-job : JobWords ws mode n
+  pub of-blade : blade ≡ jobOf ws .blade
   pub plate-room : platesSize ≤ length plates
   pub cut-room : cutsSize ≤ length cuts
   pub few-plates : m ≤ maxPlates

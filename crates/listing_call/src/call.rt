@@ -50,7 +50,7 @@ pub fn list_into(job: &[u16], plates: &mut [u16], cuts: &mut [u16]) -> Listed
         stage: 1,
     };
     put_plate(plates, PlateTypes(0), board);
-    match walk(job, head.mode, head.types, plates, cuts) {
+    match walk(job, head.mode, head.blade, head.types, plates, cuts) {
         Step::Next(m, k) => Listed::Done(m, k),
         Step::Stop(number) => {
             clear(plates);

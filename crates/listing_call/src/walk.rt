@@ -31,6 +31,7 @@ pub enum Step {
 pub fn pair_step(
     job: &[u16],
     mode: Mode,
+    blade: u16,
     n: ItemType,
     plates: &mut [u16],
     cuts: &mut [u16],
@@ -40,7 +41,7 @@ pub fn pair_step(
     plate: Plate,
     i: ItemPosition,
 ) -> Step
-    requires { ⌜ Room (now job) mode (n .0) (now plates) (now cuts) (m .0) (k .0) ⌝ }
+    requires { ⌜ Room (now job) mode blade (n .0) (now plates) (now cuts) (m .0) (k .0) ⌝ }
     requires { ⌜ (1 ≤ typeOf (i .0)) × (typeOf (i .0) ≤ n .0) ⌝ }
     ensures { λ a. ⌜ ((l : Listing) → Rep l (now (plates .entry)) (now (cuts .entry)) (m .0) (k .0) → Stepped (pair maxPlates maxCuts (jobOf (now (job .entry))) (j .0) plate (i .0) (positionAt (jobOf (now (job .entry))) (i .0)) l) a (now (plates .exit)) (now (cuts .exit))) ⌝ }
 {
@@ -52,7 +53,7 @@ pub fn pair_step(
     if MAX_CUTS <= done {
         return Step::Stop(7);
     }
-    let left = cut_leaves(mode, item, plate);
+    let left = cut_leaves(mode, blade, item, plate);
     let top = left.top;
     let right = left.right;
     let Entered::As(t, m1) = enter(job, mode, n, plates, m, top) else {
@@ -66,8 +67,15 @@ pub fn pair_step(
 }
 
 // The whole walk, from buffers that hold the board alone; it is left when a 2,049th plate type or an 8,193rd cut is met.
-pub fn walk(job: &[u16], mode: Mode, n: ItemType, plates: &mut [u16], cuts: &mut [u16]) -> Step
-    requires { ⌜ Room (now job) mode (n .0) (now plates) (now cuts) 1 0 ⌝ }
+pub fn walk(
+    job: &[u16],
+    mode: Mode,
+    blade: u16,
+    n: ItemType,
+    plates: &mut [u16],
+    cuts: &mut [u16],
+) -> Step
+    requires { ⌜ Room (now job) mode blade (n .0) (now plates) (now cuts) 1 0 ⌝ }
     requires { ⌜ Rep (walkStart (jobOf (now job))) (now plates) (now cuts) 1 0 ⌝ }
     ensures { λ a. ⌜ Stepped (walk (jobOf (now (job .entry)))) a (now (plates .exit)) (now (cuts .exit)) ⌝ }
 {
@@ -85,6 +93,7 @@ pub fn walk(job: &[u16], mode: Mode, n: ItemType, plates: &mut [u16], cuts: &mut
             match pair_step(
                 job,
                 mode,
+                blade,
                 n,
                 plates,
                 cuts,

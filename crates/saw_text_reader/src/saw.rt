@@ -43,7 +43,7 @@ fn none_held() -> SawHeld
     }
 }
 
-// Nothing is read yet: every lent word becomes 0. The job takes 165 words, the prices 2,088.
+// Nothing is read yet: every lent word becomes 0. The job takes 166 words, the prices 2,088.
 pub fn start(
     job: &mut [u16],
     plates: &mut [u16],

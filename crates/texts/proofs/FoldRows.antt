@@ -58,10 +58,10 @@ module _ (number : ℕ) (bad : Laid → Bool) (same : (k j y : ℕ) (s : Strip) 
   board-any k j y [] us vs h f = f h
   board-any k j y (s ∷ ss) us vs h f =
       let n : ℕ = length (itemsOfStrip s) in
-      go (bad (laidAt k y s)) refl h (λ p. board-any (k + n) (j + n) (y + stripHeight job s) ss us vs p f)
+      go (bad (laidAt k y s)) refl h (λ p. board-any (k + n) (j + n) (y + stripHeight job s + job .blade) ss us vs p f)
     where
       rest : ℕ → List Laid → List Laid
-      rest i ts = laidBoard job (i + length (itemsOfStrip s)) (y + stripHeight job s) ss ++ ts
+      rest i ts = laidBoard job (i + length (itemsOfStrip s)) (y + stripHeight job s + job .blade) ss ++ ts
 
       go :
           (t : Bool)

@@ -8,7 +8,7 @@ use lib.Dec.{eqb}
 use lib.ListN.{length, getD, drop, length-append, length-drop, List·getD-append}
 use lib.Seq.{drop-append-le}
 use borrow.Author.Tests.{eqb-true, eq-eqb}
-use Rattle.job.specs.Sizes.{wordsOfHead, wordsOfItem, jobSize}
+use Rattle.job.specs.Sizes.{maxBlade, wordsOfHead, wordsOfItem, jobSize}
 use Rattle.job.specs.declared.item.Item.{Item}
 use Rattle.job.specs.Verdict.{Verdict, pass, _then_, refuseIf, within, lowest}
 use Rattle.job.specs.Job.{maxSide, maxTypes, maxPieces, item, itemsOf, jobOf, boardRight, itemRight, jobWords}
@@ -77,21 +77,23 @@ job-first (a ∷ []) h = absurd (h .2)
 job-first (a ∷ b ∷ []) h = absurd (h .2 .2)
 job-first (a ∷ b ∷ c ∷ []) h = absurd (h .2 .2 .2)
 job-first (a ∷ b ∷ c ∷ d ∷ []) h = absurd (h .2 .2 .2 .2)
-job-first (a ∷ b ∷ c ∷ d ∷ n ∷ []) h =
+job-first (a ∷ b ∷ c ∷ d ∷ n ∷ []) h = absurd (h .2 .2 .2 .2 .2)
+job-first (a ∷ b ∷ c ∷ d ∷ n ∷ g ∷ []) h =
     let p = within-limits 2 3 a (omega arith) (omega arith) in
     let q = within-limits 0 1 b (omega arith) (omega arith) in
     let r = within-limits 1 maxSide c (omega arith) (omega arith) in
     let s = within-limits 1 maxSide d (omega arith) (omega arith) in
     let t = within-limits 1 maxTypes n (omega arith) (omega arith) in
-    record { size = refl; board = rw (p, q, r, s, t); items = refl }
-job-first (a ∷ b ∷ c ∷ d ∷ n ∷ v ∷ vs) h = absurd (h .2 .2 .2 .2 .2)
+    let u = within-limits 0 maxBlade g (omega arith) (omega arith) in
+    record { size = refl; board = rw (p, q, r, s, t, u); items = refl }
+job-first (a ∷ b ∷ c ∷ d ∷ n ∷ g ∷ v ∷ vs) h = absurd (h .2 .2 .2 .2 .2 .2)
 
--- further words leave the first five as they are
+-- further words leave the first six as they are
 pub board-append : (ws us : List ℕ) → wordsOfHead ≤ length ws → boardRight (ws ++ us) ≡ boardRight ws
 unfolding boardRight
 board-append ws us h =
     let a : (i : ℕ) → i < wordsOfHead → getD (ws ++ us) i 0 ≡ getD ws i 0 = λ i l. List·getD-append ws us 0 i (omega arith) in
-    rw (a 0 (omega arith), a 1 (omega arith), a 2 (omega arith), a 3 (omega arith), a 4 (omega arith))
+    rw (a 0 (omega arith), a 1 (omega arith), a 2 (omega arith), a 3 (omega arith), a 4 (omega arith), a 5 (omega arith))
 
 -- and so the number of types
 pub types-append : (ws us : List ℕ) → wordsOfHead ≤ length ws → typesOf (ws ++ us) ≡ typesOf ws
@@ -130,8 +132,6 @@ job-types ws j = let size = j .size in items-length (fours (typesOf ws) (drop wo
 pub board-types : (ws : List ℕ) → boardRight ws ≡ true → (1 ≤ typesOf ws) × (typesOf ws ≤ maxTypes)
 unfolding boardRight
 board-types ws h =
-    within-parts 1 maxTypes (getD ws 4 0)
-    (and-parts
-    (within 2 3 (getD ws 0 0) && within 0 1 (getD ws 1 0) && within 1 maxSide (getD ws 2 0) && within 1 maxSide (getD ws 3 0))
-    (within 1 maxTypes (getD ws 4 0))
-    h .1)
+    let before = within 2 3 (getD ws 0 0) && within 0 1 (getD ws 1 0) && within 1 maxSide (getD ws 2 0) && within 1 maxSide (getD ws 3 0) in
+    let types = within 1 maxTypes (getD ws 4 0) in
+    within-parts 1 maxTypes (getD ws 4 0) (and-parts before types (and-parts (before && types) (within 0 maxBlade (getD ws 5 0)) h .0) .1)

@@ -40,7 +40,7 @@ itemRows-size i (one-type {a = a} {b = b} {c = c} {d = d} {ws = ws} t) =
     let r = itemRows-size (suc i) t in
     (ap suc (r .0), bytes-cons (2 ∷ i ∷ a ∷ b ∷ c ∷ d ∷ []) (itemRows (suc i) ws) ∙ omega arith)
 
--- one line for the board and one for each type; 55 bytes for each
+-- one line for the board, of 64 bytes, and one for each type, of 55
 pub jobRows-size : (k : ℕ) (ws : List ℕ) → length ws ≡ jobSize k → (length (jobRows ws) ≡ suc k) × (length (bytesOf (jobRows ws)) ≡ jobLineBytes + typeLineBytes * k)
 unfolding jobRows
 jobRows-size k ws h =

@@ -9,7 +9,7 @@ use lib.Dec.{eqb}
 use lib.ListN.{length, take, drop, length-append, length-drop, take-append-drop}
 use lib.Seq.{length-take-le, getD-take}
 use borrow.Author.Tests.{eq-eqb, ne-eqb, not-false}
-use Rattle.job.specs.Sizes.{wordsOfHead, wordsOfItem}
+use Rattle.job.specs.Sizes.{maxBlade, wordsOfHead, wordsOfItem}
 use Rattle.job.specs.Verdict.{pass, within, lowest}
 use Rattle.job.specs.Job.{maxSide, maxTypes, maxPieces, item, itemsOf, boardRight, itemRight}
 use Rattle.texts.specs.Shape.{jobLine, itemLine}
@@ -30,7 +30,7 @@ pub record Opens {S : Type 0} (g : Grammar S) (at : Place → List ℕ → S) : 
   pub after-first : (ns : List ℕ) → g .after (at first []) ns ≡ at (types 1) (drop 1 ns)
   pub after-types : (i : ℕ) (ws ns : List ℕ) → g .after (at (types i) ws) ns ≡ at (afterType (typesOf ws) i) (ws ++ drop 2 ns)
 
--- the five words of the board as a line 1
+-- the six words of the head as a line 1
 board-shape : (ws : List ℕ) → length ws ≡ wordsOfHead → boardRight ws ≡ true → OfShape jobLine (1 ∷ ws)
 unfolding boardRight
 board-shape [] e h = absurd (omega arith)
@@ -38,8 +38,10 @@ board-shape (a ∷ []) e h = absurd (omega arith)
 board-shape (a ∷ b ∷ []) e h = absurd (omega arith)
 board-shape (a ∷ b ∷ c ∷ []) e h = absurd (omega arith)
 board-shape (a ∷ b ∷ c ∷ d ∷ []) e h = absurd (omega arith)
-board-shape (a ∷ b ∷ c ∷ d ∷ n ∷ []) e h =
-    let p = and-parts (within 2 3 a && within 0 1 b && within 1 maxSide c && within 1 maxSide d) (within 1 maxTypes n) h in
+board-shape (a ∷ b ∷ c ∷ d ∷ n ∷ []) e h = absurd (omega arith)
+board-shape (a ∷ b ∷ c ∷ d ∷ n ∷ g ∷ []) e h =
+    let o = and-parts (within 2 3 a && within 0 1 b && within 1 maxSide c && within 1 maxSide d && within 1 maxTypes n) (within 0 maxBlade g) h in
+    let p = and-parts (within 2 3 a && within 0 1 b && within 1 maxSide c && within 1 maxSide d) (within 1 maxTypes n) (o .0) in
     let q = and-parts (within 2 3 a && within 0 1 b && within 1 maxSide c) (within 1 maxSide d) (p .0) in
     let r = and-parts (within 2 3 a && within 0 1 b) (within 1 maxSide c) (q .0) in
     let s = and-parts (within 2 3 a) (within 0 1 b) (r .0) in
@@ -48,8 +50,9 @@ board-shape (a ∷ b ∷ c ∷ d ∷ n ∷ []) e h =
     let C = within-parts 1 maxSide c (r .1) in
     let D = within-parts 1 maxSide d (q .1) in
     let N = within-parts 1 maxTypes n (p .1) in
-    record { others = a ∷ b ∷ c ∷ d ∷ n ∷ []; numbers = refl; limits = omega arith; turned = refl }
-board-shape (a ∷ b ∷ c ∷ d ∷ n ∷ v ∷ vs) e h = absurd (omega arith)
+    let G = within-parts 0 maxBlade g (o .1) in
+    record { others = a ∷ b ∷ c ∷ d ∷ n ∷ g ∷ []; numbers = refl; limits = omega arith; turned = refl }
+board-shape (a ∷ b ∷ c ∷ d ∷ n ∷ g ∷ v ∷ vs) e h = absurd (omega arith)
 
 -- the four words of a type as a line 2
 item-shape : (i w h d v : ℕ) → itemRight (item w h d v) ≡ true → OfShape (itemLine i) (2 ∷ i ∷ w ∷ h ∷ d ∷ v ∷ [])
@@ -111,11 +114,11 @@ module _ {S : Type 0} (g : Grammar S) (at : Place → List ℕ → S) (o : Opens
   job-runs ws j =
       let size = j .size in
       let n = board-types ws (j .board) in
-      let five : length (take wordsOfHead ws) ≡ wordsOfHead = length-take-le wordsOfHead ws (omega arith) in
+      let six : length (take wordsOfHead ws) ≡ wordsOfHead = length-take-le wordsOfHead ws (omega arith) in
       let same : typesOf (take wordsOfHead ws) ≡ typesOf ws = getD-take wordsOfHead ws 4 0 (omega arith) in
       let whole = take-append-drop wordsOfHead ws in
       let board : boardRight (take wordsOfHead ws) ≡ true = sym (board-append (take wordsOfHead ws) (drop wordsOfHead ws) (omega arith)) ∙ ap boardRight whole ∙ j .board in
-      let shape = board-shape (take wordsOfHead ws) five board in
+      let shape = board-shape (take wordsOfHead ws) six board in
       let rest = fours (typesOf ws) (drop wordsOfHead ws) (length-drop wordsOfHead ws ∙ omega arith) in
       let r = items-run 0 (take wordsOfHead ws) rest (n .0) (omega arith) (omega arith) (omega arith) (j .items) in
       rw (o .start) (

@@ -101,7 +101,7 @@ module _ (number : ℕ) (bad : Laid → Bool) (job : Job) (table : (k : ℕ) →
   near-board k y (s ∷ ss) us h n =
       let e = length-append (itemsOfStrip s) (flatMap itemsOfStrip ss) in
       let k′ : ℕ = k + length (itemsOfStrip s) in
-      let y′ : ℕ = y + stripHeight job s in
+      let y′ : ℕ = y + stripHeight job s + job .blade in
       near-strip (laidAt k y s) (laidBoard job k′ y′ ss ++ us) (table k (omega arith) (omega arith)) (near-board k′ y′ ss us (omega arith) n)
 
   near-none : Near (lowestStrip number bad [])

@@ -1,4 +1,4 @@
--- How much of a text decides: 4,600,324 bytes of a saw text, 8,199,865 bytes of a fold text.
+-- How much of a text decides: 4,600,333 bytes of a saw text, 8,199,874 bytes of a fold text.
 use Prim.Native.Nat.{ℕ, suc, _+_, _*_, _≤_, _<_}
 use native.Mathlib.Omega.{arith}
 use mathlib.Core.Path.{_≡_, ap, _∙_}
@@ -25,7 +25,7 @@ use Rattle.texts.proofs.SawRead.{Past, SawForm, saw-at}
 use Rattle.texts.proofs.FoldTexts.{LaidOut, FoldForm, fold-at}
 use Rattle.texts.proofs.Prefix.{Longer, Enough, text-bytes, decided}
 
--- the bytes of some lines of a text: 55 for line 1, 55 for each of n lines 2, at most w for each of m further lines
+-- the bytes of some lines of a text: 64 for line 1, 55 for each of n lines 2, at most w for each of m further lines
 pub record Sizes (n m w : ℕ) (rows : List (List ℕ)) : Type 0 where
   pub some-types : 1 ≤ n
   pub few-types : n ≤ maxTypes
@@ -71,7 +71,7 @@ past-size rows s p =
     let b : length (bytesOf (ps ++ qs)) ≡ length (bytesOf ps) + length (bytesOf qs) = bytes-append ps qs in
     sizes (s .job) (ps ++ qs) rows (length (s .plan) + length qs) planLineBytes (p .job) (p .lines) c (omega arith)
 
--- 55 bytes for line 1, 55 for each of 40 lines 2, 46 for each of 99,958 lines 3, and one more
+-- 64 bytes for line 1, 55 for each of 40 lines 2, 46 for each of 99,958 lines 3, and one more
 abbrev pub sawEnough : ℕ
 sawEnough = suc longestSawText
 
@@ -115,11 +115,11 @@ saw-enough =
       long = λ rows s k r l e u. saw-long (s .place) (s .job) (s .plan) (s .prices) rows k (saw-at rows s r) l e u;
     }
 
--- a saw text that passes has at most 4,600,323 bytes
+-- a saw text that passes has at most 4,600,332 bytes
 pub saw-bytes : (bs : List ℕ) → textRow sawGrammar (fed sawGrammar (started sawGrammar) bs) ≡ pass → length bs ≤ longestSawText
 saw-bytes bs h = omega (arith, text-bytes sawGrammar sawEnough saw-enough bs h)
 
--- the first 4,600,324 bytes of a saw text decide it, and so do any more
+-- the first 4,600,333 bytes of a saw text decide it, and so do any more
 pub saw-prefix : (n : ℕ) (bs : List ℕ) → longestSawText < n → sawText (take n bs) ≡ sawText bs
 unfolding sawText sawWritten
 saw-prefix n bs h = decided sawGrammar sawEnough n bs saw-enough (omega arith) sawRows sawLines
@@ -136,7 +136,7 @@ laid-size rows f p =
     let r = placementRows-size (rowsOf (f .layouts)) in
     sizes (f .job) ps rows (length (rowsOf (f .layouts))) placementLineBytes (p .job) (p .lines) (r .0) (omega arith)
 
--- 55 bytes for line 1, 55 for one line 2, 82 for each of 99,997 lines 7, and one more
+-- 64 bytes for line 1, 55 for one line 2, 82 for each of 99,997 lines 7, and one more
 abbrev pub foldEnough : ℕ
 foldEnough = suc longestFoldText
 
@@ -176,11 +176,11 @@ fold-enough =
       long = λ rows f k r l e u. let q = fold-long (f .place) (f .job) (f .layouts) rows k (fold-at rows f r) l e in absurd (omega arith);
     }
 
--- a fold text that passes has at most 8,199,864 bytes
+-- a fold text that passes has at most 8,199,873 bytes
 pub fold-bytes : (bs : List ℕ) → textRow foldGrammar (fed foldGrammar (started foldGrammar) bs) ≡ pass → length bs ≤ longestFoldText
 fold-bytes bs h = omega (arith, text-bytes foldGrammar foldEnough fold-enough bs h)
 
--- the first 8,199,865 bytes of a fold text decide it, and so do any more
+-- the first 8,199,874 bytes of a fold text decide it, and so do any more
 pub fold-prefix : (n : ℕ) (bs : List ℕ) → longestFoldText < n → foldText (take n bs) ≡ foldText bs
 unfolding foldText foldWritten
 fold-prefix n bs h = decided foldGrammar foldEnough n bs fold-enough (omega arith) foldRows foldLines

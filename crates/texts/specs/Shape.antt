@@ -5,7 +5,7 @@ use mathlib.Core.List.{List, [], _∷_}
 use mathlib.Core.Option.{Option, none, some}
 use lib.Dec.{eqb}
 use lib.ListN.{length, getD, drop}
-use Rattle.job.specs.Sizes.{maxResiduals}
+use Rattle.job.specs.Sizes.{maxBlade, maxResiduals}
 use Rattle.job.specs.Verdict.{Verdict, refuse, _then_, refuseIf, within}
 use Rattle.job.specs.Job.{jobOf, permitted, maxSide, maxTypes, maxPieces}
 use Rattle.plan.specs.Prices.{maxPrice}
@@ -43,9 +43,9 @@ turning kind limits ws i t =
       permits = λ vs. permitted (jobOf ws) (2 * getD vs i 0 + getD vs t 0);
     }
 
--- kind 1: stages (2 or 3), exact (1 or 0), W, H, n
+-- kind 1: stages (2 or 3), exact (1 or 0), W, H, n, b; request Four, "b from 0 to 20 mm, as the last number of line 1"
 abbrev pub jobLine : Shape
-jobLine = shape 1 [] (2 to 3 ∷ 0 to 1 ∷ 1 to maxSide ∷ 1 to maxSide ∷ 1 to maxTypes ∷ [])
+jobLine = shape 1 [] (2 to 3 ∷ 0 to 1 ∷ 1 to maxSide ∷ 1 to maxSide ∷ 1 to maxTypes ∷ 0 to maxBlade ∷ [])
 
 -- kind 2: type, width, height, demand, leave; type i is the next in order; request One, "1 if the type may be turned, 0 if not"
 abbrev pub itemLine : ℕ → Shape

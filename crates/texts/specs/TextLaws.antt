@@ -85,11 +85,11 @@ pub record InParts {S : Type 0} (g : Grammar S) : Type 0 where
   -- what a reader keeps of a line that has begun is at most 81 bytes
   pub kept : (bs : List ℕ) → length (fed g (started g) bs .pending) < placementLineBytes
 
--- the bytes of the longest saw text, 4,600,323: line 1, 40 lines 2, and a line 3 for each of the 99,958 lines after them
+-- the bytes of the longest saw text, 4,600,332: line 1, 40 lines 2, and a line 3 for each of the 99,958 lines after them
 abbrev pub longestSawText : ℕ
 longestSawText = jobLineBytes + typeLineBytes * maxTypes + planLineBytes * (maxLines - 1 - maxTypes)
 
--- the bytes of the longest fold text, 8,199,864: line 1, one line 2, and a line 7 for each of the 99,997 lines after them
+-- the bytes of the longest fold text, 8,199,873: line 1, one line 2, and a line 7 for each of the 99,997 lines after them
 abbrev pub longestFoldText : ℕ
 longestFoldText = jobLineBytes + typeLineBytes + placementLineBytes * (maxLines - 2)
 

@@ -2,9 +2,9 @@
 use Prim.Native.Nat.{ℕ}
 use Rattle.columns.specs.Widths.{lineBytes}
 
--- kind 1: the kind, stages, exact, W, H, n
+-- kind 1: the kind, stages, exact, W, H, n, b; request Four, the blade's width is "the last number of line 1"
 abbrev pub jobLineBytes : ℕ
-jobLineBytes = lineBytes 6
+jobLineBytes = lineBytes 7
 
 -- kind 2: the kind, type, width, height, demand, leave
 abbrev pub typeLineBytes : ℕ

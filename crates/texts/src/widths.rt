@@ -2,8 +2,8 @@
 use columns::widths::GROUP;
 use job::sizes::MAX_TYPES;
 
-// Kind 1: the kind, stages, exact, W, H, n.
-pub const JOB_LINE: usize = GROUP * 6 + 1;
+// Kind 1: the kind, stages, exact, W, H, n, b.
+pub const JOB_LINE: usize = GROUP * 7 + 1;
 
 // Kind 2: the kind, type, width, height, demand, leave.
 pub const TYPE_LINE: usize = GROUP * 6 + 1;

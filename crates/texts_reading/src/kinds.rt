@@ -10,6 +10,7 @@ use crate::judge::judge;
 use crate::turns::judge_turn;
 use job::counters::ItemType;
 use job::counters::PlateType;
+use job::sizes::MAX_BLADE;
 use job::sizes::MAX_PIECES;
 use job::sizes::MAX_PRICE;
 use job::sizes::MAX_RESIDUALS;
@@ -17,8 +18,10 @@ use job::sizes::MAX_SIDE;
 use job::sizes::MAX_TYPES;
 use job::sizes::TYPES;
 
-// The limits as numbers of a line: sides, item types, pieces, prices, residual types.
+// The limits as numbers of a line: sides, the blade, item types, pieces, prices, residual types.
 const SIDE_LIMIT: u32 = MAX_SIDE as u32;
+
+const BLADE_LIMIT: u32 = MAX_BLADE as u32;
 
 const TYPES_LIMIT: u32 = MAX_TYPES as u32;
 
@@ -28,13 +31,13 @@ const PRICE_LIMIT: u32 = MAX_PRICE as u32;
 
 const RESIDUALS_LIMIT: u32 = MAX_RESIDUALS as u32;
 
-// Kind 1: stages, exact, W, H, n.
+// Kind 1: stages, exact, W, H, n, b.
 pub fn job_line(numbers: &[u32]) -> u16
     ensures { λ r. ⌜ ((line : ℕ) → lineVerdict r line ≡ numbersRow line (jobLine ∷ []) (now (numbers .entry))) ⌝ }
 {
     let head = [1u32];
-    let low = [2u32, 0, 1, 1, 1];
-    let high = [3u32, 1, SIDE_LIMIT, SIDE_LIMIT, TYPES_LIMIT];
+    let low = [2u32, 0, 1, 1, 1, 0];
+    let high = [3u32, 1, SIDE_LIMIT, SIDE_LIMIT, TYPES_LIMIT, BLADE_LIMIT];
     judge(numbers, &head, &low, &high)
 }
 

@@ -68,8 +68,10 @@ pub fn unfold_plan(
 {
     let mut left = [0u16; COUNTS_SIZE];
     copy_counts(counts, &mut left);
+    let head = head_of(job);
     let r = run(
         job,
+        head.blade,
         plates,
         cuts,
         k,

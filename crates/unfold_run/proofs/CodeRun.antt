@@ -6,6 +6,7 @@ use mathlib.Core.List.{List, [], _∷_, _++_, append-assoc, append-nil, flatMap}
 use lib.ListN.{length, length-append}
 use Rattle.job.specs.Sizes.{maxPieces, placementsSize}
 use Rattle.job.specs.Job.{Job}
+use Rattle.job.specs.Admitted.{Sided}
 use Rattle.listing.specs.declared.plate.Plate.{Plate}
 use Rattle.listing.specs.Listing.{Listing, plateAt}
 use Rattle.listing.specs.Model.{Model}
@@ -75,8 +76,8 @@ module _ (job : Job) (l : Listing) (m : Model job l) (whole : Run) where
           turns = record { board-to = omega arith; strip-to = omega arith; stack-to = omega arith; place-to = omega arith };
         }
 
-    keeps : StepKeeps job l m (maxSteps - suc fuel) (step job l st)
-    keeps = step-keeps job l m (maxSteps - suc fuel) st (g .within) (g .turns)
+    keeps : Sided job → StepKeeps job l m (maxSteps - suc fuel) (step job l st)
+    keeps sided = step-keeps job l m sided (maxSteps - suc fuel) st (g .within) (g .turns)
 
     turns-on : (u : Turn) → TurnTo (suc (maxSteps - suc fuel)) u → TurnTo (maxSteps - fuel) u
     turns-on u t =
@@ -95,10 +96,10 @@ module _ (job : Job) (l : Listing) (m : Model job l) (whole : Run) where
           omega (arith, g .as-many, g .few-items)
 
       -- and the run goes on with it written
-      pub going-placed : {buffer′ : List ℕ} {left′ : ℕ} {p′ : Placement} (s : ℕ) → left′ ≡ left - s → p′ ≡ p → ((ps : List Placement) → length ps ≡ pieces → Holds buffer (placementWords ps) → Holds buffer′ (placementWords (ps ++ p′ ∷ []))) → length buffer′ ≡ length buffer → boards l (st .counts) ≡ s + boards l (st′ .counts) → Going job l whole fuel st′ left′ (pieces + 1) buffer′
+      pub going-placed : {buffer′ : List ℕ} {left′ : ℕ} {p′ : Placement} → Sided job → (s : ℕ) → left′ ≡ left - s → p′ ≡ p → ((ps : List Placement) → length ps ≡ pieces → Holds buffer (placementWords ps) → Holds buffer′ (placementWords (ps ++ p′ ∷ []))) → length buffer′ ≡ length buffer → boards l (st .counts) ≡ s + boards l (st′ .counts) → Going job l whole fuel st′ left′ (pieces + 1) buffer′
       unfolding placing
-      going-placed s d f w n b =
-          let k : Kept job l m (maxSteps - suc fuel) st′ = rw e at keeps in
+      going-placed sided s d f w n b =
+          let k : Kept job l m (maxSteps - suc fuel) st′ = rw e at (keeps sided) in
           let n′ : length (st′ .counts) ≡ length (st .counts) = rw e at (step-length job l st) in
           record {
             done = g .done ++ p ∷ [];
@@ -116,9 +117,9 @@ module _ (job : Job) (l : Listing) (m : Model job l) (whole : Run) where
           }
 
     -- the run goes on after a piece is left over
-    pub going-over : (p : Piece) (st′ : State) → step job l st ≡ leftOver p st′ → boards l (st .counts) ≡ boards l (st′ .counts) → Going job l whole fuel st′ left pieces buffer
-    going-over p st′ e b =
-        let k : Kept job l m (maxSteps - suc fuel) st′ = rw e at keeps in
+    pub going-over : Sided job → (p : Piece) (st′ : State) → step job l st ≡ leftOver p st′ → boards l (st .counts) ≡ boards l (st′ .counts) → Going job l whole fuel st′ left pieces buffer
+    going-over sided p st′ e b =
+        let k : Kept job l m (maxSteps - suc fuel) st′ = rw e at (keeps sided) in
         let n′ : length (st′ .counts) ≡ length (st .counts) = rw e at (step-length job l st) in
         let r = run-over job l st fuel p st′ e in
         record {

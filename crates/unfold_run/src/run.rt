@@ -60,6 +60,7 @@ impl Progress {
     fn advance(
         self,
         job: &[u16],
+        blade: u16,
         plates: &[u16],
         cuts: &[u16],
         k: CutNumber,
@@ -70,13 +71,14 @@ impl Progress {
     ) -> Advance
         requires { ⌜ ModelLent (now job) (now plates) (now cuts) (k .0) ⌝ }
         requires { ⌜ GoesOn (J (now job)) (L (now job)) lengths self (now counts) (now placements) (now offcuts) ⌝ }
+        requires { ⌜ blade ≡ J (now job) .blade ⌝ }
         ensures { λ r. ⌜ ((whole : Run) (os : List Offcut) (fuel : ℕ) → GoingAt (J (now (job .entry))) (L (now (job .entry))) lengths whole os (suc fuel) self (now (counts .entry)) (now (placements .entry)) (now (offcuts .entry)) → Advanced (J (now (job .entry))) (L (now (job .entry))) lengths whole os fuel self r (now (counts .exit)) (now (placements .exit)) (now (offcuts .exit))) ⌝ }
     {
         let state = self.state;
         let boards = self.boards;
         let pieces = self.pieces;
         let over = self.offcuts;
-        match state.step(job, plates, cuts, k, counts) {
+        match state.step(job, blade, plates, cuts, k, counts) {
             Step::Placed(item, next) => {
                 put_placement(placements, pieces, placement_of(item));
                 let plate = item.plate;
@@ -112,9 +114,10 @@ impl Progress {
     }
 }
 
-// The whole unfolding of counts that open a number of boards. Its offcuts are listed where the list is of full size; their number is given in any case.
+// The whole unfolding of counts that open a number of boards, with the job's blade. Its offcuts are listed where the list is of full size; their number is given in any case.
 pub fn run(
     job: &[u16],
+    blade: u16,
     plates: &[u16],
     cuts: &[u16],
     k: CutNumber,
@@ -129,6 +132,7 @@ pub fn run(
     requires { ⌜ (Holds (now placements) []) × (placementsSize ≤ length (now placements)) ⌝ }
     requires { ⌜ (length (started (J (now job)) (L (now job)) (now counts) .placements) ≤ maxPieces) × (length (startedOffcuts (J (now job)) (L (now job)) (now counts)) ≤ maxOffcuts) ⌝ }
     requires { ⌜ Holds (now offcuts) [] ⌝ }
+    requires { ⌜ blade ≡ J (now job) .blade ⌝ }
     ensures { λ r. ⌜ Gives lengths (started (J (now (job .entry))) (L (now (job .entry))) (now (counts .entry))) (startedOffcuts (J (now (job .entry))) (L (now (job .entry))) (now (counts .entry))) r (now (placements .exit)) (now (offcuts .exit)) ⌝ }
 {
     let mut at = Progress {
@@ -141,6 +145,7 @@ pub fn run(
     while 0 < fuel {
         let Advance::On(next) = at.advance(
             job,
+            blade,
             plates,
             cuts,
             k,

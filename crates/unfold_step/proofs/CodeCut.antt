@@ -5,7 +5,7 @@ use mathlib.Core.Path.{_≡_, _∙_, ap}
 use mathlib.Core.List.{List}
 use lib.ListN.{length, getD, length-append, length-replicate}
 use Rattle.job.specs.declared.item.Position.{Position}
-use Rattle.job.specs.Sizes.{maxSide, wordsOfPlate, wordsOfCut, jobSize, RecordIn}
+use Rattle.job.specs.Sizes.{maxSide, maxBlade, wordsOfPlate, wordsOfCut, jobSize, RecordIn}
 use Rattle.job.specs.Buffers.{filled}
 use Rattle.job.specs.Job.{Job, typeOf, positionAt, jobOf}
 use Rattle.job.proofs.Positions.{permitted-type}
@@ -91,25 +91,25 @@ module _ (ws plates cuts : List ℕ) (k : ℕ) (lent : ModelLent ws plates cuts 
           let i : r .plate .0 ≡ cutAt l c .plate = ap (λ (x : Cut). x .plate) (cut-is r e) in
           rw (n, i, ← cut-place l c (able .from-one), spent-at ns c (able .from-one)) (count-falls (onPlate 0) (l .cuts) ns (c - 1) (omega (arith, able .from-one, able .to-last)) (able .left))
 
-      module _ (item : Position) (f : item ≡ positionAt job (r .item .0)) where
+      module _ (item : Position) (f : item ≡ positionAt job (r .item .0)) (blade : ℕ) (b : blade ≡ job .blade) where
         item-is : item ≡ positionAt job (cutAt l c .item)
         item-is = f ∙ ap (λ (x : Cut). positionAt job (x .item)) (cut-is r e)
 
-        -- the item ends inside the board
-        pub across-small : p .x + item .width ≤ maxSide
-        across-small = omega (arith, rw (← item-is) at (item-across job l (lent .model) c is-cut p (able .on) (able .in-board)), lent .admitted .width-limits .1)
+        -- the item ends inside the board, and the blade past it at most 20 behind its edge
+        pub across-small : p .x + item .width + blade ≤ maxSide + maxBlade
+        across-small = omega (arith, rw (← item-is) at (item-across job l (lent .model) c is-cut p (able .on) (able .in-board)), lent .admitted .width-limits .1, lent .admitted .blade-limits .1)
 
-        pub up-small : p .y + item .height ≤ maxSide
-        up-small = omega (arith, rw (← item-is) at (item-up job l (lent .model) c is-cut p (able .on) (able .in-board)), lent .admitted .height-limits .1)
+        pub up-small : p .y + item .height + blade ≤ maxSide + maxBlade
+        up-small = omega (arith, rw (← item-is) at (item-up job l (lent .model) c is-cut p (able .on) (able .in-board)), lent .admitted .height-limits .1, lent .admitted .blade-limits .1)
 
         -- what the code makes is the step
         pub done-so :
             {ns′ : List ℕ} {here : Turn} {beside both : Waiting} (stage : ℕ) (turn : Turn) (first w : Waiting)
             → ns′ ≡ spent ns c
             → here ≡ nextTurn stage turn
-            → beside ≡ wait l (r .right .0) (p .x + item .width) (p .y) first
-            → both ≡ wait l (r .top .0) (p .x) (p .y + item .height) beside
+            → beside ≡ wait l (r .right .0) (p .x + item .width + blade) (p .y) first
+            → both ≡ wait l (r .top .0) (p .x) (p .y + item .height + blade) beside
             → placed (record { turn = here; item = r .item .0; x = p .x; y = p .y }) (record { counts = ns′; waiting = both; turn = here })
             ≡ done job l (record { counts = ns; waiting = w; turn = turn }) (taken p stage first) c
         unfolding done
-        done-so stage turn first w n t b d = rw (n, t, d, b, f, ← cut-is r e)
+        done-so stage turn first w n t right top = rw (n, t, top, right, b, f, ← cut-is r e)

@@ -7,11 +7,13 @@ use mathlib.Core.Option.{Option, none, some}
 use lib.Dec.{eqb}
 use Rattle.job.specs.declared.item.Position.{Position}
 use Rattle.job.specs.Job.{Job, positionAt}
+use Rattle.job.specs.Admitted.{Sided}
 use Rattle.listing.specs.declared.plate.Residuals.{Residuals}
 use Rattle.listing.specs.Listing.{Listing, plateAt, cutAt}
 use Rattle.listing.specs.Model.{Model, leftBy}
 use Rattle.listing.proofs.Plates.{may-cut}
 use Rattle.listing.proofs.Residuals.{leaves-by}
+use Rattle.listing.proofs.Kept.{kept-sides}
 use Rattle.layouts.specs.Placement.{Turn}
 use Rattle.layouts.specs.Unfold.{Piece, Waiting, State, search, Taken, highest, waitAt, wait, nextTurn, Step, placed, leftOver, idle, done, step}
 use Rattle.layouts.proofs.trees.Cuts.{IsCut, plateOf, cut-fits, top-number, right-number, number-kept}
@@ -21,11 +23,11 @@ use Rattle.unfold_waiting.specs.Turns.{TurnTo}
 use Rattle.unfold_step.specs.Ready.{InBoard, InSlot, Within}
 use Rattle.unfold_step.proofs.Steps.{step-by}
 
--- the residuals r of a plate at (x, y), from which an item is cut, end by (across, up)
-pub record Ends (x y across up : ℕ) (item : Position) (r : Residuals) : Type 0 where
+-- the residuals r of a plate at (x, y), from which an item is cut with a blade of width b, end by (across, up), where something is left past the blade
+pub record Ends (x y b across up : ℕ) (item : Position) (r : Residuals) : Type 0 where
   pub top-across : x + r .top .width ≤ across
-  pub top-up : y + item .height + r .top .height ≤ up
-  pub right-across : x + item .width + r .right .width ≤ across
+  pub top-up : 1 ≤ r .top .height → y + item .height + b + r .top .height ≤ up
+  pub right-across : 1 ≤ r .right .width → x + item .width + b + r .right .width ≤ across
   pub right-up : y + r .right .height ≤ up
 
 module _ (job : Job) (l : Listing) (m : Model job l) where
@@ -52,26 +54,27 @@ module _ (job : Job) (l : Listing) (m : Model job l) where
     item-up = omega (arith, ends-up, item-within .1)
 
     -- and so do its residuals
-    residuals-end : Ends (p .x) (p .y) (job .width) (job .height) item (leftBy job l (cutAt l c))
+    residuals-end : Ends (p .x) (p .y) (job .blade) (job .width) (job .height) item (leftBy job l (cutAt l c))
     residuals-end =
         let a = ends-across in
         let b = ends-up in
         let (u, v) = item-within in
-        leaves-by (job .mode) item (plateOf l c) (Ends (p .x) (p .y) (job .width) (job .height) item)
-        (λ _. record { top-across = omega arith; top-up = omega arith; right-across = omega arith; right-up = omega arith })
-        (λ _ _. record { top-across = omega arith; top-up = omega arith; right-across = omega arith; right-up = omega arith })
-        (λ _ _. record { top-across = omega arith; top-up = omega arith; right-across = omega arith; right-up = omega arith })
-        (λ _ _. record { top-across = omega arith; top-up = omega arith; right-across = omega arith; right-up = omega arith })
+        leaves-by (job .mode) (job .blade) item (plateOf l c) (Ends (p .x) (p .y) (job .blade) (job .width) (job .height) item)
+        (λ _. record { top-across = omega arith; top-up = λ h. omega arith; right-across = λ h. omega arith; right-up = omega arith })
+        (λ _ _. record { top-across = omega arith; top-up = λ h. omega arith; right-across = λ h. omega arith; right-up = omega arith })
+        (λ _ _. record { top-across = omega arith; top-up = λ h. omega arith; right-across = λ h. omega arith; right-up = omega arith })
+        (λ _ _. record { top-across = omega arith; top-up = λ h. omega arith; right-across = λ h. omega arith; right-up = omega arith })
 
-    pub top-in : 0 < cutAt l c .top → InBoard job l (piece (cutAt l c .top) (p .x) (p .y + item .height))
-    top-in h =
-        let (k, j, e) = number-kept job l m (leftBy job l (cutAt l c) .top) (cutAt l c .top) (top-number job l m c is) h in
-        record { listed = j; across = rw e (residuals-end .top-across); up = rw e (residuals-end .top-up) }
+    module _ (sided : Sided job) where
+      pub top-in : 0 < cutAt l c .top → InBoard job l (piece (cutAt l c .top) (p .x) (p .y + item .height + job .blade))
+      top-in h =
+          let (k, j, e) = number-kept job l m (leftBy job l (cutAt l c) .top) (cutAt l c .top) (top-number job l m c is) h in
+          record { listed = j; across = rw e (residuals-end .top-across); up = rw e (residuals-end .top-up (kept-sides job sided (leftBy job l (cutAt l c) .top) k .1)) }
 
-    pub right-in : 0 < cutAt l c .right → InBoard job l (piece (cutAt l c .right) (p .x + item .width) (p .y))
-    right-in h =
-        let (k, j, e) = number-kept job l m (leftBy job l (cutAt l c) .right) (cutAt l c .right) (right-number job l m c is) h in
-        record { listed = j; across = rw e (residuals-end .right-across); up = rw e (residuals-end .right-up) }
+      pub right-in : 0 < cutAt l c .right → InBoard job l (piece (cutAt l c .right) (p .x + item .width + job .blade) (p .y))
+      right-in h =
+          let (k, j, e) = number-kept job l m (leftBy job l (cutAt l c) .right) (cutAt l c .right) (right-number job l m c is) h in
+          record { listed = j; across = rw e (residuals-end .right-across (kept-sides job sided (leftBy job l (cutAt l c) .right) k .0)); up = rw e (residuals-end .right-up) }
 
   -- a residual that waits leaves the others where they are
   waitAt-in : (s : ℕ) (p : Piece) (w : Waiting) → InBoard job l p → Within job l w → Within job l (waitAt s p w)
@@ -123,7 +126,7 @@ module _ (job : Job) (l : Listing) (m : Model job l) where
   StepKeeps n (leftOver p st′) = Kept n st′
   StepKeeps n idle = Unit {0}
 
-  module _ (n : ℕ) (st : State) (w : Within job l (st .waiting)) (t : TurnTo n (st .turn)) where
+  module _ (sided : Sided job) (n : ℕ) (st : State) (w : Within job l (st .waiting)) (t : TurnTo n (st .turn)) where
     done-keeps : (u : Taken) → highest (st .waiting) ≡ some u → (k : ℕ) → search (u .piece .plate) 1 (l .cuts) (st .counts) ≡ some k → StepKeeps n (done job l st u k)
     unfolding done
     done-keeps u e k f =
@@ -134,7 +137,7 @@ module _ (job : Job) (l : Listing) (m : Model job l) where
         let x = u .piece .x in
         let y = u .piece .y in
         record {
-          within = wait-in (c .top) x (y + item .height) (wait l (c .right) (x + item .width) y (u .rest)) (top-in k is (u .piece) on i) (wait-in (c .right) (x + item .width) y (u .rest) (right-in k is (u .piece) on i) r);
+          within = wait-in (c .top) x (y + item .height + job .blade) (wait l (c .right) (x + item .width + job .blade) y (u .rest)) (top-in k is (u .piece) on i sided) (wait-in (c .right) (x + item .width + job .blade) y (u .rest) (right-in k is (u .piece) on i sided) r);
           turns = next-to n (u .stage) (st .turn) t;
         }
 

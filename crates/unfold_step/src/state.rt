@@ -69,10 +69,11 @@ impl State {
         }
     }
 
-    // Cut c is done on the piece p, of a stage, which waits no more: the item lies in its lower left corner, and kept residuals wait.
+    // Cut c is done on the piece p, of a stage, which waits no more: the item lies in its lower left corner, and kept residuals wait, each past the blade.
     fn cut(
         self,
         job: &[u16],
+        blade: u16,
         plates: &[u16],
         cuts: &[u16],
         k: CutNumber,
@@ -84,6 +85,7 @@ impl State {
         requires { ⌜ ModelLent (now job) (now plates) (now cuts) (k .0) ⌝ }
         requires { ⌜ Ready (J (now job)) (L (now job)) (stateOf self (now counts)) ⌝ }
         requires { ⌜ Cuttable (J (now job)) (L (now job)) (now counts) (c .0) (pieceOf p) ⌝ }
+        requires { ⌜ blade ≡ J (now job) .blade ⌝ }
         ensures { λ r. ⌜ stepMeans r (now (counts .exit)) ≡ done (J (now (job .entry))) (L (now (job .entry))) (stateOf self (now (counts .entry))) (taken (pieceOf p) stage (waitingOf (self .waiting))) (c .0) ⌝ }
         ensures { λ r. ⌜ now (counts .exit) ≡ spent (now (counts .entry)) (c .0) ⌝ }
         ensures { λ r. ⌜ boards (L (now (job .entry))) (now (counts .entry)) ≡ stepSpends r + boards (L (now (job .entry))) (now (counts .exit)) ⌝ }
@@ -97,8 +99,8 @@ impl State {
         let right = cut.right;
         let item = position_at(job, of);
         let here = turn.next(stage);
-        let beside = waiting.wait(plates, right, p.x + item.width, p.y);
-        let both = beside.wait(plates, top, p.x, p.y + item.height);
+        let beside = waiting.wait(plates, right, p.x + item.width + blade, p.y);
+        let both = beside.wait(plates, top, p.x, p.y + item.height + blade);
         let plate = cut.plate;
         Step::Placed(
             PlacedItem {
@@ -119,6 +121,7 @@ impl State {
     pub fn step(
         self,
         job: &[u16],
+        blade: u16,
         plates: &[u16],
         cuts: &[u16],
         k: CutNumber,
@@ -126,6 +129,7 @@ impl State {
     ) -> Step
         requires { ⌜ ModelLent (now job) (now plates) (now cuts) (k .0) ⌝ }
         requires { ⌜ Ready (J (now job)) (L (now job)) (stateOf self (now counts)) ⌝ }
+        requires { ⌜ blade ≡ J (now job) .blade ⌝ }
         ensures { λ r. ⌜ stepMeans r (now (counts .exit)) ≡ step (J (now (job .entry))) (L (now (job .entry))) (stateOf self (now (counts .entry))) ⌝ }
         ensures { λ r. ⌜ now (counts .exit) ≡ countsAfter (step (J (now (job .entry))) (L (now (job .entry))) (stateOf self (now (counts .entry)))) (now (counts .entry)) ⌝ }
         ensures { λ r. ⌜ boards (L (now (job .entry))) (now (counts .entry)) ≡ stepSpends r + boards (L (now (job .entry))) (now (counts .exit)) ⌝ }
@@ -145,6 +149,6 @@ impl State {
         let Found::Cut(c) = find_cut(cuts, k, counts, p.plate) else {
             return Step::LeftOver(p, rest);
         };
-        rest.cut(job, plates, cuts, k, c, counts, stage, p)
+        rest.cut(job, blade, plates, cuts, k, c, counts, stage, p)
     }
 }

@@ -24,7 +24,7 @@ svg { max-width: 100%; height: auto }
 /// The files of a drawing: a picture for each board, and the page.
 pub fn page(job: &Job, answer: &Answer, remains: &Remains) -> Vec<(String, String)> {
     let drawing = Drawing::of(job);
-    let titles = titles(answer, remains);
+    let titles = titles(job, answer);
     let mut files = Vec::new();
     let mut page = String::from(HEAD);
     let _ = writeln!(
@@ -35,10 +35,12 @@ pub fn page(job: &Job, answer: &Answer, remains: &Remains) -> Vec<(String, Strin
     let [width, height] = drawing.size();
     let boards = titles.iter().zip(&answer.boards).zip(&remains.boards);
     for (number, ((title, placements), rest)) in (1..).zip(boards) {
+        let shares = shares(&rest.areas);
         let board = Board {
-            title,
+            title: [title, &shares],
             placements,
             offcuts: &rest.offcuts,
+            swath: &rest.swath,
         };
         let size = format!("contain-intrinsic-size: {width:.0}px {height:.0}px");
         let _ = writeln!(page, "<figure id=\"board-{number}\" style=\"{size}\">");
@@ -51,13 +53,13 @@ pub fn page(job: &Job, answer: &Answer, remains: &Remains) -> Vec<(String, Strin
     files
 }
 
-/// The title of each board: its pieces, what becomes of its area, and the first board that is laid
-/// out alike.
-fn titles(answer: &Answer, remains: &Remains) -> Vec<String> {
+/// The title of each board: its pieces, the blade, and the first board that is laid out alike.
+fn titles(job: &Job, answer: &Answer) -> Vec<String> {
     let boards = answer.boards.len();
     let mut first: HashMap<&[Placement], usize> = HashMap::new();
     let mut titles = Vec::new();
-    for (number, (placements, rest)) in (1..).zip(answer.boards.iter().zip(&remains.boards)) {
+    let blade = job.blade;
+    for (number, placements) in (1..).zip(&answer.boards) {
         let alike = *first.entry(placements).or_insert(number);
         let alike = if alike < number {
             format!("; as board {alike}")
@@ -65,9 +67,8 @@ fn titles(answer: &Answer, remains: &Remains) -> Vec<String> {
             String::new()
         };
         let pieces = counted(placements.len(), "piece");
-        let areas = shares(&rest.areas);
         titles.push(format!(
-            "Board {number} of {boards}: {pieces}; {areas}{alike}"
+            "Board {number} of {boards}: {pieces}; blade {blade} mm{alike}"
         ));
     }
     titles
@@ -77,10 +78,11 @@ fn titles(answer: &Answer, remains: &Remains) -> Vec<String> {
 fn shares(areas: &Balance) -> String {
     let share = |part: u64| percent(part, areas.whole());
     format!(
-        "yield {}, offcuts {}, waste {}",
+        "yield {}, offcuts {}, waste {}, swath {}",
         share(areas.items),
         share(areas.offcuts),
-        share(areas.waste)
+        share(areas.waste),
+        share(areas.swath)
     )
 }
 
@@ -100,10 +102,11 @@ fn summary(page: &mut String, job: &Job, answer: &Answer, remains: &Remains) {
     let boards = counted(answer.boards.len(), "board");
     let _ = writeln!(
         page,
-        "<h1>{boards} of {} by {} mm, mode {}</h1>",
+        "<h1>{boards} of {} by {} mm, mode {}, blade {} mm</h1>",
         job.width,
         job.height,
-        job.mode()
+        job.mode(),
+        job.blade
     );
     let pieces = counted(answer.pieces(), "piece");
     let _ = writeln!(
@@ -114,7 +117,9 @@ fn summary(page: &mut String, job: &Job, answer: &Answer, remains: &Remains) {
     page.push_str(
         "Red lines are the edges of strips, dashed ones those of stacks; \
          the number beside a strip is its height. A dark corner marks a turned item. \
-         Offcuts are shaded, usable ones darker and with their sides; waste is hatched.</p>\n",
+         Offcuts are shaded, usable ones darker and with their sides; waste is hatched. \
+         Brown bands, to scale, are the swath of the blade: what it takes between pieces, a loss \
+         beside the waste.</p>\n",
     );
     let _ = writeln!(page, "<p>{}</p>", bound(answer));
     table(page, job, answer);

@@ -1,12 +1,13 @@
 //! A board as an SVG picture: items with type and size, offcuts shaded, the usable ones with their
-//! size, waste hatched, the edges of strips and stacks as lines, the sides of the board and the heights
-//! of strips beside it. Letters that do not fit are left out; each item and each offcut also carries its
-//! data as a title, which browsers show under the pointer.
+//! size, waste hatched, the swath of the blade as bands to scale, the edges of strips and stacks as
+//! lines, the sides of the board and the heights of strips beside it. Letters that do not fit are left
+//! out; each item, each offcut and each band also carries its data as a title, which browsers show
+//! under the pointer.
 
 use super::label::{self, Area};
 use crate::answer::Placement;
 use crate::job::Job;
-use crate::remains::Offcut;
+use crate::remains::{Band, Offcut};
 use std::collections::BTreeMap;
 use std::fmt::Write;
 
@@ -17,9 +18,11 @@ const LEAST: f64 = 90.0;
 /// Room around the board: left for its height, above for the title, right for the strips' heights,
 /// below for its width.
 const LEFT: f64 = 30.0;
-const ABOVE: f64 = 30.0;
+const ABOVE: f64 = 48.0;
 const RIGHT: f64 = 60.0;
 const BELOW: f64 = 26.0;
+/// The least width of a picture beside its margins: the lines above the board fit into it.
+const TITLE: f64 = 430.0;
 /// The width beside a board that holds one upright line of text, and no level one.
 const UPRIGHT: f64 = 24.0;
 
@@ -33,10 +36,11 @@ pub const STYLE: &str = "<style>
 .board .offcut { fill: #f2f7ee; stroke: #7a9a6a; stroke-width: 1; stroke-dasharray: 2 2 }
 .board .usable { fill: #cfe6bf }
 .board .item { stroke: #333; stroke-width: 1 }
+.board .swath { fill: #a8784a }
 .board .turned { fill: #333 }
 .board .strip { stroke: #b00020; stroke-width: 2 }
 .board .stack { stroke: #b00020; stroke-width: 1; stroke-dasharray: 5 3 }
-.board .title { text-anchor: start; font-weight: bold }
+.board .title { text-anchor: start }
 </style>
 <defs><pattern id=\"hatching\" width=\"8\" height=\"8\" patternUnits=\"userSpaceOnUse\">
 <rect width=\"8\" height=\"8\" fill=\"#f4f4f4\"/>
@@ -44,11 +48,13 @@ pub const STYLE: &str = "<style>
 </pattern></defs>
 ";
 
-/// What is drawn of a board: its title, its items and its offcuts.
+/// What is drawn of a board: its title and the line below it, its items, its offcuts and the bands of
+/// its swath.
 pub struct Board<'a> {
-    pub title: &'a str,
+    pub title: [&'a str; 2],
     pub placements: &'a [Placement],
     pub offcuts: &'a [Offcut],
+    pub swath: &'a [Band],
 }
 
 /// A strip or stack: where it begins and ends across, and upwards.
@@ -95,6 +101,9 @@ impl<'a> Drawing<'a> {
             self.item(&mut out, placement);
         }
         self.edges(&mut out, board.placements);
+        for band in board.swath {
+            self.band(&mut out, band);
+        }
         self.sides(&mut out, board.title);
         out.push_str("</svg>\n");
         out
@@ -106,7 +115,7 @@ impl<'a> Drawing<'a> {
             self.job.width as f64 * self.scale[0],
             self.job.height as f64 * self.scale[1],
         ];
-        [LEFT + width.max(360.0) + RIGHT, ABOVE + height + BELOW]
+        [LEFT + width.max(TITLE) + RIGHT, ABOVE + height + BELOW]
     }
 
     /// The part of the picture that millimetres of the board take; y runs upwards on the board.
@@ -159,6 +168,24 @@ impl<'a> Drawing<'a> {
         if usable {
             label::write(out, self.area(span), &[size]);
         }
+    }
+
+    /// A band of the swath, to scale, with the width of the blade where there is room for it.
+    fn band(&self, out: &mut String, band: &Band) {
+        let Band {
+            x,
+            y,
+            width,
+            height,
+        } = *band;
+        let span = Span {
+            x: [x, x + width],
+            y: [y, y + height],
+        };
+        let blade = self.job.blade;
+        let title = format!("swath of the blade of {blade}, {width} × {height}, at x {x}, y {y}");
+        out.push_str(&self.rectangle(span, "class=\"swath\"", &title));
+        label::write(out, self.area(span), &[format!("blade {blade}")]);
     }
 
     /// An item with its type, and its size as it lies; a turned one has a dark corner.
@@ -270,15 +297,17 @@ impl<'a> Drawing<'a> {
         format!("<line class=\"{class}\" x1=\"{x:.1}\" y1=\"{y:.1}\" x2=\"{right:.1}\" y2=\"{low:.1}\"/>\n")
     }
 
-    /// The title above the board, its width below it and its height left of it.
-    fn sides(&self, out: &mut String, title: &str) {
+    /// The title above the board and the line below that, its width below it and its height left of it.
+    fn sides(&self, out: &mut String, [title, below_it]: [&str; 2]) {
         let board = self.area(Span {
             x: [0, self.job.width],
             y: [0, self.job.height],
         });
         let _ = writeln!(
             out,
-            "<text class=\"title\" x=\"{LEFT}\" y=\"{:.1}\" font-size=\"14\">{title}</text>",
+            "<text class=\"title\" x=\"{LEFT}\" y=\"{:.1}\" font-size=\"14\" font-weight=\"bold\">{title}</text>\n\
+             <text class=\"title\" x=\"{LEFT}\" y=\"{:.1}\" font-size=\"13\">{below_it}</text>",
+            ABOVE - 28.0,
             ABOVE - 10.0
         );
         let below = Area {

@@ -3,7 +3,7 @@
 use super::*;
 use crate::answer::Answer;
 use crate::columns::line;
-use crate::job::tests::{job, job_a, job_with_leave};
+use crate::job::tests::{job, job_a, job_with_blade, job_with_leave};
 use crate::job::Job;
 use crate::remains::{Remains, LEAST};
 
@@ -26,16 +26,44 @@ fn job_a_is_drawn() {
     assert_eq!(board.matches("class=\"strip\"").count(), 1);
     assert_eq!(board.matches("class=\"stack\"").count(), 4);
     assert!(board.contains("type 1, 5 × 4, at x 0, y 0"));
-    let title = "Board 1 of 2: 4 pieces; yield 74.6 %, offcuts 14.3 %, waste 11.1 %";
-    assert!(board.contains(title));
-    assert!(files[1]
-        .1
-        .contains("1 piece; yield 31.7 %, offcuts 68.3 %, waste 0.0 %"));
+    assert!(board.contains(">Board 1 of 2: 4 pieces; blade 0 mm</text>"));
+    let shares = ">yield 74.6 %, offcuts 14.3 %, waste 11.1 %, swath 0.0 %</text>";
+    assert!(board.contains(shares));
+    assert!(!board.contains("class=\"swath\""));
+    let shares = ">yield 31.7 %, offcuts 68.3 %, waste 0.0 %, swath 0.0 %</text>";
+    assert!(files[1].1.contains("1 piece; blade") && files[1].1.contains(shares));
     let page = &files[2].1;
     assert_eq!(page.matches("<figure").count(), 2);
     assert_eq!(page.matches("id=\"hatching\"").count(), 1);
     assert!(page.contains("No plan needs fewer boards"));
-    assert!(page.contains("of the boards' area: yield 53.2 %, offcuts 41.3 %, waste 5.6 %."));
+    let shares = "yield 53.2 %, offcuts 41.3 %, waste 5.6 %, swath 0.0 %.";
+    assert!(page.contains(&format!("of the boards' area: {shares}")));
+    assert!(page.contains("<h1>2 boards of 9 by 7 mm, mode 2N, blade 0 mm</h1>"));
+}
+
+#[test]
+fn the_swath_is_drawn_to_scale_and_the_blade_named() {
+    let job = job_with_blade("2N", [20, 10], 2, &[[8, 9, 1], [8, 6, 1]]);
+    let output = "7 1 1 1 1 1 0 0 0\n7 1 1 2 1 2 10 0 0\n8 1 0 1 0\n";
+    let files = drawn(&job, output, LEAST);
+    let [board, page] = [0, 1].map(|file: usize| &files[file].1);
+    // 45 to a millimetre: the board is 900 wide and 450 high, and begins at 30 and 48.
+    for rectangle in [
+        "x=\"30.0\" y=\"48.0\" width=\"900.0\" height=\"45.0\" class=\"swath\"",
+        "x=\"390.0\" y=\"93.0\" width=\"90.0\" height=\"405.0\" class=\"swath\"",
+        "x=\"840.0\" y=\"228.0\" width=\"90.0\" height=\"270.0\" class=\"swath\"",
+    ] {
+        assert_eq!(board.matches(rectangle).count(), 1, "{rectangle}");
+    }
+    assert_eq!(board.matches("class=\"swath\"").count(), 3);
+    assert_eq!(board.matches(">blade 2</tspan>").count(), 3);
+    let title = "<title>swath of the blade of 2, 2 × 9, at x 8, y 0</title>";
+    assert!(board.contains(title));
+    assert!(board.contains(">Board 1 of 1: 2 pieces; blade 2 mm</text>"));
+    let shares = "yield 60.0 %, offcuts 0.0 %, waste 15.0 %, swath 25.0 %";
+    assert!(board.contains(shares) && page.contains(&format!("area: {shares}.")));
+    assert!(page.contains("mode 2N, blade 2 mm</h1>"));
+    assert!(page.contains("Brown bands, to scale, are the swath of the blade"));
 }
 
 #[test]
@@ -145,5 +173,5 @@ fn eight_thousand_offcuts_are_drawn() {
     assert_eq!(page.matches("class=\"offcut usable\"").count(), 4000);
     assert_eq!(page.matches("class=\"offcut\"").count(), 4000);
     assert!(page.contains("8,000 offcuts, 4,000 usable"));
-    assert!(page.contains("yield 25.0 %, offcuts 75.0 %, waste 0.0 %"));
+    assert!(page.contains("yield 25.0 %, offcuts 75.0 %, waste 0.0 %, swath 0.0 %"));
 }

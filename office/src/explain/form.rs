@@ -7,7 +7,7 @@ use crate::columns::{group, thousands, COLUMNS};
 /// The numbers of a line of this kind, the kind first.
 const KINDS: [&[&str]; 8] = [
     &[],
-    &["1", "stages", "exact", "W", "H", "n"],
+    &["1", "stages", "exact", "W", "H", "n", "b"],
     &["2", "type", "width", "height", "demand", "leave"],
     &["3", "plate", "item", "count", "turn"],
     &["4", "D", "n", "m"],
@@ -25,6 +25,7 @@ fn limits(kind: usize, name: &str, types: usize) -> Option<[usize; 2]> {
         "exact" | "leave" | "turn" => [0, 1],
         "W" | "H" | "width" | "height" => [1, 10_000],
         "n" => [1, 40],
+        "b" => [0, 20],
         "demand" | "count" | "board" | "strip" | "stack" | "place" => [1, 4_000],
         "plate" | "m" => [0, 2_047],
         "D" => [1, 9_999],

@@ -46,7 +46,7 @@ pub fn demands(sent: &Sent) -> Option<Told> {
 /// Refusal 2, place 0, which no text meets: it is given for what the controller passes besides.
 pub fn passed() -> Told {
     let fault = "one of the two lengths from which an offcut is usable, \
-                 or the board as the controller passed it, is outside its limits";
+                 or the board or the blade as the controller passed it, is outside its limits";
     let cure = "No text causes this: set both lengths from 1 to 10,000; \
                 if it stays, tell the controller's engineers";
     Told::new("place 0", fault, cure)

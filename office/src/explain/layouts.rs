@@ -1,4 +1,5 @@
-//! Refusals 15 to 18: the layouts of a fold text. Items are measured as they lie.
+//! Refusals 15 to 18: the layouts of a fold text. Items are measured as they lie, with the blade between
+//! neighbours.
 
 use super::sent::Sent;
 use super::Told;
@@ -60,9 +61,9 @@ impl Strip {
         Strip { stacks }
     }
 
-    /// The heights of the stacks: sums of their items' heights.
+    /// The heights of the stacks: their items' heights and the blade between them.
     fn heights(&self, job: &Job) -> Vec<usize> {
-        let height = |stack: &Vec<Row>| stack.iter().map(|row| row.height(job)).sum();
+        let height = |stack: &Vec<Row>| together(job, stack.iter().map(|row| row.height(job)));
         self.stacks.iter().map(height).collect()
     }
 
@@ -78,6 +79,25 @@ impl Strip {
     }
 }
 
+/// Lengths in a row and the blade between them.
+fn together(job: &Job, lengths: impl Iterator<Item = usize>) -> usize {
+    let row = lengths.reduce(|row, length| row + job.blade + length);
+    row.unwrap_or(0)
+}
+
+/// Lengths in a row and the blade after each of them.
+fn before(job: &Job, lengths: impl Iterator<Item = usize>) -> usize {
+    lengths.map(|length| length + job.blade).sum()
+}
+
+/// The blade between neighbours in words, if it has a width.
+fn with_blade(job: &Job) -> String {
+    match job.blade {
+        0 => String::new(),
+        blade => format!(" with a blade of {blade} between them"),
+    }
+}
+
 /// The rows, the job, and the row on a line, with its board and strip.
 fn at(sent: &Sent, line: usize) -> Option<(Vec<Row>, Job, Row)> {
     let rows = rows(sent);
@@ -85,11 +105,10 @@ fn at(sent: &Sent, line: usize) -> Option<(Vec<Row>, Job, Row)> {
     Some((rows, sent.job()?, row))
 }
 
-/// The heights of the strips below a strip of a board.
+/// Where a strip of a board begins: the heights of the strips below it, the blade after each.
 fn below(rows: &[Row], job: &Job, board: usize, strip: usize) -> usize {
-    (1..strip)
-        .map(|lower| Strip::of(rows, board, lower).height(job))
-        .sum()
+    let lower = (1..strip).map(|lower| Strip::of(rows, board, lower).height(job));
+    before(job, lower)
 }
 
 /// Refusal 15.
@@ -167,11 +186,12 @@ pub fn past_board(sent: &Sent, line: usize) -> Option<Told> {
     let (rows, job, row) = at(sent, line)?;
     let [board, number, ..] = row.turn;
     let strip = Strip::of(&rows, board, number);
-    let across: usize = strip.widths(&job).iter().sum();
+    let across = together(&job, strip.widths(&job).into_iter());
     let upwards = below(&rows, &job, board, number) + strip.height(&job);
     let fault = match (across > job.width, upwards > job.height) {
         (true, _) => format!(
-            "its stacks are {across} wide together, the board {}",
+            "its stacks are {across} wide together{}, the board {}",
+            with_blade(&job),
             job.width
         ),
         (false, true) => format!("it reaches up to {upwards}, the board to {}", job.height),
@@ -186,21 +206,27 @@ pub fn position(sent: &Sent, line: usize) -> Option<Told> {
     let (rows, job, row) = at(sent, line)?;
     let [board, number, stack, _] = row.turn;
     let strip = Strip::of(&rows, board, number);
-    let x: usize = strip.widths(&job).iter().take(stack - 1).sum();
+    let x = before(&job, strip.widths(&job).into_iter().take(stack - 1));
     let lower = strip
         .stacks
         .get(stack - 1)?
         .iter()
         .take_while(|lower| lower.line < line);
-    let y =
-        below(&rows, &job, board, number) + lower.map(|lower| lower.height(&job)).sum::<usize>();
+    let lower = before(&job, lower.map(|lower| lower.height(&job)));
+    let y = below(&rows, &job, board, number) + lower;
     (row.at != [x, y]).then(|| {
         let fault = format!(
             "x and y are {} and {}, the item's position is {x} and {y}",
             row.at[0], row.at[1]
         );
-        let cure = "x is the widths of the stacks before it; \
-                    y the strips below plus the items below it in its stack";
+        let blade = match job.blade {
+            0 => String::new(),
+            blade => format!(", and {blade} for the blade after each of them"),
+        };
+        let cure = format!(
+            "x is the widths of the stacks before it; \
+             y the strips below plus the items below it in its stack{blade}"
+        );
         Told::new(format!("line {line}"), fault, cure)
     })
 }

@@ -3,7 +3,7 @@
 use super::explain;
 use crate::answer::refusal;
 use crate::columns::line;
-use crate::job::tests::{job, job_a, job_with_leave};
+use crate::job::tests::{job, job_a, job_with_blade, job_with_leave};
 
 /// Job A and these lines.
 fn text(lines: &[&[usize]]) -> String {
@@ -40,8 +40,9 @@ fn lines_not_of_the_form() {
     let whole = text(&[&[3, 0, 1, 2, 0]]);
     let line_2 = &line(&[2, 1, 5, 4, 2, 0]);
     check(&[
-        (String::new(), "Refusal 1, line 1: the text ends before it. Write there \"1, stages, exact, W, H, n\"."),
-        (line(&[1, 2, 0, 9, 7, 2]), "line 2: the text ends before it. Write there \"2, 1, width"),
+        (String::new(), "Refusal 1, line 1: the text ends before it. Write there \"1, stages, exact, W, H, n, b\"."),
+        (line(&[1, 2, 0, 9, 7, 2, 0]), "line 2: the text ends before it. Write there \"2, 1, width"),
+        (line(&[1, 2, 0, 9, 7, 2]), "line 1: it has 54 columns; 7 numbers take 63. Write there \"1, stages, exact, W, H, n, b\"."),
         (whole.replace('\n', "\r\n"), "line 1: it ends with byte 13"),
         (whole.replacen("        3", "\t3", 1), "a tab stands in column 1"),
         (whole.replacen("        5", "      -5", 1), "\"-\" stands in column"),
@@ -79,10 +80,14 @@ fn a_text_sent_to_the_other_program() {
 fn values_outside_their_limits() {
     check(&[
         (
-            line(&[1, 4, 0, 9, 7, 2]),
+            line(&[1, 4, 0, 9, 7, 2, 0]),
             "Refusal 2, line 1: stages is 4, outside its limits. Write stages from 2 to 3.",
         ),
-        (line(&[1, 2, 0, 9, 10_001, 2]), "H is 10,001"),
+        (line(&[1, 2, 0, 9, 10_001, 2, 0]), "H is 10,001"),
+        (
+            line(&[1, 2, 0, 9, 7, 2, 21]),
+            "Refusal 2, line 1: b is 21, outside its limits. Write b from 0 to 20.",
+        ),
         (
             text(&[&[3, 0, 3, 1, 0]]),
             "line 4: item is 3, outside its limits. Write item from 1 to 2",
@@ -247,6 +252,48 @@ fn layouts() {
             "Refusal 11, item type 1: it lies on the boards 1 times",
         ),
         (fold(job_a(), &many), "Refusal 2, line 4004: board is 4,001"),
+    ]);
+}
+
+#[test]
+fn layouts_with_a_blade() {
+    let blade = |board| job_with_blade("2N", board, 2, &[[5, 4, 2], [3, 3, 3]]);
+    let beside = [1, 1, 2, 1, 1, 7, 0, 0];
+    let across = fold(blade([11, 7]), &[FIRST, beside]);
+    let upwards = fold(blade([12, 9]), &[FIRST, [1, 2, 1, 1, 1, 0, 6, 0]]);
+    let near = fold(blade([12, 10]), &[FIRST, [1, 1, 2, 1, 1, 6, 0, 0]]);
+    let three = job_with_blade("3N", [20, 20], 2, &[[4, 8, 1], [4, 4, 2]]);
+    let stack = fold(
+        three,
+        &[FIRST, [1, 1, 2, 1, 2, 6, 0, 0], [1, 1, 2, 2, 2, 6, 6, 0]],
+    );
+    let post = job_with_blade("3N", [20, 20], 2, &[[4, 12, 1], [4, 4, 2]]);
+    let high = fold(
+        post,
+        &[FIRST, [1, 1, 2, 1, 2, 6, 0, 0], [1, 1, 2, 2, 2, 6, 5, 0]],
+    );
+    check(&[
+        (
+            across,
+            "its stacks are 12 wide together with a blade of 2 between them, the board 11",
+        ),
+        (
+            upwards,
+            "Refusal 17, strip from line 5: it reaches up to 10, the board to 9",
+        ),
+        (
+            near,
+            "x and y are 6 and 0, the item's position is 7 and 0",
+        ),
+        (
+            stack,
+            "no stack of the strip is a single item of the strip's height, 10",
+        ),
+        (
+            high,
+            "the item's position is 6 and 6. x is the widths of the stacks before it; y the strips \
+             below plus the items below it in its stack, and 2 for the blade after each of them",
+        ),
     ]);
 }
 

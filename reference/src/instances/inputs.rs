@@ -49,16 +49,18 @@ impl Inputs {
     }
 }
 
-/// Prices by area: the board's area is D, or 9,999 if it is larger, and each area is measured by
-/// that and rounded down. Areas cut from a plate add up to at most the plate's, and rounded-down
-/// parts to at most the rounded-down whole, so that the list is accepted.
+/// Prices by area, each side taken with the blade: the board's area is D, or 9,999 if it is larger,
+/// and each area is measured by that and rounded down. Sides with the blade cut from a side with the
+/// blade add up to at most that, so areas cut from a plate to at most the plate's, and rounded-down
+/// parts to at most the rounded-down whole: the list is accepted.
 pub fn area_prices(job: &Job, listing: &Listing) -> Prices {
-    let board = u64::from(job.width) * u64::from(job.height);
-    let denominator = board.min(u64::from(*DENOMINATOR.end()));
-    let price = |width: u16, height: u16| {
-        let area = u64::from(width) * u64::from(height);
-        (area * denominator / board) as u16
+    let area = |width: u16, height: u16| {
+        let [width, height] = [width, height].map(|side| u64::from(side + job.blade));
+        width * height
     };
+    let board = area(job.width, job.height);
+    let denominator = board.min(u64::from(*DENOMINATOR.end()));
+    let price = |width: u16, height: u16| (area(width, height) * denominator / board) as u16;
     let residuals = listing.plates[1..].iter();
     Prices {
         denominator: denominator as u16,

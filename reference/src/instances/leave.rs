@@ -74,7 +74,7 @@ impl Change {
     fn add(&mut self, instance: &Instance, board: [u16; 2]) {
         let mut past = Vec::new();
         for mode in Mode::ALL {
-            let cuts = |leave| cuts(&job_words_with(instance, board, mode, leave));
+            let cuts = |leave| cuts(&job_words_with(instance, board, mode, leave, 0));
             match [cuts(0), cuts(1)] {
                 [Ok(without), Ok(with)] => {
                     self.listed = self.listed.map(|listed| listed + 1);

@@ -1,8 +1,8 @@
-//! Jobs at the limits of document 01 and one past them, as they lie in `data/limits/`, with the
-//! answers expected.
+//! Jobs at the limits of document 01 and of the blade, and one past them, as they lie in
+//! `data/limits/`, with the answers expected.
 
 use super::read::{lines, numbers, Instance};
-use super::{job_words, NamedJob};
+use super::{job_words_with, NamedJob};
 use crate::calls::Listed;
 use crate::listing::Limits;
 use crate::mode::Mode;
@@ -26,12 +26,13 @@ pub const NONE: Limits = Limits {
     cuts: 60_000,
 };
 
-const TEXTS: [&str; 5] = [
+const TEXTS: [&str; 6] = [
     include_str!("../../../data/limits/plate-types.txt"),
     include_str!("../../../data/limits/cuts.txt"),
     include_str!("../../../data/limits/both.txt"),
     include_str!("../../../data/limits/first-met.txt"),
     include_str!("../../../data/limits/numbers.txt"),
+    include_str!("../../../data/limits/blade.txt"),
 ];
 
 /// All jobs at the limits and past them.
@@ -44,6 +45,7 @@ pub fn limit_jobs() -> Vec<LimitJob> {
 struct Lines {
     instance: Instance,
     mode: Option<Mode>,
+    blade: u16,
     listing: Option<[u32; 2]>,
     plan: Option<[u32; 2]>,
     refusal: Option<[u32; 2]>,
@@ -61,6 +63,7 @@ fn read(text: &str) -> Vec<LimitJob> {
         match keyword {
             "job" => last.instance.name = rest.to_string(),
             "mode" => last.mode = Mode::ALL.into_iter().find(|mode| mode.name() == rest),
+            "blade" => [last.blade] = numbers(rest),
             "board" => last.instance.objects.push(numbers(rest)),
             "item" => last.instance.items.push(numbers(rest)),
             "listing" => last.listing = Some(numbers(rest)),
@@ -81,7 +84,7 @@ impl Lines {
         let mode = self.mode.expect("a job has a mode");
         LimitJob {
             job: NamedJob {
-                words: job_words(&self.instance, board, mode),
+                words: job_words_with(&self.instance, board, mode, 0, self.blade),
                 name: format!("limits {}", self.instance.name),
             },
             listed: self.listing.map(listed).ok_or(Refusal { number, place }),

@@ -2,6 +2,7 @@
 //! with names; and what the five calls need to be run on each of them.
 
 pub mod areas;
+pub mod blade;
 pub mod inputs;
 pub mod leave;
 pub mod limit_jobs;
@@ -87,22 +88,23 @@ pub fn sources() -> Vec<Source> {
     all
 }
 
-/// The job of an instance on one of its boards in a mode. The tables have no leave to turn, so
-/// that no type has it.
+/// The job of an instance on one of its boards in a mode. The tables have no leave to turn and no
+/// blade, so that no type has leave and the blade has no width.
 pub fn job_words(instance: &Instance, board: [u16; 2], mode: Mode) -> Vec<u16> {
-    job_words_with(instance, board, mode, 0)
+    job_words_with(instance, board, mode, 0, 0)
 }
 
-/// The same, with leave 1 or 0 for every type.
+/// The same, with leave 1 or 0 for every type, and with a blade.
 pub fn job_words_with(
     instance: &Instance,
     [width, height]: [u16; 2],
     mode: Mode,
     leave: u16,
+    blade: u16,
 ) -> Vec<u16> {
     let [stages, exact] = mode.numbers();
     let types = instance.items.len() as u16;
-    let mut words = vec![stages, exact, width, height, types];
+    let mut words = vec![stages, exact, width, height, types, blade];
     for &[width, height, demand] in &instance.items {
         words.extend([width, height, demand, leave]);
     }

@@ -2,6 +2,7 @@
 //! published instance.
 
 use super::areas;
+use super::blade;
 use super::inputs::Inputs;
 use super::leave;
 use super::limit_jobs::limit_jobs;
@@ -50,6 +51,7 @@ pub fn documents() -> [Document; 2] {
     let sources: Vec<&Source> = tables.iter().map(|(source, _)| source).collect();
     first.push_str(&areas::section(&sources));
     first.push_str(&leave::section(&sources));
+    first.push_str(&blade::section(&sources));
     first.push_str(&limits());
     [("INSTANCES.md", first), ("INSTANCES-004.md", second)]
         .map(|(name, text)| Document { name, text })
@@ -136,8 +138,8 @@ fn limits() -> String {
 
 From [data/limits](../data/limits/README.md). Listing: residual types and cuts; for a refusal, what the walk would reach without limits.
 
-| job | board | types | listing | boards, pieces of a plan |
-|---|---|--:|---|---|
+| job | board | types | b | listing | boards, pieces of a plan |
+|---|---|--:|--:|---|---|
 "
     .to_string();
     for limit in limit_jobs() {
@@ -153,11 +155,12 @@ From [data/limits](../data/limits/README.md). Listing: residual types and cuts; 
         });
         writeln!(
             text,
-            "| {} | {} by {} | {} | {listing} | {plan} |",
+            "| {} | {} by {} | {} | {} | {listing} | {plan} |",
             limit.job.name.trim_start_matches("limits "),
             words[2],
             words[3],
             words[4],
+            words[5],
         )
         .expect("a string takes all text");
     }

@@ -2,7 +2,7 @@
 
 use super::inputs::Inputs;
 use crate::columns::write_line;
-use crate::job::{Job, ITEM_NUMBERS};
+use crate::job::{Job, HEAD_NUMBERS, ITEM_NUMBERS};
 use crate::layout::PLACEMENT_NUMBERS;
 use crate::listing::{Listing, FULL};
 use crate::refusal::Refusal;
@@ -32,7 +32,7 @@ pub fn fold_text(job: &[u16], inputs: &Inputs) -> Vec<u8> {
 
 /// Lines of kinds 1 and 2.
 fn job_lines(job: &[u16]) -> Vec<u8> {
-    let (head, items) = job.split_at(5);
+    let (head, items) = job.split_at(HEAD_NUMBERS);
     let mut text = Vec::new();
     write_words(&mut text, 1, head);
     for (number, item) in (1..).zip(items.chunks(ITEM_NUMBERS)) {

@@ -17,7 +17,7 @@ use reference::listing::FULL;
 use reference::{fold_text, saw_text, Job, Listing, Refusal};
 
 /// A random job, and the same with a board or demands that the job row refuses, or with a type's
-/// leave changed, now and then.
+/// leave or the blade changed, now and then.
 fn random_faulty_job(random: &mut Random) -> (Job, Job) {
     let good = random_job(random);
     let mut faulty = good.clone();
@@ -30,6 +30,9 @@ fn random_faulty_job(random: &mut Random) -> (Job, Job) {
     }
     if random.once_in(6) {
         faulty.items[0].leave ^= true;
+    }
+    if random.once_in(8) {
+        faulty.blade = random.between(0, 4);
     }
     (good, faulty)
 }
@@ -87,7 +90,7 @@ fn saw_answer(
 ) -> Result<Vec<u8>, Refusal> {
     let first = u32::from(words[4]) + 2;
     let without_leave = lines.iter().position(|&[_, word, _]| {
-        let item = &words[4 * usize::from(word / 2) + 1..][..4];
+        let item = &words[4 * usize::from(word / 2) + 2..][..4];
         word % 2 == 1 && (item[3] == 0 || item[0] == item[1])
     });
     if let Some(index) = without_leave {

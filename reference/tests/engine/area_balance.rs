@@ -1,7 +1,7 @@
-//! The area balance on random jobs: of every accepted plan the items, offcuts and waste of each
-//! board make the board; where offcuts lie, and how many there are (document 02, Two).
+//! The area balance on random jobs: of every accepted plan the items, offcuts, waste and swath of
+//! each board make the board; where offcuts lie, and how many there are (document 02, Two and Four).
 
-use crate::common::jobs::{random_job_in, random_large_job, words_of};
+use crate::common::jobs::{random_blade_job_in, random_job_in, random_large_job, words_of};
 use crate::common::lent::Lent;
 use crate::common::parts::{self, Part};
 use crate::common::plain;
@@ -68,24 +68,34 @@ fn assert_numbers(job: &Job, listing: &Listing, counts: &[u16]) {
     assert!(left_over <= 8_000);
 }
 
-/// Items, offcuts and waste of each board, in the structured balance and in plain sums, make the
-/// board. Gives the areas of all boards together.
-fn assert_balance(job: &Job, balances: &[Balance], parts: [&[Part]; 3]) -> [u64; 3] {
+/// The areas of items, offcuts, waste and swath.
+type Areas = [u64; 4];
+
+/// Items, offcuts, waste and swath of each board, in the structured balance and in plain sums, make
+/// the board. Gives the areas of all boards together.
+fn assert_balance(job: &Job, balances: &[Balance], parts: [&[Part]; 4]) -> Areas {
     let whole = u64::from(job.width) * u64::from(job.height);
-    let mut together = [0; 3];
+    let mut together = [0; 4];
     for (board, balance) in (1..).zip(balances) {
         let sums = parts.map(|parts| parts::area_on(board, parts));
-        assert_eq!([balance.items, balance.offcuts, balance.waste], sums);
+        let [items, offcuts, waste, swath] = sums;
+        assert_eq!([balance.items, balance.offcuts], [items, offcuts]);
+        assert_eq!([balance.waste, balance.swath], [waste, swath]);
         assert_eq!(balance.whole(), whole);
         assert_eq!(sums.iter().sum::<u64>(), whole);
-        together = [0, 1, 2].map(|kind| together[kind] + sums[kind]);
+        together = add(together, sums);
     }
     together
 }
 
-/// All of it for one job and one plan; on a small board the parts are painted. Gives the areas of
-/// items, offcuts and waste.
-fn assert_parts(job: &Job, counts: &[u16], lengths: [u16; 2], small: bool) -> [u64; 3] {
+/// Areas added up, each kind with its own.
+fn add(one: Areas, other: Areas) -> Areas {
+    std::array::from_fn(|kind| one[kind] + other[kind])
+}
+
+/// All of it for one job and one plan; items and offcuts are at least the blade apart, and on a
+/// small board all parts are painted. Gives the areas of all boards together.
+fn assert_parts(job: &Job, counts: &[u16], lengths: [u16; 2], small: bool) -> Areas {
     let listing = Listing::walk(job, FULL).unwrap();
     let words = words_of(job);
     let cuts = assert_records(job, &listing, counts, lengths);
@@ -95,31 +105,33 @@ fn assert_parts(job: &Job, counts: &[u16], lengths: [u16; 2], small: bool) -> [u
     let items = parts::items(&words, &lent.lines());
     let offcuts = parts::offcuts(&lent.left_over());
     let waste = parts::waste(&words, &items, &cuts);
-    match small {
-        true => {
-            let all = [&items[..], &offcuts, &waste].concat();
-            parts::assert_partition(&words, unfolded.boards, &all);
-        }
-        false => parts::assert_apart(&words, &[&items[..], &offcuts].concat()),
+    let swath = parts::swath(&words, &items, &cuts);
+    parts::assert_apart(&words, &[&items[..], &offcuts].concat());
+    if small {
+        let all = [&items[..], &offcuts, &waste, &swath].concat();
+        parts::assert_partition(&words, unfolded.boards, &all);
     }
     let balances = of_boards(job, &listing, &unfold(job, &listing, counts));
     assert_eq!(balances.len(), unfolded.boards as usize);
-    assert_balance(job, &balances, [&items, &offcuts, &waste])
+    assert_balance(job, &balances, [&items, &offcuts, &waste, &swath])
 }
 
-/// Random jobs in one mode, each with a random plan; there are offcuts and waste among them, and
-/// turned items.
+/// Random jobs in one mode, every other one with a blade of any width, each with a random plan;
+/// there are offcuts, waste and swath among them, and turned items.
 fn balance_random_plans(mode: Mode, seed: u64) {
     let mut random = Random::new(seed);
-    let mut together = [0; 3];
+    let mut together = [0; 4];
     let mut turned = 0;
-    for _ in 0..1_500 {
-        let job = random_job_in(&mut random, mode);
+    for round in 0..2_400 {
+        let job = match round % 2 {
+            0 => random_job_in(&mut random, mode),
+            _ => random_blade_job_in(&mut random, mode),
+        };
         let listing = Listing::walk(&job, FULL).unwrap();
         let counts = random_plan(&mut random, &job, &listing);
         let lengths = random_lengths(&mut random, &job);
         let areas = assert_parts(&job, &counts, lengths, true);
-        together = [0, 1, 2].map(|kind| together[kind] + areas[kind]);
+        together = add(together, areas);
         let cuts = listing.cuts.iter().zip(&counts);
         turned += cuts
             .filter(|(cut, &count)| cut.position.turned && count > 0)
@@ -171,11 +183,12 @@ fn job_a_wastes_seven_on_its_first_board_and_nothing_on_its_second() {
     let job = Job::from_words(&crate::common::jobs::job_a()).unwrap();
     let listing = Listing::walk(&job, FULL).unwrap();
     let unfolding = unfold(&job, &listing, &crate::common::jobs::PLAN_A);
-    let balance = |[items, offcuts, waste]: [u64; 3]| Balance {
+    let balance = |[items, offcuts, waste, swath]: Areas| Balance {
         items,
         offcuts,
         waste,
+        swath,
     };
-    let expected = [[47, 9, 7], [20, 43, 0]].map(balance);
+    let expected = [[47, 9, 7, 0], [20, 43, 0, 0]].map(balance);
     assert_eq!(of_boards(&job, &listing, &unfolding), expected);
 }

@@ -161,7 +161,7 @@ fn refused_jobs() -> Vec<(Vec<u16>, [u32; 5])> {
     let plates = job(Mode::TwoNonExact, [2_000, 2_000], &[[1, 1, 1], [1, 1, 1]]);
     let large = job(Mode::TwoNonExact, [4, 7], &[[5, 4, 2], [3, 3, 3]]);
     let mut outside = job_a();
-    outside[7] = 0;
+    outside[8] = 0;
     vec![
         (high, [0, 11, 0, 11, 11]),
         (plates, [6; 5]),

@@ -13,7 +13,7 @@ use reference::listing::FULL;
 use reference::{Board, Job, Listing, Mode, Placement};
 
 /// All of the second half for one job and one set.
-fn assert_folding(lent: &mut Lent, job: &Job, listing: &Listing, set: &[Board]) {
+pub fn assert_folding(lent: &mut Lent, job: &Job, listing: &Listing, set: &[Board]) {
     let words = words_of(job);
     assert!(check::keeps_rules(job, set));
     assert!(set.iter().all(|board| keeps_rules(job, board)));

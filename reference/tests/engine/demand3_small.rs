@@ -1,36 +1,54 @@
-//! Demand 3 without chance: all boards and all small plans of a few small jobs.
+//! Demand 3 without chance: all boards and all small plans of a few small jobs, without a blade and
+//! with one.
 
 use crate::common::check;
-use crate::common::jobs::job_with_leave;
+use crate::common::jobs::job_of;
 use crate::common::lent::Lent;
 use crate::common::plain;
+use crate::common::prices::{area_prices, words_of as price_words};
 use reference::layout::keeps_rules;
-use reference::{Board, Job, Mode, Position, Stack, Strip};
+use reference::listing::FULL;
+use reference::{Board, Job, Listing, Mode, Position, Stack, Strip};
 use std::collections::HashSet;
 
-/// Small boards, and sides, demand and leave of two item types: without leave, with it, square
-/// with it, and of a type that fits the board only turned.
-const SMALL: [([u16; 2], [[u16; 4]; 2]); 12] = [
-    ([3, 3], [[1, 2, 1, 0], [2, 1, 1, 0]]),
-    ([3, 3], [[1, 3, 1, 0], [1, 1, 1, 0]]),
-    ([4, 2], [[2, 2, 1, 0], [1, 1, 1, 0]]),
-    ([2, 4], [[2, 1, 1, 0], [1, 2, 1, 0]]),
-    ([4, 3], [[2, 3, 1, 0], [1, 1, 1, 0]]),
-    ([5, 3], [[2, 1, 1, 0], [1, 2, 1, 0]]),
-    ([4, 4], [[1, 2, 1, 0], [2, 2, 1, 0]]),
-    ([3, 3], [[1, 2, 1, 1], [2, 2, 1, 1]]),
-    ([4, 2], [[2, 3, 1, 1], [1, 1, 1, 1]]),
-    ([2, 4], [[3, 1, 1, 1], [1, 2, 1, 0]]),
-    ([3, 3], [[1, 2, 1, 1], [1, 3, 1, 1]]),
-    ([4, 3], [[1, 3, 1, 1], [2, 2, 1, 0]]),
+/// Small boards, the blade, and sides, demand and leave of two item types: without leave, with it,
+/// square with it, and of a type that fits the board only turned; the blade narrower than what
+/// remains, as wide, and wider.
+type Small = ([u16; 2], u16, [[u16; 4]; 2]);
+const SMALL: [Small; 24] = [
+    ([3, 3], 0, [[1, 2, 1, 0], [2, 1, 1, 0]]),
+    ([3, 3], 0, [[1, 3, 1, 0], [1, 1, 1, 0]]),
+    ([4, 2], 0, [[2, 2, 1, 0], [1, 1, 1, 0]]),
+    ([2, 4], 0, [[2, 1, 1, 0], [1, 2, 1, 0]]),
+    ([4, 3], 0, [[2, 3, 1, 0], [1, 1, 1, 0]]),
+    ([5, 3], 0, [[2, 1, 1, 0], [1, 2, 1, 0]]),
+    ([4, 4], 0, [[1, 2, 1, 0], [2, 2, 1, 0]]),
+    ([3, 3], 0, [[1, 2, 1, 1], [2, 2, 1, 1]]),
+    ([4, 2], 0, [[2, 3, 1, 1], [1, 1, 1, 1]]),
+    ([2, 4], 0, [[3, 1, 1, 1], [1, 2, 1, 0]]),
+    ([3, 3], 0, [[1, 2, 1, 1], [1, 3, 1, 1]]),
+    ([4, 3], 0, [[1, 3, 1, 1], [2, 2, 1, 0]]),
+    ([3, 3], 1, [[1, 2, 1, 0], [2, 1, 1, 0]]),
+    ([3, 3], 1, [[1, 3, 1, 0], [1, 1, 1, 0]]),
+    ([5, 5], 1, [[1, 2, 1, 0], [2, 5, 1, 0]]),
+    ([5, 5], 1, [[1, 2, 1, 1], [2, 2, 1, 1]]),
+    ([6, 4], 1, [[2, 3, 1, 1], [1, 1, 1, 0]]),
+    ([4, 6], 2, [[3, 1, 1, 1], [1, 2, 1, 0]]),
+    ([5, 7], 2, [[1, 5, 1, 0], [2, 1, 1, 0]]),
+    ([7, 5], 2, [[1, 4, 1, 0], [3, 1, 1, 1]]),
+    ([8, 3], 3, [[1, 3, 1, 1], [2, 2, 1, 0]]),
+    ([4, 4], 3, [[1, 1, 1, 0], [1, 2, 1, 0]]),
+    ([4, 4], 4, [[1, 1, 1, 0], [1, 2, 1, 1]]),
+    ([3, 4], 20, [[1, 1, 1, 0], [2, 1, 1, 1]]),
 ];
 
-/// All sequences of the parts whose measures add up to at most the room, the empty one too.
-fn sequences<T: Clone>(parts: &[(T, u16)], room: u16) -> Vec<Vec<T>> {
+/// All sequences of the parts whose measures, with the blade between neighbours, add up to at most
+/// the room, the empty one too.
+fn sequences<T: Clone>(parts: &[(T, u16)], blade: u16, room: u16) -> Vec<Vec<T>> {
     let mut all = vec![vec![]];
     for (part, measure) in parts {
         if *measure <= room {
-            for mut rest in sequences(parts, room - measure) {
+            for mut rest in sequences(parts, blade, room.saturating_sub(measure + blade)) {
                 rest.insert(0, part.clone());
                 all.push(rest);
             }
@@ -49,7 +67,8 @@ fn all_boards(structured: &Job) -> Vec<Board> {
         .map(|position| (position, item(position).height))
         .collect();
     let filled = |stack: &Stack| !stack.is_empty();
-    let stacks: Vec<Stack> = sequences(&items, structured.height)
+    let blade = structured.blade;
+    let stacks: Vec<Stack> = sequences(&items, blade, structured.height)
         .into_iter()
         .filter(filled)
         .collect();
@@ -60,12 +79,17 @@ fn all_boards(structured: &Job) -> Vec<Board> {
             .max()
             .unwrap()
     };
-    let high = |stack: &Stack| stack.iter().map(|&number| item(number).height).sum::<u16>();
+    let high = |stack: &Stack| {
+        let heights = stack.iter().map(|&number| item(number).height);
+        heights
+            .reduce(|below, height| below + blade + height)
+            .unwrap()
+    };
     let with_widths: Vec<(Stack, u16)> = stacks
         .iter()
         .map(|stack| (stack.clone(), wide(stack)))
         .collect();
-    let strips: Vec<(Strip, u16)> = sequences(&with_widths, structured.width)
+    let strips: Vec<(Strip, u16)> = sequences(&with_widths, blade, structured.width)
         .into_iter()
         .filter(|strip| !strip.is_empty())
         .map(|strip| {
@@ -73,7 +97,7 @@ fn all_boards(structured: &Job) -> Vec<Board> {
             (strip, height)
         })
         .collect();
-    let boards = sequences(&strips, structured.height).into_iter();
+    let boards = sequences(&strips, blade, structured.height).into_iter();
     boards.filter(|board| !board.is_empty()).collect()
 }
 
@@ -100,8 +124,8 @@ fn all_boards_of_small_jobs() {
     let mut lent = Lent::new();
     let (mut folded, mut refused) = (0, 0);
     for mode in Mode::ALL {
-        for (sides, items) in SMALL {
-            let words = job_with_leave(mode, sides, &items);
+        for (sides, blade, items) in SMALL {
+            let words = job_of(mode, sides, blade, &items);
             let structured = Job::from_words(&words).unwrap();
             for board in all_boards(&structured) {
                 let keeps = check::keeps_rules(&structured, std::slice::from_ref(&board));
@@ -141,8 +165,8 @@ fn all_small_plans_of_small_jobs() {
     let mut lent = Lent::new();
     let mut accepted = 0;
     for mode in Mode::ALL {
-        for (sides, items) in SMALL {
-            let words = job_with_leave(mode, sides, &items);
+        for (sides, blade, items) in SMALL {
+            let words = job_of(mode, sides, blade, &items);
             let structured = Job::from_words(&words).unwrap();
             let cuts = plain::listing(&words).1.len();
             let most = if cuts > 10 { 3 } else { 4 };
@@ -165,4 +189,71 @@ fn all_small_plans_of_small_jobs() {
         }
     }
     assert!(accepted > 500, "{accepted} plans were accepted");
+}
+
+/// The least number of boards, of these, in which each type lies as often as demanded: by how often
+/// the two types are still missing.
+fn least_boards(boards: &[[u16; 2]], demands: [u16; 2]) -> u32 {
+    let mut reached = HashSet::from([demands]);
+    let mut opened = 0;
+    while !reached.contains(&[0, 0]) {
+        let after = |missing: [u16; 2], laid: &[u16; 2]| {
+            [0, 1].map(|item: usize| missing[item].saturating_sub(laid[item]))
+        };
+        let next = reached
+            .iter()
+            .flat_map(|&missing| boards.iter().map(move |laid| after(missing, laid)));
+        reached = next.collect();
+        opened += 1;
+    }
+    opened
+}
+
+/// How often the two types lie on a board.
+fn laid_on(board: &Board) -> [u16; 2] {
+    let mut laid = [0; 2];
+    for item in board.iter().flatten().flatten() {
+        laid[usize::from(item.item) - 1] += 1;
+    }
+    laid
+}
+
+/// The bound of prices by area is at most the least number of boards, and calls that the fewest
+/// alone.
+fn assert_bound(words: &[u16], least: u32) {
+    let structured = Job::from_words(words).unwrap();
+    let listing = Listing::walk(&structured, FULL).unwrap();
+    let prices = price_words(&area_prices(&structured, &listing, 9_999));
+    let bound = Lent::new().test_prices(words, &prices).unwrap();
+    assert!(bound.sum <= least * bound.d, "{words:?}");
+    assert!(!bound.is_fewest(least + 1), "{words:?}");
+}
+
+#[test]
+fn no_plan_opens_fewer_boards_than_layouts_need_and_some_plan_as_few() {
+    let (mut jobs, mut together) = (0, 0);
+    for mode in Mode::ALL {
+        for (sides, blade, items) in SMALL {
+            for demands in [[1, 1], [2, 1], [1, 2], [2, 2]] {
+                let [mut first, mut second] = items;
+                [first[2], second[2]] = demands;
+                let words = job_of(mode, sides, blade, &[first, second]);
+                let structured = Job::from_words(&words).unwrap();
+                let boards = all_boards(&structured).into_iter();
+                let kept = boards.filter(|board| keeps_rules(&structured, board));
+                let kept: HashSet<[u16; 2]> = kept.map(|board| laid_on(&board)).collect();
+                let kept: Vec<[u16; 2]> = kept.into_iter().collect();
+                let least = least_boards(&kept, demands);
+                let cuts = plain::listing(&words).1.len();
+                let most = if cuts > 12 { 4 } else { 5 };
+                let plans = all_counts(cuts, most).into_iter();
+                let found = plans.filter_map(|counts| plain::accepts(&words, &counts));
+                assert_eq!(found.min(), Some(least), "{words:?}");
+                assert_bound(&words, least);
+                together += usize::from(least < u32::from(demands[0] + demands[1]));
+                jobs += 1;
+            }
+        }
+    }
+    assert!(jobs == 384 && together > 200, "{jobs}, {together}");
 }

@@ -50,7 +50,7 @@ fn assert_set(job: &Job, lines: &[[u16; 8]], boards: u32, cut_of_type: &[u32]) -
 }
 
 /// All of the first half for one job and one plan.
-fn assert_unfolding(lent: &mut Lent, job: &Job, listing: &Listing, counts: &[u16]) {
+pub fn assert_unfolding(lent: &mut Lent, job: &Job, listing: &Listing, counts: &[u16]) {
     let words = words_of(job);
     let (cut_of_type, opened) = cut_and_opened(job, listing, counts);
     assert_eq!(lent.test_plan(&words, counts), Ok(opened));

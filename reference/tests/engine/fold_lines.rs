@@ -14,17 +14,20 @@ fn assert_refused(all: &[&[u32]], number: u32, place: u32) {
 #[test]
 fn an_empty_text_and_missing_lines() {
     assert_text(&fold_text(b""), &refusal(1, 1));
-    assert_text(&fold_text(&lines(&[&[1, 2, 0, 9, 7, 2]])), &refusal(1, 2));
-    let text = lines(&[&[1, 2, 0, 9, 7, 2], &[2, 1, 5, 4, 2, 0]]);
+    assert_text(
+        &fold_text(&lines(&[&[1, 2, 0, 9, 7, 2, 0]])),
+        &refusal(1, 2),
+    );
+    let text = lines(&[&[1, 2, 0, 9, 7, 2, 0], &[2, 1, 5, 4, 2, 0]]);
     assert_text(&fold_text(&text), &refusal(1, 3));
-    let text = lines(&[&[1, 2, 0, 9, 7, 2], &[2, 1, 5, 4, 2, 0], GOOD]);
+    let text = lines(&[&[1, 2, 0, 9, 7, 2, 0], &[2, 1, 5, 4, 2, 0], GOOD]);
     assert_text(&fold_text(&text), &refusal(1, 3));
 }
 
 #[test]
 fn kinds_that_no_fold_text_has() {
     let kinds: [&[u32]; 10] = [
-        &[1, 2, 0, 9, 7, 2],
+        &[1, 2, 0, 9, 7, 2, 0],
         &[2, 3, 1, 1, 1, 0],
         &[3, 0, 1, 2, 0],
         &[4, 1, 2, 5],
@@ -86,16 +89,20 @@ fn no_lines_7_are_admitted_and_leave_type_1_short() {
 #[test]
 fn job_and_model_rows_go_before_the_layouts() {
     let out_of_turn: &[u32] = &[7, 2, 1, 1, 1, 1, 0, 0, 0];
-    let text = lines(&[&[1, 2, 0, 9, 7, 1], &[2, 1, 10, 4, 1, 0], out_of_turn]);
+    let text = lines(&[&[1, 2, 0, 9, 7, 1, 0], &[2, 1, 10, 4, 1, 0], out_of_turn]);
     assert_text(&fold_text(&text), &refusal(3, 1));
     let text = lines(&[
-        &[1, 2, 0, 9, 7, 2],
+        &[1, 2, 0, 9, 7, 2, 0],
         &[2, 1, 1, 1, 4_000, 0],
         &[2, 2, 1, 1, 1, 0],
         out_of_turn,
     ]);
     assert_text(&fold_text(&text), &refusal(4, 0));
-    let text = lines(&[&[1, 2, 0, 10_000, 9, 1], &[2, 1, 1, 1, 1, 0], out_of_turn]);
+    let text = lines(&[
+        &[1, 2, 0, 10_000, 9, 1, 0],
+        &[2, 1, 1, 1, 1, 0],
+        out_of_turn,
+    ]);
     assert_text(&fold_text(&text), &refusal(6, 0));
     let mut text = job_text(&job(Mode::TwoNonExact, [105, 101], &[[1, 1, 1]; 40]));
     text.extend(line(out_of_turn));

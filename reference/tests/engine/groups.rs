@@ -139,16 +139,16 @@ fn every_byte_of_a_line_is_looked_at() {
 #[test]
 fn a_line_without_its_byte_10_at_the_end_of_the_text_is_1_naming_itself() {
     let whole = after_job_a(&[&[3, 0, 1, 2, 0], &[3, 1, 2, 1, 0]]);
-    let starts = [0, 55, 110, 165, 211];
+    let starts = [0, 64, 119, 174, 220];
     for length in 0..whole.len() {
         let number = starts.iter().filter(|&&start| start < length).count() as u32;
         let answer = saw_text(&whole[..length]);
         match length {
             0 => assert_text(&answer, &refusal(1, 1)),
-            55 => assert_text(&answer, &refusal(1, 2)),
-            110 => assert_text(&answer, &refusal(1, 3)),
-            165 => assert_text(&answer, &refusal(11, 1)),
-            211 => assert_text(&answer, &refusal(11, 2)),
+            64 => assert_text(&answer, &refusal(1, 2)),
+            119 => assert_text(&answer, &refusal(1, 3)),
+            174 => assert_text(&answer, &refusal(11, 1)),
+            220 => assert_text(&answer, &refusal(11, 2)),
             _ => assert_text(&answer, &refusal(1, number)),
         }
     }
@@ -158,16 +158,19 @@ fn a_line_without_its_byte_10_at_the_end_of_the_text_is_1_naming_itself() {
 fn numbers_of_nine_digits_are_values_outside_limits_not_faults_of_form() {
     let text = after_job_a(&[&[3, 0, 1, 999_999_999, 0]]);
     assert_text(&saw_text(&text), &refusal(2, 4));
-    let text = lines(&[&[1, 999_999_999, 0, 9, 7, 1]]);
+    let text = lines(&[&[1, 999_999_999, 0, 9, 7, 1, 0]]);
     assert_text(&saw_text(&text), &refusal(2, 1));
     assert_text(&fold_text(&text), &refusal(2, 1));
 }
 
 #[test]
 fn values_that_would_wrap_to_a_word_within_limits_are_outside() {
-    let text = lines(&[&[1, 65_538, 0, 9, 7, 1], &[2, 1, 5, 4, 1, 0]]);
-    assert_text(&saw_text(&text), &refusal(2, 1));
-    let text = lines(&[&[1, 2, 0, 9, 7, 1], &[2, 1, 65_541, 4, 1, 0]]);
+    for head in [[1, 65_538, 0, 9, 7, 1, 0], [1, 2, 0, 9, 7, 1, 65_536]] {
+        let text = lines(&[&head, &[2, 1, 5, 4, 1, 0]]);
+        assert_text(&saw_text(&text), &refusal(2, 1));
+        assert_text(&fold_text(&text), &refusal(2, 1));
+    }
+    let text = lines(&[&[1, 2, 0, 9, 7, 1, 0], &[2, 1, 65_541, 4, 1, 0]]);
     assert_text(&saw_text(&text), &refusal(2, 2));
     let text = after_job_a(&[&[3, 65_536, 1, 1, 0]]);
     assert_text(&saw_text(&text), &refusal(2, 4));

@@ -1,6 +1,6 @@
 //! Job words: their length, their limits, the job row (document 01, "The job" and the table).
 
-use crate::common::jobs::{job, job_a};
+use crate::common::jobs::{job, job_a, job_with_blade};
 use crate::common::lent::Lent;
 use crate::common::refused;
 use reference::{Item, Job, Listed, Mode};
@@ -27,15 +27,17 @@ fn another_length_is_1_place_0() {
 
 #[test]
 fn the_length_that_n_asks_for_goes_before_the_limits() {
-    for n in [0, 1, 40, 41, 13_107, 21_845, 43_690, 65_535] {
-        let words = [2, 0, 9, 7, n];
+    // Four words a type: from 16,384 types on, their number is past a word.
+    for n in [0, 1, 40, 41, 16_383, 16_384, 32_768, 49_152, 65_535] {
+        let words = [2, 0, 9, 7, n, 0];
         let answer = if n == 0 { refused(2, 0) } else { refused(1, 0) };
         assert_eq!(Lent::new().list(&words), answer, "n {n}");
+        assert_eq!(Lent::new().list(&words[..5]), refused(1, 0), "n {n}");
     }
-    let mut types_41 = vec![2, 0, 9, 7, 41];
+    let mut types_41 = vec![2, 0, 9, 7, 41, 0];
     types_41.extend([1; 164]);
     assert_eq!(Lent::new().list(&types_41), refused(2, 0));
-    let mut all_types = vec![9, 9, 0, 0, 65_535];
+    let mut all_types = vec![9, 9, 0, 0, 65_535, 0];
     all_types.extend(vec![0; 4 * 65_535]);
     assert_eq!(Lent::new().list(&all_types), refused(2, 0));
     all_types.pop();
@@ -44,7 +46,7 @@ fn the_length_that_n_asks_for_goes_before_the_limits() {
 
 #[test]
 fn length_before_any_value() {
-    let words = [5, 5, 0, 0, 1, 0, 0];
+    let words = [5, 5, 0, 0, 1, 21, 0, 0];
     assert_eq!(Lent::new().list(&words), refused(1, 0));
 }
 
@@ -58,6 +60,8 @@ fn every_number_of_the_board_names_0() {
         (3, 0),
         (2, 10_001),
         (3, 10_001),
+        (5, 21),
+        (5, 65_535),
     ] {
         assert_eq!(Lent::new().list(&changed(index, bad)), refused(2, 0));
     }
@@ -65,16 +69,35 @@ fn every_number_of_the_board_names_0() {
 }
 
 #[test]
+fn the_blade_is_word_6_and_reaches_20() {
+    for blade in 0..=20 {
+        let words = changed(5, blade);
+        assert!(Lent::new().list(&words).is_ok(), "b {blade}");
+        assert_eq!(Job::from_words(&words).unwrap().blade, blade);
+    }
+    // As many types as the blade is wide, or as its word would ask for.
+    let mut words = job_with_blade(Mode::TwoNonExact, [9, 7], 2, &[[5, 4, 2], [3, 3, 3]]);
+    assert!(Lent::new().list(&words).is_ok());
+    words[4] = 1;
+    words[5] = 2;
+    assert_eq!(Lent::new().list(&words), refused(1, 0));
+    // The words of a job without a blade are one too few.
+    words.remove(5);
+    words[4] = 2;
+    assert_eq!(Lent::new().list(&words), refused(1, 0));
+}
+
+#[test]
 fn a_value_of_a_type_names_the_type() {
     for (index, bad) in [
-        (5, 0),
-        (5, 10_001),
         (6, 0),
         (6, 10_001),
         (7, 0),
-        (7, 4_001),
-        (8, 2),
-        (8, 65_535),
+        (7, 10_001),
+        (8, 0),
+        (8, 4_001),
+        (9, 2),
+        (9, 65_535),
     ] {
         assert_eq!(Lent::new().list(&changed(index, bad)), refused(2, 1));
         assert_eq!(Lent::new().list(&changed(index + 4, bad)), refused(2, 2));
@@ -83,16 +106,19 @@ fn a_value_of_a_type_names_the_type() {
 
 #[test]
 fn the_board_is_named_before_a_type_and_the_lower_type_first() {
-    let mut words = changed(5, 0);
-    words[9] = 0;
+    let mut words = changed(6, 0);
+    words[10] = 0;
     assert_eq!(Lent::new().list(&words), refused(2, 1));
-    words[3] = 0;
-    assert_eq!(Lent::new().list(&words), refused(2, 0));
+    for (index, bad) in [(3, 0), (5, 21)] {
+        let mut board = words.clone();
+        board[index] = bad;
+        assert_eq!(Lent::new().list(&board), refused(2, 0));
+    }
 }
 
 #[test]
 fn an_item_larger_than_the_board_is_3_and_beyond_10_000_is_2() {
-    for index in [5, 6] {
+    for index in [6, 7] {
         assert_eq!(Lent::new().list(&changed(index, 10_000)), refused(3, 1));
         assert_eq!(Lent::new().list(&changed(index, 10_001)), refused(2, 1));
         assert_eq!(Lent::new().list(&changed(index + 4, 10_000)), refused(3, 2));
@@ -101,8 +127,8 @@ fn an_item_larger_than_the_board_is_3_and_beyond_10_000_is_2() {
 
 #[test]
 fn limits_of_every_type_before_3_and_3_over_all_types_before_4() {
-    let mut words = changed(5, 10_000);
-    words[11] = 0;
+    let mut words = changed(6, 10_000);
+    words[12] = 0;
     assert_eq!(Lent::new().list(&words), refused(2, 2));
     let high = job(Mode::TwoNonExact, [9, 7], &[[1, 1, 4_000], [1, 8, 1]]);
     assert_eq!(Lent::new().list(&high), refused(3, 2));
@@ -139,6 +165,7 @@ fn words_are_read_into_a_job() {
         mode: Mode::TwoNonExact,
         width: 9,
         height: 7,
+        blade: 0,
         items: vec![
             Item {
                 width: 5,

@@ -84,14 +84,14 @@ fn a_line_missing_after_99_999_is_line_100_000() {
 
 #[test]
 fn the_longest_texts_that_the_line_row_admits() {
-    let mut head = vec![line(&[1, 2, 0, 2, 1, 40])];
+    let mut head = vec![line(&[1, 2, 0, 2, 1, 40, 0])];
     head.extend((1..=40).map(|number| line(&[2, number, 1, 1, 1, 0])));
     let mut text = head.concat();
     text.extend(repeated(&[3, 0, 1, 1, 0], 99_958));
-    assert_eq!(text.len(), 4_600_323);
+    assert_eq!(text.len(), 4_600_332);
     assert_text(&saw_text(&text), &refusal(9, 43));
-    let mut text = lines(&[&[1, 2, 0, 2, 1, 1], &[2, 1, 1, 1, 1, 0]]);
+    let mut text = lines(&[&[1, 2, 0, 2, 1, 1, 0], &[2, 1, 1, 1, 1, 0]]);
     text.extend(repeated(&[7, 1, 1, 1, 1, 1, 0, 0, 0], 99_997));
-    assert_eq!(text.len(), 8_199_864);
+    assert_eq!(text.len(), 8_199_873);
     assert_text(&fold_text(&text), &refusal(10, 0));
 }

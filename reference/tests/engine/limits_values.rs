@@ -19,7 +19,7 @@ fn sides_reach_10_000() {
             past[index] = 10_001;
             assert_eq!(Lent::new().list(&past), refused(2, 0));
         }
-        for index in [5, 6] {
+        for index in [6, 7] {
             let mut past = words.clone();
             past[index] = 10_001;
             assert_eq!(Lent::new().list(&past), refused(2, 1));

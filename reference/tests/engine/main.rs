@@ -4,8 +4,10 @@ mod common;
 
 mod agreement;
 mod area_balance;
+mod blade;
 mod buffers;
 mod cases;
+mod demand3_blade;
 mod demand3_folding;
 mod demand3_prices;
 mod demand3_small;

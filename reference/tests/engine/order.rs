@@ -47,11 +47,11 @@ fn price_words_stand_before_the_job_row() {
 #[test]
 fn price_words_stand_after_the_jobs_words() {
     let mut words = too_large();
-    words[5] = 0;
+    words[6] = 0;
     assert_eq!(Lent::new().test_prices(&words, &[0]), refused(2, 1));
-    words[9] = 9;
-    words[5] = 5;
-    words[11] = 0;
+    words[10] = 9;
+    words[6] = 5;
+    words[12] = 0;
     assert_eq!(Lent::new().test_prices(&words, &[0]), refused(2, 2));
     words.pop();
     assert_eq!(Lent::new().test_prices(&words, &[0]), refused(1, 0));
@@ -68,9 +68,9 @@ fn layout_words_stand_between_the_jobs_words_and_the_job_row() {
     assert_eq!(Lent::new().fold_words(&too_many(), &short), refused(1, 1));
     assert_eq!(Lent::new().fold_words(&too_many(), &outside), refused(2, 1));
     assert_eq!(Lent::new().fold_words(&too_many(), &GOOD), refused(4, 0));
-    words[7] = 0;
+    words[8] = 0;
     assert_eq!(Lent::new().fold_words(&words, &short), refused(2, 1));
-    words[2] = 0;
+    words[5] = 21;
     assert_eq!(Lent::new().fold_words(&words, &short), refused(2, 0));
     words.pop();
     assert_eq!(Lent::new().fold_words(&words, &short), refused(1, 0));

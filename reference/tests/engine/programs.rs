@@ -35,7 +35,7 @@ fn the_programs_answer_as_the_library_does() {
     layouts.extend(&output[..5 * 82]);
     let folded = run(FOLD, &layouts);
     assert_text(&folded, &fold_text(&layouts));
-    assert_text(&folded, &plan[165..]);
+    assert_text(&folded, &plan[174..]);
 }
 
 #[test]

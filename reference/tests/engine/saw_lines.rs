@@ -4,7 +4,7 @@
 use crate::common::texts::{after_job_a, assert_text, line, lines, refusal};
 use reference::saw_text;
 
-const ONE: &[u32] = &[1, 2, 0, 9, 7, 2];
+const ONE: &[u32] = &[1, 2, 0, 9, 7, 2, 0];
 const TYPE_1: &[u32] = &[2, 1, 5, 4, 2, 0];
 const TYPE_2: &[u32] = &[2, 2, 3, 3, 3, 0];
 const CUT_1: &[u32] = &[3, 0, 1, 2, 0];
@@ -47,7 +47,7 @@ fn an_empty_text_misses_line_1() {
 #[test]
 fn a_blank_line_is_1_anywhere() {
     let whole = with_line(1, ONE);
-    let starts = [0, 55, 110, 165, 211, 257, 303, 349, 386, 414, 442, 470];
+    let starts = [0, 64, 119, 174, 220, 266, 312, 358, 395, 423, 451, 479];
     assert_text(&saw_text(b"\n"), &refusal(1, 1));
     for (index, &start) in starts.iter().enumerate() {
         let mut text = whole[..start].to_vec();
@@ -103,22 +103,37 @@ fn a_running_number_that_is_not_the_next_is_1_also_outside_its_limits() {
 
 #[test]
 fn values_of_line_1_outside_their_limits() {
-    let bad: [[u32; 6]; 11] = [
-        [1, 1, 0, 9, 7, 2],
-        [1, 4, 0, 9, 7, 2],
-        [1, 0, 0, 9, 7, 2],
-        [1, 2, 2, 9, 7, 2],
-        [1, 2, 0, 0, 7, 2],
-        [1, 2, 0, 10_001, 7, 2],
-        [1, 2, 0, 9, 0, 2],
-        [1, 2, 0, 9, 10_001, 2],
-        [1, 2, 0, 9, 7, 0],
-        [1, 2, 0, 9, 7, 41],
-        [1, 9, 9, 0, 0, 0],
+    let bad: [[u32; 7]; 13] = [
+        [1, 1, 0, 9, 7, 2, 0],
+        [1, 4, 0, 9, 7, 2, 0],
+        [1, 0, 0, 9, 7, 2, 0],
+        [1, 2, 2, 9, 7, 2, 0],
+        [1, 2, 0, 0, 7, 2, 0],
+        [1, 2, 0, 10_001, 7, 2, 0],
+        [1, 2, 0, 9, 0, 2, 0],
+        [1, 2, 0, 9, 10_001, 2, 0],
+        [1, 2, 0, 9, 7, 0, 0],
+        [1, 2, 0, 9, 7, 41, 0],
+        [1, 2, 0, 9, 7, 2, 21],
+        [1, 2, 0, 9, 7, 2, 999_999_999],
+        [1, 9, 9, 0, 0, 0, 99],
     ];
     for first in &bad {
         assert_refused(&[first, TYPE_1, TYPE_2], 2, 1);
         assert_refused(&[first], 2, 1);
+    }
+}
+
+#[test]
+fn line_1_has_seven_groups() {
+    for first in [&ONE[..6], &[1, 2, 0, 9, 7, 2, 0, 0]] {
+        assert_refused(&[first, TYPE_1, TYPE_2], 1, 1);
+        assert_refused(&[first], 1, 1);
+    }
+    // 1 goes before 2, and the form of line 1 before its values.
+    assert_refused(&[&[1, 2, 0, 9, 7, 41]], 1, 1);
+    for blade in 0..=20 {
+        assert_refused(&[&[1, 2, 0, 9, 7, 2, blade]], 1, 2);
     }
 }
 
@@ -256,7 +271,7 @@ fn the_line_row_is_taken_line_by_line() {
     let outside: &[u32] = &[3, 0, 1, 0, 0];
     assert_refused_after_job(&[outside, TYPE_1], 2, 4);
     assert_refused_after_job(&[TYPE_1, outside], 1, 4);
-    assert_refused(&[&[1, 2, 0, 9, 7, 41]], 2, 1);
+    assert_refused(&[&[1, 2, 0, 9, 7, 41, 0]], 2, 1);
 }
 
 #[test]

@@ -27,19 +27,19 @@ fn no_lines_3_are_admitted_and_leave_type_1_short() {
 #[test]
 fn the_job_row() {
     let text = lines(&[
-        &[1, 2, 0, 9, 7, 2],
+        &[1, 2, 0, 9, 7, 2, 0],
         &[2, 1, 5, 4, 4_000, 0],
         &[2, 2, 3, 8, 1, 0],
     ]);
     assert_text(&saw_text(&text), &refusal(3, 2));
     let text = lines(&[
-        &[1, 2, 0, 9, 7, 2],
+        &[1, 2, 0, 9, 7, 2, 0],
         &[2, 1, 5, 4, 4_000, 0],
         &[2, 2, 3, 3, 1, 0],
     ]);
     assert_text(&saw_text(&text), &refusal(4, 0));
     let text = lines(&[
-        &[1, 2, 0, 9, 7, 2],
+        &[1, 2, 0, 9, 7, 2, 0],
         &[2, 1, 5, 4, 4_000, 0],
         &[2, 2, 10_000, 3, 1, 0],
     ]);
@@ -49,7 +49,7 @@ fn the_job_row() {
 #[test]
 fn the_model_row_goes_before_the_plan() {
     let text = lines(&[
-        &[1, 2, 0, 10_000, 9, 1],
+        &[1, 2, 0, 10_000, 9, 1, 0],
         &[2, 1, 1, 1, 1, 0],
         &[3, 2_047, 1, 1, 0],
     ]);
@@ -142,7 +142,7 @@ fn a_refusal_is_one_line_alone() {
 #[test]
 fn prices_without_residual_types() {
     let text = lines(&[
-        &[1, 3, 1, 9, 7, 1],
+        &[1, 3, 1, 9, 7, 1, 0],
         &[2, 1, 9, 7, 2, 0],
         &[3, 0, 1, 2, 0],
         &[4, 9_999, 1, 0],

@@ -1,11 +1,12 @@
-//! Without leave nothing is turned: on every job of `data/` plates, cuts, plans and layouts are those
-//! that document 01 alone gives, but for the item word, which is doubled, and for the turn, which is 0.
+//! Without leave nothing is turned, and with a blade of no width nothing is lost to it: on every such
+//! job of `data/` plates, cuts, plans and layouts are those that document 01 alone gives, but for the item
+//! word, which is doubled, and for the turn, which is 0.
 
 use reference::instances::all_jobs;
 use reference::instances::inputs::Inputs;
 use reference::instances::outcome;
 
-/// What the base version's reference answers on every job, in one number.
+/// What the base version's reference answers on every job without a blade, in one number.
 const BASE: u64 = 0xAEA2_B25F_465E_60A0;
 
 /// A checksum of numbers (FNV-1a over their four bytes).
@@ -42,9 +43,9 @@ fn without_turns(placements: &[u16]) -> Vec<u16> {
 }
 
 #[test]
-fn without_leave_every_job_is_answered_as_by_the_base() {
+fn without_leave_and_blade_every_job_is_answered_as_by_the_base() {
     let mut sum = Checksum(0xCBF2_9CE4_8422_2325);
-    for job in all_jobs() {
+    for job in all_jobs().into_iter().filter(|job| job.words[5] == 0) {
         let [mut plates, mut cuts] = [vec![0; 6_144], vec![0; 32_768]];
         match reference::list(&job.words, &mut plates, &mut cuts) {
             Ok(listed) => sum.add([listed.residuals, listed.cuts]),

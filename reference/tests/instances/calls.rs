@@ -37,8 +37,8 @@ pub fn assert_agreement(job: &NamedJob, inputs: &Inputs, found: &Outcome) {
     assert_balance(job, &structured, found);
 }
 
-/// Asserts that items, offcuts and waste of each board make the board, and that the offcuts are
-/// those that unfolding wrote.
+/// Asserts that items, offcuts, waste and swath of each board make the board, and that the offcuts
+/// are those that unfolding wrote.
 fn assert_balance(job: &NamedJob, structured: &Job, found: &Outcome) {
     let name = &job.name;
     let whole = u64::from(structured.width) * u64::from(structured.height);
@@ -77,9 +77,10 @@ fn calls_and_texts_agree_on_every_instance() {
     }
 }
 
-#[test]
-fn calls_and_texts_agree_on_instances_with_leave() {
-    let mut turned = 0;
+/// Asserts the agreement on every third instance, on one of its boards, in one mode, with leave and
+/// blade; gives the placements.
+fn assert_every_third(leave: u16, blade: u16) -> Vec<[u16; 8]> {
+    let mut placed = Vec::new();
     for source in sources() {
         for instance in source.instances.iter().step_by(3) {
             let types = instance.items.len();
@@ -87,22 +88,40 @@ fn calls_and_texts_agree_on_instances_with_leave() {
                 continue;
             };
             let mode = Mode::ALL[types % 4];
+            let [name, instance_name] = [source.name, &instance.name];
             let job = NamedJob {
-                name: format!("{} {} {board:?} with leave", source.name, instance.name),
-                words: job_words_with(instance, board, mode, 1),
+                name: format!("{name} {instance_name} {board:?} leave {leave} blade {blade}"),
+                words: job_words_with(instance, board, mode, leave, blade),
             };
             if let Some((inputs, found)) = run(&job) {
                 assert_agreement(&job, &inputs, &found);
                 assert_texts(&job, &inputs, &found);
-                turned += found
-                    .placements
-                    .chunks(8)
-                    .filter(|line| line[7] == 1)
-                    .count();
+                let lines = found.placements.chunks(8);
+                placed.extend(lines.map(|line| <[u16; 8]>::try_from(line).unwrap()));
             }
         }
     }
+    placed
+}
+
+#[test]
+fn calls_and_texts_agree_on_instances_with_leave() {
+    let placed = assert_every_third(1, 0);
+    let turned = placed.iter().filter(|line| line[7] == 1).count();
     assert!(turned > 500, "{turned} items are turned");
+}
+
+#[test]
+fn calls_and_texts_agree_on_instances_with_a_blade() {
+    for (leave, blade) in [(0, 1), (0, 4), (1, 4), (0, 20)] {
+        let placed = assert_every_third(leave, blade);
+        let moved = placed.iter().filter(|line| line[5] > 0 || line[6] > 0);
+        let moved = moved.count();
+        assert!(
+            moved > 100,
+            "blade {blade}: {moved} items are not in the corner"
+        );
+    }
 }
 
 #[test]

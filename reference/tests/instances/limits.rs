@@ -110,12 +110,12 @@ fn every_limit_is_met_and_passed_by_one_in_every_mode() {
 
 #[test]
 fn the_largest_numbers_are_reached() {
-    let mut most_words = [0; 9];
+    let mut most_words = [0; 10];
     let mut most_placed = [0; 8];
     let mut most_sum = 0;
     for limit in limit_jobs().iter().filter(|limit| limit.plan.is_some()) {
         let words = &limit.job.words;
-        let (head, items) = words.split_at(5);
+        let (head, items) = words.split_at(6);
         for item in items.chunks(4) {
             let joined = [head, item].concat();
             most_words = std::array::from_fn(|index| joined[index].max(most_words[index]));
@@ -126,11 +126,11 @@ fn the_largest_numbers_are_reached() {
         }
         most_sum = found.bound.sum.max(most_sum);
     }
-    // Stages, exact, W, H, n; width, height, demand, leave.
-    let largest = [3, 1, 10_000, 10_000, 40, 10_000, 10_000, 4_000, 0];
+    // Stages, exact, W, H, n, b; width, height, demand, leave.
+    let largest = [3, 1, 10_000, 10_000, 40, 20, 10_000, 10_000, 4_000, 0];
     assert_eq!(most_words, largest);
     // Board, strip, stack, place, type, x, y, turn.
-    let largest = [4_000, 2_000, 2_000, 1_000, 40, 9_995, 9_995, 0];
+    let largest = [4_000, 2_000, 2_000, 1_000, 40, 9_999, 9_999, 0];
     assert_eq!(most_placed, largest);
     assert_eq!(most_sum, 39_996_000);
 }

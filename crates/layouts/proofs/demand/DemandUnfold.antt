@@ -23,7 +23,7 @@ use Rattle.listing.specs.Model.{Model}
 use Rattle.plan.specs.Plan.{countOf, ofItem, ofPosition, countsRow, planRow}
 use Rattle.plan.specs.Feasible.{NonePast, Feasible}
 use Rattle.plan.proofs.PlanExact.{plan-exact, counts-exact}
-use Rattle.layouts.specs.Layout.{Board, widthOf, layoutRules}
+use Rattle.layouts.specs.Layout.{Board, layoutRules}
 use Rattle.layouts.specs.Placement.{placementWords, linesOf, itemsOfSet, typesOfSet}
 use Rattle.layouts.specs.Unfold.{Run, unfolded}
 use Rattle.layouts.specs.Offcuts.{eventsOf}
@@ -34,12 +34,11 @@ use Rattle.layouts.specs.Demand3.{Accepted, UnfoldsTo, Unfolds}
 use Rattle.layouts.proofs.lists.Every.{every-map, decides-all, decides-filled}
 use Rattle.layouts.proofs.trees.Tree.{Tree, node}
 use Rattle.layouts.proofs.trees.Pattern.{Pattern}
-use Rattle.layouts.proofs.patterns.PatternSteps.{Wide}
 use Rattle.layouts.proofs.patterns.PatternRules.{pattern-ok, stack-width, strip-height}
 use Rattle.layouts.proofs.patterns.Order.{ordered-pattern}
 use Rattle.layouts.proofs.rules.RulesExact.{set-exact}
 use Rattle.layouts.proofs.rules.RulesWords.{demands-exact}
-use Rattle.layouts.proofs.rules.Geometry.{rules-inside, rules-no-overlap}
+use Rattle.layouts.proofs.rules.Geometry.{rules-inside, rules-apart}
 use Rattle.layouts.proofs.row.Grouping.{ok-full, lines-grouped}
 use Rattle.layouts.proofs.row.RowTurns.{lines-turns}
 use Rattle.layouts.proofs.row.RowLines.{words-rows, words-length, lines-length}
@@ -54,17 +53,12 @@ use Rattle.layouts.proofs.offcuts.AreaBalance.{offcuts-room, area-balan
 use Rattle.layouts.proofs.offcuts.OffcutsLie.{offcuts-lie}
 use Rattle.layouts.proofs.fold.Back.{fold-back}
 
--- items with sides are wide
-pub sided-wide : (job : Job) → Sided job → Wide job
-unfolding widthOf
-sided-wide job sided q p = sided q p .0
-
 -- the first item of a pattern's stack is its widest, the first of its strip the highest
 first-largest : (job : Job) → Sided job → FirstLargest job
 first-largest job sided =
     record {
-      wide = λ p e i a b h. stack-width job (sided-wide job sided) (p .width) (p .height) i a b (staged p 2 e (node i a b) h);
-      high = λ p e i a b h. strip-height job (sided-wide job sided) (p .width) (p .height) i a b (staged p 1 e (node i a b) h);
+      wide = λ p e i a b h. stack-width job sided (p .width) (p .height) i a b (staged p 2 e (node i a b) h);
+      high = λ p e i a b h. strip-height job sided (p .width) (p .height) i a b (staged p 1 e (node i a b) h);
     }
   where
     staged : (p : Plate) (s : ℕ) → p .stage ≡ s → (t : Tree) → Pattern job p t → Pattern job (plate (p .width) (p .height) s) t
@@ -76,7 +70,7 @@ module _ (job : Job) (l : Listing) (m : Model job l) (sided : Sided job) where
   roots-ok [] h = tt
   roots-ok (t ∷ ts) h =
       let p = root-pattern job l m t (h .0) in
-      (pattern-ok job (sided-wide job sided) (itemTree l t) (p .1) (p .0), roots-ok ts (h .1))
+      (pattern-ok job sided (itemTree l t) (p .1) (p .0), roots-ok ts (h .1))
 
   module _ (ns : List ℕ) (plan : Accepted job l ns) where
     abbrev r : Run
@@ -151,7 +145,7 @@ module _ (job : Job) (l : Listing) (m : Model job l) (sided : Sided job) where
     back : filled (length ns) (folded job l set) ≡ ns
     back =
         ap (filled (length ns))
-        (fold-back job l m sided (ordered-pattern job (sided-wide job sided) (job .width) (job .height)) ns r u (plan .counted))
+        (fold-back job l m sided (ordered-pattern job sided (job .width) (job .height)) ns r u (plan .counted))
         ∙ whole
 
     -- as many pieces as lines
@@ -168,7 +162,7 @@ module _ (job : Job) (l : Listing) (m : Model job l) (sided : Sided job) where
                 pieces = omega (arith, pieces, u .pieces, balanced .few);
               };
           inside-boards = rules-inside job set rules;
-          no-overlap = rules-no-overlap job set rules;
+          all-apart = rules-apart job set rules;
           as-many = number ∙ u .opens;
           none-empty = decides-all decides-filled set .1 (every-map (λ b (h : BoardOk job b). h .filled) set ok);
           all-pieces = sym pieces ∙ u .pieces;

@@ -5,7 +5,7 @@ use Rattle.job.specs.Job.{Job}
 use Rattle.layouts.specs.Exact.{TestsExact, InOrder}
 use Rattle.layouts.proofs.lists.Sort.{falling-falls, falling-stable}
 use Rattle.layouts.proofs.rules.RulesExact.{set-exact}
-use Rattle.layouts.proofs.rules.RulesWords.{demands-exact, all-inside-exact, overlap-exact}
+use Rattle.layouts.proofs.rules.RulesWords.{demands-exact, all-inside-exact, all-apart-exact}
 
 pub tests-exact : (job : Job) → TestsExact job
 tests-exact job =
@@ -13,7 +13,7 @@ tests-exact job =
       rules = set-exact job;
       demands = demands-exact job;
       inside-boards = all-inside-exact job;
-      no-overlap = overlap-exact job;
+      all-apart = all-apart-exact job;
     }
 
 pub in-order : {A : Type 0} (key : A → ℕ) (l : List A) → InOrder key l

@@ -23,13 +23,13 @@ use Rattle.layouts.proofs.machine.MachineSteps.{_and-then_, state, piec
 -- the items of a tree of stage 2, a stack for each node, from stack k on, from x rightwards
 abbrev pub emitStrip : Job → ℕ → ℕ → ℕ → ℕ → ℕ → Tree → List Placement
 emitStrip job bd s k x y leaf = []
-emitStrip job bd s k x y (node i a b) = stackLines job bd s k 1 x y (i ∷ stackOf a) ++ emitStrip job bd s (suc k) (x + widthOf job i) y b
+emitStrip job bd s k x y (node i a b) = stackLines job bd s k 1 x y (i ∷ stackOf a) ++ emitStrip job bd s (suc k) (x + widthOf job i + job .blade) y b
 
 -- the items of a tree of stage 1, a strip for each node, from strip s on, from y upwards
 abbrev pub emitBoard : Job → ℕ → ℕ → ℕ → Tree → List Placement
 emitBoard job bd s y leaf = []
 emitBoard job bd s y (node i a b) =
-    placement (turn bd s 1 1) i 0 y ∷ (emitStrip job bd s 2 (0 + widthOf job i) y a ++ emitBoard job bd (suc s) (y + heightOf job i) b)
+    placement (turn bd s 1 1) i 0 y ∷ (emitStrip job bd s 2 (0 + widthOf job i + job .blade) y a ++ emitBoard job bd (suc s) (y + heightOf job i + job .blade) b)
 
 -- the items of the boards' trees, from board bd on
 abbrev pub emitSet : Job → ℕ → List Tree → List Placement
@@ -58,21 +58,21 @@ module _ (job : Job) (l : Listing) (m : Model job l) (sided : Sided job) where
     -- at stage 3, 2 and 1
     place-3 : plateOf l c .stage ≡ 3 → (ns₁ : List ℕ) → ns₁ ≡ spent ns c
         → Leads job l 1 (state u v (some (piece j x y)) (turn bd s k p) ns) (placement (turn bd s k (suc p)) i x y ∷ [])
-        (state u v (slot (restOf l c) x (y + heightOf job i)) (turn bd s k (suc p)) ns₁)
+        (state u v (slot (restOf l c) x (y + heightOf job i + job .blade)) (turn bd s k (suc p)) ns₁)
     place-3 e ns₁ f =
         step-placed job l _ _ _
         (rw (rest-3 l c e, f) (cut-3 job l u v j x y bd s k p ns c q (top-3 job l m sided c is-cut e) (right-3 job l m sided c is-cut e)))
 
     place-2 : plateOf l c .stage ≡ 2
         → Leads job l 1 (state u (some (piece j x y)) none (turn bd s k p) ns) (placement (turn bd s (suc k) 1) i x y ∷ [])
-        (state u (slot (restOf l c) (x + widthOf job i) y) (slot (branchOf l c) x (y + heightOf job i)) (turn bd s (suc k) 1) (spent ns c))
+        (state u (slot (restOf l c) (x + widthOf job i + job .blade) y) (slot (branchOf l c) x (y + heightOf job i + job .blade)) (turn bd s (suc k) 1) (spent ns c))
     place-2 e =
         step-placed job l _ _ _
         (rw (rest-2 l c e, branch-2 l c e) (cut-2 job l u v j x y bd s k p ns c q (top-2 job l m sided c is-cut e) (right-2 job l m sided c is-cut e)))
 
     pub place-1 : plateOf l c .stage ≡ 1
         → Leads job l 1 (state (some (piece j x y)) none none (turn bd s k p) ns) (placement (turn bd (suc s) 1 1) i x y ∷ [])
-        (state (slot (restOf l c) x (y + heightOf job i)) (slot (branchOf l c) (x + widthOf job i) y) none (turn bd (suc s) 1 1) (spent ns c))
+        (state (slot (restOf l c) x (y + heightOf job i + job .blade)) (slot (branchOf l c) (x + widthOf job i + job .blade) y) none (turn bd (suc s) 1 1) (spent ns c))
     place-1 e =
         step-placed job l _ _ _
         (rw (rest-1 l c e, branch-1 l c e) (cut-1 job l u v j x y bd s k p ns c q (top-1 job l m sided c is-cut e) (right-1 job l m sided c is-cut e)))
@@ -87,7 +87,7 @@ module _ (job : Job) (l : Listing) (m : Model job l) (sided : Sided job) where
       let (i, on) = found-cut l (suc j) ns c q in
       let e : plateOf l c .stage ≡ 3 = cut-stage l c (suc j) 3 on (h (omega arith)) in
       let (_, same) = grow-none l g (branch-stage-3 job l m sided c i e) in
-      let (p′, w) = reach-3 r (rest-stage-3 job l m sided c i e) u v x (y + heightOf job (cutAt l c .item)) bd s k (suc p) in (
+      let (p′, w) = reach-3 r (rest-stage-3 job l m sided c i e) u v x (y + heightOf job (cutAt l c .item) + job .blade) bd s k (suc p) in (
         p′,
         more-steps job l (omega arith) (_and-then_ job l (place-3 u v (suc j) x y bd s k p ns c q e ns₁ same) w),
       )
@@ -101,8 +101,8 @@ module _ (job : Job) (l : Listing) (m : Model job l) (sided : Sided job) where
   reach-2 (cut {j} {c} {ns} {ns₁} {ns₂} {a} {b} q g r) h u x y bd s k p =
       let (i, on) = found-cut l (suc j) ns c q in
       let e : plateOf l c .stage ≡ 2 = cut-stage l c (suc j) 2 on (h (omega arith)) in
-      let (p₁, w) = reach-3 g (branch-stage-2 job l m sided c i e) u (slot (restOf l c) (x + widthOf job (cutAt l c .item)) y) x (y + heightOf job (cutAt l c .item)) bd s (suc k) 1 in
-      let (k′, p′, w′) = reach-2 r (rest-stage-2 job l m sided c i e) u (x + widthOf job (cutAt l c .item)) y bd s (suc k) p₁ in (
+      let (p₁, w) = reach-3 g (branch-stage-2 job l m sided c i e) u (slot (restOf l c) (x + widthOf job (cutAt l c .item) + job .blade) y) x (y + heightOf job (cutAt l c .item) + job .blade) bd s (suc k) 1 in
+      let (k′, p′, w′) = reach-2 r (rest-stage-2 job l m sided c i e) u (x + widthOf job (cutAt l c .item) + job .blade) y bd s (suc k) p₁ in (
         k′,
         p′,
         more-steps job l {st′ = state u none none (turn bd s k′ p′) ns₂} (omega arith)
@@ -117,8 +117,8 @@ module _ (job : Job) (l : Listing) (m : Model job l) (sided : Sided job) where
   reach-1 (cut {j} {c} {ns} {ns₁} {ns₂} {a} {b} q g r) h y bd s k p =
       let (i, on) = found-cut l (suc j) ns c q in
       let e : plateOf l c .stage ≡ 1 = cut-stage l c (suc j) 1 on (h (omega arith)) in
-      let (k₁, p₁, w) = reach-2 g (branch-stage-1 job l m sided c i e) (slot (restOf l c) 0 (y + heightOf job (cutAt l c .item))) (0 + widthOf job (cutAt l c .item)) y bd (suc s) 1 1 in
-      let (s′, k′, p′, w′) = reach-1 r (rest-stage-1 job l m sided c i e) (y + heightOf job (cutAt l c .item)) bd (suc s) k₁ p₁ in (
+      let (k₁, p₁, w) = reach-2 g (branch-stage-1 job l m sided c i e) (slot (restOf l c) 0 (y + heightOf job (cutAt l c .item) + job .blade)) (0 + widthOf job (cutAt l c .item) + job .blade) y bd (suc s) 1 1 in
+      let (s′, k′, p′, w′) = reach-1 r (rest-stage-1 job l m sided c i e) (y + heightOf job (cutAt l c .item) + job .blade) bd (suc s) k₁ p₁ in (
         s′,
         k′,
         p′,

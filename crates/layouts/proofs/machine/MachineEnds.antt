@@ -81,8 +81,8 @@ module _ (job : Job) (l : Listing) (m : Model job l) (sided : Sided job) where
       let past₁ = grow-past l g (spent-past l 0 ns c q past) in
       let w : ℕ = widthOf job (cutAt l c .item) in
       let h : ℕ = heightOf job (cutAt l c .item) in
-      let (k₁, p₁, v₁) = reach-2 job l m sided g (branch-stage-1 job l m sided c i e) (slot (restOf l c) 0 (0 + h)) (0 + w) 0 (suc bd) 1 1 1 in
-      let (s₂, k₂, p₂, v₂) = reach-1 job l m sided r (rest-stage-1 job l m sided c i e) (0 + h) (suc bd) 1 k₁ p₁ in
+      let (k₁, p₁, v₁) = reach-2 job l m sided g (branch-stage-1 job l m sided c i e) (slot (restOf l c) 0 (0 + h + job .blade)) (0 + w + job .blade) 0 (suc bd) 1 1 1 in
+      let (s₂, k₂, p₂, v₂) = reach-1 job l m sided r (rest-stage-1 job l m sided c i e) (0 + h + job .blade) (suc bd) 1 k₁ p₁ in
       let (bd₃, s₃, k₃, p₃, d, v₃) = reach-0 gs (grow-past l r past₁) (suc bd) s₂ k₂ p₂ in (
         bd₃,
         s₃,

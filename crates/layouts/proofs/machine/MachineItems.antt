@@ -24,7 +24,7 @@ module _ (f : ℕ → ℕ) where
     stack-items : (bd s k p x y : ℕ) (is : Stack) → placedSum (stackLines job bd s k p x y is) ≡ sumOf f is
     unfolding sumOf stackLines
     stack-items bd s k p x y [] = refl
-    stack-items bd s k p x y (i ∷ is) = omega (arith, stack-items bd s k (suc p) x (y + heightOf job i) is)
+    stack-items bd s k p x y (i ∷ is) = omega (arith, stack-items bd s k (suc p) x (y + heightOf job i + job .blade) is)
 
     strip-items : (bd s k x y : ℕ) (t : Tree) → placedSum (emitStrip job bd s k x y t) ≡ sumOf f (itemsOfStrip (stripOf t))
     unfolding sumOf itemsOfStrip flatMap
@@ -32,10 +32,10 @@ module _ (f : ℕ → ℕ) where
     strip-items bd s k x y (node i a b) =
         omega (
           arith,
-          sumOf-append (λ p. f (p .item)) (stackLines job bd s k 1 x y (i ∷ stackOf a)) (emitStrip job bd s (suc k) (x + widthOf job i) y b),
+          sumOf-append (λ p. f (p .item)) (stackLines job bd s k 1 x y (i ∷ stackOf a)) (emitStrip job bd s (suc k) (x + widthOf job i + job .blade) y b),
           stack-items bd s k 1 x y (i ∷ stackOf a),
           strip-sum f (i ∷ stackOf a) (stripOf b),
-          strip-items bd s (suc k) (x + widthOf job i) y b,
+          strip-items bd s (suc k) (x + widthOf job i + job .blade) y b,
         )
 
     board-items : (bd s y : ℕ) (t : Tree) → placedSum (emitBoard job bd s y t) ≡ sumOf f (itemsOfBoard (boardOf t))
@@ -44,11 +44,11 @@ module _ (f : ℕ → ℕ) where
     board-items bd s y (node i a b) =
         omega (
           arith,
-          sumOf-append (λ p. f (p .item)) (emitStrip job bd s 2 (0 + widthOf job i) y a) (emitBoard job bd (suc s) (y + heightOf job i) b),
+          sumOf-append (λ p. f (p .item)) (emitStrip job bd s 2 (0 + widthOf job i + job .blade) y a) (emitBoard job bd (suc s) (y + heightOf job i + job .blade) b),
           board-sum f ((i ∷ []) ∷ stripOf a) (boardOf b),
           strip-sum f (i ∷ []) (stripOf a),
-          strip-items bd s 2 (0 + widthOf job i) y a,
-          board-items bd (suc s) (y + heightOf job i) b,
+          strip-items bd s 2 (0 + widthOf job i + job .blade) y a,
+          board-items bd (suc s) (y + heightOf job i + job .blade) b,
         )
 
     -- the items of the placements are those of the layouts

@@ -28,13 +28,13 @@ pub record FirstLargest (job : Job) : Type 0 where
 
 -- the stages of what is cut beside the first item of a strip, of the strips above it, and of the stacks beside the first of a stack
 beside-stage : (job : Job) (p : Plate) (i : ℕ) → p .stage ≡ 1 → branch job p i .stage ≡ 2
-beside-stage job p i e = rw (ap (λ (z : ℕ). eqb z 2) e) (stages-1 (job .mode) (positionAt job i) p e .1)
+beside-stage job p i e = rw (ap (λ (z : ℕ). eqb z 2) e) (stages-1 (job .mode) (job .blade) (positionAt job i) p e .1)
 
 above-stage : (job : Job) (p : Plate) (i : ℕ) → p .stage ≡ 1 → rest job p i .stage ≡ 1
-above-stage job p i e = rw (ap (λ (z : ℕ). eqb z 2) e) (stages-1 (job .mode) (positionAt job i) p e .0)
+above-stage job p i e = rw (ap (λ (z : ℕ). eqb z 2) e) (stages-1 (job .mode) (job .blade) (positionAt job i) p e .0)
 
 along-stage : (job : Job) (p : Plate) (i : ℕ) → p .stage ≡ 2 → rest job p i .stage ≡ 2
-along-stage job p i e = rw (ap (λ (z : ℕ). eqb z 2) e) (stages-2 (job .mode) (positionAt job i) p e .1)
+along-stage job p i e = rw (ap (λ (z : ℕ). eqb z 2) e) (stages-2 (job .mode) (job .blade) (positionAt job i) p e .1)
 
 module _ (job : Job) (first : FirstLargest job) where
   strip-lines : (p : Plate) → p .stage ≡ 2 → (t : Tree) → Pattern job p t → (bd s k x y : ℕ) → emitStrip job bd s k x y t ≡ stripLines job bd s k x y (stripOf t)
@@ -42,18 +42,18 @@ module _ (job : Job) (first : FirstLargest job) where
   strip-lines p e leaf h bd s k x y = refl
   strip-lines p e (node i a b) h bd s k x y =
       ap (λ (ps : List Placement). stackLines job bd s k 1 x y (i ∷ stackOf a) ++ ps)
-      (strip-lines (rest job p i) (along-stage job p i e) b (h .2) bd s (suc k) (x + widthOf job i) y
-      ∙ ap (λ (w : ℕ). stripLines job bd s (suc k) (x + w) y (stripOf b)) (sym (first .wide p e i a b h)))
+      (strip-lines (rest job p i) (along-stage job p i e) b (h .2) bd s (suc k) (x + widthOf job i + job .blade) y
+      ∙ ap (λ (w : ℕ). stripLines job bd s (suc k) (x + w + job .blade) y (stripOf b)) (sym (first .wide p e i a b h)))
 
   board-lines : (p : Plate) → p .stage ≡ 1 → (t : Tree) → Pattern job p t → (bd s y : ℕ) → emitBoard job bd s y t ≡ boardLines job bd s y (boardOf t)
   unfolding boardLines stripLines stackLines
   board-lines p e leaf h bd s y = refl
   board-lines p e (node i a b) h bd s y =
       ap₂ (λ (ps qs : List Placement). placement (turn bd s 1 1) i 0 y ∷ (ps ++ qs))
-      (strip-lines (branch job p i) (beside-stage job p i e) a (h .1) bd s 2 (0 + widthOf job i) y
-      ∙ ap (λ (w : ℕ). stripLines job bd s 2 (0 + w) y (stripOf a)) (sym (single-wide job i)))
-      (board-lines (rest job p i) (above-stage job p i e) b (h .2) bd (suc s) (y + heightOf job i)
-      ∙ ap (λ (z : ℕ). boardLines job bd (suc s) (y + z) (boardOf b)) (sym (first .high p e i a b h)))
+      (strip-lines (branch job p i) (beside-stage job p i e) a (h .1) bd s 2 (0 + widthOf job i + job .blade) y
+      ∙ ap (λ (w : ℕ). stripLines job bd s 2 (0 + w + job .blade) y (stripOf a)) (sym (single-wide job i)))
+      (board-lines (rest job p i) (above-stage job p i e) b (h .2) bd (suc s) (y + heightOf job i + job .blade)
+      ∙ ap (λ (z : ℕ). boardLines job bd (suc s) (y + z + job .blade) (boardOf b)) (sym (first .high p e i a b h)))
 
   module _ (l : Listing) (m : Model job l) where
     set-lines : (ts : List Tree) → Roots l ts → (bd : ℕ) → emitSet job bd (map (itemTree l) ts) ≡ setLines job bd (map (layoutOf l) ts)

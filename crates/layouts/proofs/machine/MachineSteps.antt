@@ -150,31 +150,31 @@ module _ (job : Job) (l : Listing) where
     -- a cut at stage 3 takes the next place: its top waits
     pub cut-3 : (0 < t → plateAt l t .stage ≡ 3) → r ≡ 0
         → step job l (state a b (some (piece j x y)) (turn bd s k p) ns)
-        ≡ placed (placement (turn bd s k (suc p)) i x y) (state a b (slot t x (y + heightOf job i)) (turn bd s k (suc p)) (spent ns c))
+        ≡ placed (placement (turn bd s k (suc p)) i x y) (state a b (slot t x (y + heightOf job i + job .blade)) (turn bd s k (suc p)) (spent ns c))
     unfolding step highest done nextTurn widthOf heightOf
     cut-3 h e =
         rw (found, step)
         (ap (places (turn bd s k (suc p)))
-        (ap (wait l t x (y + heightOf job i)) (wait-0 r (x + widthOf job i) y (waiting a b none) e) ∙ wait-3 t x (y + heightOf job i) a b h))
+        (ap (wait l t x (y + heightOf job i + job .blade)) (wait-0 r (x + widthOf job i + job .blade) y (waiting a b none) e) ∙ wait-3 t x (y + heightOf job i + job .blade) a b h))
 
     -- a cut at stage 2 begins a stack: its right waits, and its top above it
     pub cut-2 : (0 < t → plateAt l t .stage ≡ 3) → (0 < r → plateAt l r .stage ≡ 2)
         → step job l (state a (some (piece j x y)) none (turn bd s k p) ns)
         ≡ placed (placement (turn bd s (suc k) 1) i x y)
-        (state a (slot r (x + widthOf job i) y) (slot t x (y + heightOf job i)) (turn bd s (suc k) 1) (spent ns c))
+        (state a (slot r (x + widthOf job i + job .blade) y) (slot t x (y + heightOf job i + job .blade)) (turn bd s (suc k) 1) (spent ns c))
     unfolding step highest done nextTurn widthOf heightOf
     cut-2 h e =
         rw (found, step)
         (ap (places (turn bd s (suc k) 1))
-        (ap (wait l t x (y + heightOf job i)) (wait-2 r (x + widthOf job i) y a none e) ∙ wait-3 t x (y + heightOf job i) a (slot r (x + widthOf job i) y) h))
+        (ap (wait l t x (y + heightOf job i + job .blade)) (wait-2 r (x + widthOf job i + job .blade) y a none e) ∙ wait-3 t x (y + heightOf job i + job .blade) a (slot r (x + widthOf job i + job .blade) y) h))
 
     -- a cut at stage 1 begins a strip: its top waits, and its right beside it
     pub cut-1 : (0 < t → plateAt l t .stage ≡ 1) → (0 < r → plateAt l r .stage ≡ 2)
         → step job l (state (some (piece j x y)) none none (turn bd s k p) ns)
         ≡ placed (placement (turn bd (suc s) 1 1) i x y)
-        (state (slot t x (y + heightOf job i)) (slot r (x + widthOf job i) y) none (turn bd (suc s) 1 1) (spent ns c))
+        (state (slot t x (y + heightOf job i + job .blade)) (slot r (x + widthOf job i + job .blade) y) none (turn bd (suc s) 1 1) (spent ns c))
     unfolding step highest done nextTurn widthOf heightOf
     cut-1 h e =
         rw (found, step)
         (ap (places (turn bd (suc s) 1 1))
-        (ap (wait l t x (y + heightOf job i)) (wait-2 r (x + widthOf job i) y none none e) ∙ wait-1 t x (y + heightOf job i) (slot r (x + widthOf job i) y) none h))
+        (ap (wait l t x (y + heightOf job i + job .blade)) (wait-2 r (x + widthOf job i + job .blade) y none none e) ∙ wait-1 t x (y + heightOf job i + job .blade) (slot r (x + widthOf job i + job .blade) y) none h))

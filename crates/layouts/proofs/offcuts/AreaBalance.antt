@@ -1,4 +1,5 @@
--- Request Two: "for every accepted plan and every board, item areas, offcuts and waste make W×H"; what is left over of a type; the number of offcuts.
+-- Requests Two and Four: for every accepted plan and every board, item areas, offcuts, waste and the blade's swath make W×H; what is left over of a type; the
+-- number of offcuts.
 use Prim.Native.Nat.{ℕ, zero, suc, _+_, _*_, _≤_, _<_}
 use native.Mathlib.Omega.{arith}
 use mathlib.Core.Path.{_≡_, refl, sym, _∙_, ap, subst}
@@ -18,13 +19,13 @@ use Rattle.job.proofs.Records.{words-length}
 use Rattle.listing.specs.declared.plate.Plate.{Plate}
 use Rattle.listing.specs.Listing.{Cut, Listing, plateAt, cutAt}
 use Rattle.listing.specs.Model.{Model, Numbered, itemOf, leftBy}
-use Rattle.listing.specs.Waste.{area, itemArea, wasteOf, blade, swath}
-use Rattle.listing.proofs.Waste.{keptArea, cut-balance, no-swath}
+use Rattle.listing.specs.Waste.{area, itemArea, wasteOf, swathOf}
+use Rattle.listing.proofs.Waste.{keptArea, cut-balance}
 use Rattle.plan.specs.Plan.{countOf, onPlate, leavesPlate, boards, total}
 use Rattle.plan.specs.Feasible.{Feasible, NonePast}
 use Rattle.layouts.specs.Unfold.{Piece, Waiting, State, stepsFor, unfolded}
 use Rattle.layouts.specs.Offcuts.{Event, did, over, eventsOf, placedIn, cutsIn, cutsOn, typesOver, Offcut, offcut, offcutsIn, offcutWords}
-use Rattle.layouts.specs.Balance.{onBoard, itemsOn, offcutsOn, wasteBy, keepsTop, keepsRight, AreaBalance}
+use Rattle.layouts.specs.Balance.{onBoard, itemsOn, offcutsOn, wasteBy, swathBy, keepsTop, keepsRight, AreaBalance}
 use Rattle.layouts.proofs.trees.WeightedSums.{wsum, wsum-none, wsum-at, weight, total-wsum, countOf-wsum}
 use Rattle.layouts.proofs.trees.Cuts.{IsCut, plateOf, cut-fits, top-number, right-number, leaves-once}
 use Rattle.layouts.proofs.machine.MachineEnds.{unfolds, start}
@@ -83,26 +84,22 @@ module _ (job : Job) (l : Listing) where
   wastes c = wasteOf job (itemOf job (cutAt l c)) (plateOf l c)
 
   abbrev sawn : ℕ → ℕ
-  sawn c = swath (blade job) (job .mode) (itemOf job (cutAt l c)) (plateOf l c)
-
-  -- the swath of some cuts
-  abbrev swathBy : List ℕ → ℕ
-  swathBy ks = sumOf sawn ks
+  sawn c = swathOf job (itemOf job (cutAt l c)) (plateOf l c)
 
   -- what is done on board b: the items placed, the waste and the swath
   done-on : (b : ℕ) {ps qs : List Piece} {a a′ : ℕ} {ns ns′ : List ℕ} {es : List Event} → Runs job l ps a ns es a′ ns′ qs
       → didSum (λ d c. onBoard b d (itemArea (itemOf job (cutAt l c)) + wastes c + sawn c)) es
-      ≡ itemsOn job b (placedIn es) + wasteBy job l (cutsOn b es) + swathBy (cutsOn b es)
-  unfolding itemsOn wasteBy placedIn cutsOn sumOf
+      ≡ itemsOn job b (placedIn es) + wasteBy job l (cutsOn b es) + swathBy job l (cutsOn b es)
+  unfolding itemsOn wasteBy swathBy placedIn cutsOn sumOf
   done-on b stays = refl
   done-on b (leavesOver e r) = done-on b r
   done-on b (opens r) = done-on b r
   done-on b (cuts {b = d} {c = c} {es = es} e r) = go (eqb d b) (done-on b r)
     where
       go : (t : Bool)
-          → didSum (λ d c. onBoard b d (itemArea (itemOf job (cutAt l c)) + wastes c + sawn c)) es ≡ itemsOn job b (placedIn es) + wasteBy job l (cutsOn b es) + swathBy (cutsOn b es)
+          → didSum (λ d c. onBoard b d (itemArea (itemOf job (cutAt l c)) + wastes c + sawn c)) es ≡ itemsOn job b (placedIn es) + wasteBy job l (cutsOn b es) + swathBy job l (cutsOn b es)
           → cond t (itemArea (itemOf job (cutAt l c)) + wastes c + sawn c) 0 + didSum (λ d c. onBoard b d (itemArea (itemOf job (cutAt l c)) + wastes c + sawn c)) es
-          ≡ cond t (itemArea (itemOf job (cutAt l c))) 0 + itemsOn job b (placedIn es) + wasteBy job l (elim t [ true ↦ c ∷ cutsOn b es | false ↦ cutsOn b es ]) + swathBy (elim t [ true ↦ c ∷ cutsOn b es | false ↦ cutsOn b es ])
+          ≡ cond t (itemArea (itemOf job (cutAt l c))) 0 + itemsOn job b (placedIn es) + wasteBy job l (elim t [ true ↦ c ∷ cutsOn b es | false ↦ cutsOn b es ]) + swathBy job l (elim t [ true ↦ c ∷ cutsOn b es | false ↦ cutsOn b es ])
       go true rec = omega arith
       go false rec = omega arith
 
@@ -113,12 +110,6 @@ module _ (job : Job) (l : Listing) where
   items-of-cuts (leavesOver e r) = items-of-cuts r
   items-of-cuts (cuts {c = c} e r) = ap (λ (is : List ℕ). cutAt l c .item ∷ is) (items-of-cuts r)
   items-of-cuts (opens r) = items-of-cuts r
-
-  -- without a blade there is no swath
-  no-swath-by : (ks : List ℕ) → swathBy ks ≡ 0
-  unfolding sumOf blade
-  no-swath-by [] = refl
-  no-swath-by (k ∷ ks) = omega (arith, no-swath (job .mode) (itemOf job (cutAt l k)) (plateOf l k), no-swath-by ks)
 
 module _ (job : Job) (l : Listing) (m : Model job l) where
   -- the area of a residual that is kept is that of its plate type
@@ -212,11 +203,11 @@ module _ (job : Job) (l : Listing) (m : Model job l) where
     unfolding eventsOf unfolded
     same = same-items (stepsFor ns) job l (start ns)
 
-    -- with the swath of the job's blade
-    with-swath : (b : ℕ) → 1 ≤ b → b ≤ boards l ns
+    -- items, offcuts, waste and the swath of the job's blade make the board
+    each-board : (b : ℕ) → 1 ≤ b → b ≤ boards l ns
         → itemsOn job b (unfolded job l ns .placements) + offcutsOn b (offcutsIn l (eventsOf job l ns)) + wasteBy job l (cutsOn b (eventsOf job l ns)) + swathBy job l (cutsOn b (eventsOf job l ns)) ≡ job .width * job .height
     unfolding sumOf
-    with-swath b p q =
+    each-board b p q =
         let es : List Event = eventsOf job l ns in
         let (n, d, s) = flow job l (λ d j. onBoard b d (area (plateAt l j))) (λ _ _. 0) (λ d c. onBoard b d (itemArea (itemOf job (cutAt l c)) + wastes job l c + sawn job l c)) (λ d c i. areas-on b d c i) runs in
         let o : openedSum (λ d j. onBoard b d (area (plateAt l j))) 0 n ≡ area (plateAt l 0) = opened-at b 0 n (λ j. area (plateAt l j)) (omega arith) (omega arith) in
@@ -303,7 +294,7 @@ module _ (job : Job) (l : Listing) (m : Model job l) where
           same-items = same;
           cut-items = items-of-cuts job l runs ∙ ap (map (λ p. p .item)) same;
           cuts-done = cuts-done;
-          each-board = λ b p q. omega (arith, with-swath b p q, no-swath-by job l (cutsOn b (eventsOf job l ns)));
+          each-board = each-board;
           left-over = left-over;
           no-board-over = no-board-over;
           offcuts-number = offcuts-number;

@@ -46,10 +46,10 @@ queue a b c = maybe c ++ (maybe b ++ maybe a)
 
 -- what cut c leaves of a piece at (x, y): top and right, where they are kept
 abbrev pub topAt : Job → Listing → ℕ → ℕ → ℕ → List Piece
-topAt job l c x y = maybe (slot (cutAt l c .top) x (y + heightOf job (cutAt l c .item)))
+topAt job l c x y = maybe (slot (cutAt l c .top) x (y + heightOf job (cutAt l c .item) + job .blade))
 
 abbrev pub rightAt : Job → Listing → ℕ → ℕ → ℕ → List Piece
-rightAt job l c x y = maybe (slot (cutAt l c .right) (x + widthOf job (cutAt l c .item)) y)
+rightAt job l c x y = maybe (slot (cutAt l c .right) (x + widthOf job (cutAt l c .item) + job .blade) y)
 
 -- that of the higher stage first
 abbrev pub kids : Job → Listing → ℕ → ℕ → ℕ → List Piece
@@ -131,7 +131,7 @@ module _ (job : Job) (l : Listing) (m : Model job l) (sided : Sided job) where
           rw (cut-3 job l a b (q .plate) (q .x) (q .y) bd s k p ns c e top r0, chosen-3 a b (q .plate) (q .x) (q .y) (turn bd s k p) ns c e, events, run)
           (cuts e
           (from-same job l (kids-3 job l c (q .x) (q .y) (maybe b ++ maybe a) st r0)
-          (rec a (slot (cutAt l c .top) (q .x) (q .y + heightOf job (cutAt l c .item))) bd s k (suc p) (spent ns c) f g (slot-stage l 3 (cutAt l c .top) _ _ top))))
+          (rec a (slot (cutAt l c .top) (q .x) (q .y + heightOf job (cutAt l c .item) + job .blade)) bd s k (suc p) (spent ns c) f g (slot-stage l 3 (cutAt l c .top) _ _ top))))
   follows (suc fuel) a (some q) none bd s k p ns f g h = go (pick l (q .plate) ns) refl (λ u v w bd s k p ms f g h. follows fuel u v w bd s k p ms f g h)
     where
       go : (o : Option ℕ) → pick l (q .plate) ns ≡ o → ((u v w : Option Piece) (bd s k p : ℕ) (ms : List ℕ) → AtStage l 1 u → AtStage l 2 v → AtStage l 3 w → Follows fuel (state u v w (turn bd s k p) ms))
@@ -147,7 +147,7 @@ module _ (job : Job) (l : Listing) (m : Model job l) (sided : Sided job) where
           rw (cut-2 job l a none (q .plate) (q .x) (q .y) bd s k p ns c e top right, chosen-2 a none (q .plate) (q .x) (q .y) (turn bd s k p) ns c e, events, run)
           (cuts e
           (from-same job l (kids-2 job l c (q .x) (q .y) (maybe a) st)
-          (rec a (slot (cutAt l c .right) (q .x + widthOf job (cutAt l c .item)) (q .y)) (slot (cutAt l c .top) (q .x) (q .y + heightOf job (cutAt l c .item))) bd s (suc k) 1 (spent ns c) f (slot-stage l 2 (cutAt l c .right) _ _ right) (slot-stage l 3 (cutAt l c .top) _ _ top))))
+          (rec a (slot (cutAt l c .right) (q .x + widthOf job (cutAt l c .item) + job .blade) (q .y)) (slot (cutAt l c .top) (q .x) (q .y + heightOf job (cutAt l c .item) + job .blade)) bd s (suc k) 1 (spent ns c) f (slot-stage l 2 (cutAt l c .right) _ _ right) (slot-stage l 3 (cutAt l c .top) _ _ top))))
   follows (suc fuel) (some q) none none bd s k p ns f g h = go (pick l (q .plate) ns) refl (λ u v w bd s k p ms f g h. follows fuel u v w bd s k p ms f g h)
     where
       go : (o : Option ℕ) → pick l (q .plate) ns ≡ o → ((u v w : Option Piece) (bd s k p : ℕ) (ms : List ℕ) → AtStage l 1 u → AtStage l 2 v → AtStage l 3 w → Follows fuel (state u v w (turn bd s k p) ms))
@@ -163,7 +163,7 @@ module _ (job : Job) (l : Listing) (m : Model job l) (sided : Sided job) where
           rw (cut-1 job l none none (q .plate) (q .x) (q .y) bd s k p ns c e top right, chosen-1 none none (q .plate) (q .x) (q .y) (turn bd s k p) ns c e, events, run)
           (cuts e
           (from-same job l (kids-1 job l c (q .x) (q .y) st)
-          (rec (slot (cutAt l c .top) (q .x) (q .y + heightOf job (cutAt l c .item))) (slot (cutAt l c .right) (q .x + widthOf job (cutAt l c .item)) (q .y)) none bd (suc s) 1 1 (spent ns c) (slot-stage l 1 (cutAt l c .top) _ _ top) (slot-stage l 2 (cutAt l c .right) _ _ right) tt)))
+          (rec (slot (cutAt l c .top) (q .x) (q .y + heightOf job (cutAt l c .item) + job .blade)) (slot (cutAt l c .right) (q .x + widthOf job (cutAt l c .item) + job .blade) (q .y)) none bd (suc s) 1 1 (spent ns c) (slot-stage l 1 (cutAt l c .top) _ _ top) (slot-stage l 2 (cutAt l c .right) _ _ right) tt)))
   follows (suc fuel) none none none bd s k p ns f g h = go (ltb 0 (boards l ns)) refl (follows fuel (some (piece 0 0 0)) none none (suc bd) 0 0 0 ns (ap (λ (q : Plate). q .stage) (m .first)) tt tt)
     where
       go : (t : Bool) → ltb 0 (boards l ns) ≡ t → Follows fuel (state (some (piece 0 0 0)) none none (turn (suc bd) 0 0 0) ns) → Follows (suc fuel) (state none none none (turn bd s k p) ns)

@@ -87,15 +87,15 @@ module _ (job : Job) (l : Listing) where
           omega (
             arith,
             sumOf-append (λ p. f b (p .plate)) right top,
-            slot-sum f b (cutAt l c .top) x (y + heightOf job (cutAt l c .item)),
-            slot-sum f b (cutAt l c .right) (x + widthOf job (cutAt l c .item)) y,
+            slot-sum f b (cutAt l c .top) x (y + heightOf job (cutAt l c .item) + job .blade),
+            slot-sum f b (cutAt l c .right) (x + widthOf job (cutAt l c .item) + job .blade) y,
           )
       go false =
           omega (
             arith,
             sumOf-append (λ p. f b (p .plate)) top right,
-            slot-sum f b (cutAt l c .top) x (y + heightOf job (cutAt l c .item)),
-            slot-sum f b (cutAt l c .right) (x + widthOf job (cutAt l c .item)) y,
+            slot-sum f b (cutAt l c .top) x (y + heightOf job (cutAt l c .item) + job .blade),
+            slot-sum f b (cutAt l c .right) (x + widthOf job (cutAt l c .item) + job .blade) y,
           )
 
   -- f by board and plate type; g and h by board and cut: a cut takes f of its plate and g, and gives h and f of what it leaves

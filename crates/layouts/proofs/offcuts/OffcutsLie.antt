@@ -1,4 +1,4 @@
--- Request Two: the offcuts of any run lie inside their boards, and apart from each other and from the items. Each part of a board, item or offcut, lies in
+-- Requests Two and Four: the offcuts of any run lie inside their boards, and at least b apart from each other and from the items. Each part of a board, item or offcut, lies in
 -- the piece that it came from, and the pieces that wait are apart.
 use Prim.Native.Nat.{ℕ, suc, _<_}
 use native.Mathlib.Omega.{arith}
@@ -10,7 +10,6 @@ use Rattle.job.specs.Admitted.{Sided}
 use Rattle.listing.specs.declared.plate.Plate.{Plate}
 use Rattle.listing.specs.Listing.{Listing, cutAt}
 use Rattle.listing.specs.Model.{Model}
-use Rattle.listing.specs.Waste.{blade}
 use Rattle.layouts.specs.Placement.{turn}
 use Rattle.layouts.specs.Unfold.{Piece, unfolded, stepsFor}
 use Rattle.layouts.specs.Rules.{Every, Some}
@@ -47,13 +46,13 @@ module _ (job : Job) (l : Listing) where
   Within b ps r = (b < r .board) ⊎ ((r .board ≡ b) × Some (λ p. In r (offcut l b p)) ps)
 
   -- a part of a piece is clear of the parts of those that it is apart from
-  off-within : (b : ℕ) (o r s : Offcut) (ps : List Piece) → In r o → r .board ≡ b → Every (λ p. ApartBy (blade job) o (offcut l b p)) ps → Within b ps s → Clear job r s
+  off-within : (b : ℕ) (o r s : Offcut) (ps : List Piece) → In r o → r .board ≡ b → Every (λ p. ApartBy (job .blade) o (offcut l b p)) ps → Within b ps s → Clear job r s
   off-within b o r s ps i e h (inl q) = inl (λ (f : r .board ≡ s .board). omega arith)
   off-within b o r s ps i e h (inr (_, q)) = inr (go ps h q)
     where
-      go : (ps : List Piece) → Every (λ p. ApartBy (blade job) o (offcut l b p)) ps → Some (λ p. In s (offcut l b p)) ps → ApartBy (blade job) r s
+      go : (ps : List Piece) → Every (λ p. ApartBy (job .blade) o (offcut l b p)) ps → Some (λ p. In s (offcut l b p)) ps → ApartBy (job .blade) r s
       go [] h q = absurd q
-      go (p ∷ ps) h (inl q) = apart-in (blade job) r o s (offcut l b p) i q (h .0)
+      go (p ∷ ps) h (inl q) = apart-in (job .blade) r o s (offcut l b p) i q (h .0)
       go (p ∷ ps) h (inr q) = go ps (h .1) q
 
   -- what a run makes of the pieces that wait
@@ -62,7 +61,7 @@ module _ (job : Job) (l : Listing) where
     within : Every (Within b ps) (partsIn job l es)
     clear : Pairs (Clear job) (partsIn job l es)
 
-module _ (job : Job) (l : Listing) (m : Model job l) where
+module _ (job : Job) (l : Listing) (m : Model job l) (sided : Sided job) where
   -- Where the pieces that wait lie inside the board and are apart, so are the parts that are made of them, and those of later boards.
   parts-lie : {ps qs : List Piece} {b b′ : ℕ} {ns ns′ : List ℕ} {es : List Event} → Runs job l ps b ns es b′ ns′ qs
       → Every (λ p. InBoard job (offcut l b p)) ps → Pairs (Off job l b) ps → Lie job l b ps es
@@ -102,13 +101,13 @@ module _ (job : Job) (l : Listing) (m : Model job l) where
       it = itemPart job (placement (turn b s k p) (cutAt l c .item) x y)
 
       in-o : In it o
-      in-o = item-in job l m b j x y c i on s k p
+      in-o = item-in job l m sided b j x y c i on s k p
 
       self : (t : Offcut) → In t t
       self t = record { left = omega arith; low = omega arith; right = omega arith; up = omega arith }
 
       into : Every (λ q. In (offcut l b q) o) (kids job l c x y)
-      into = kids-in job l m b j x y c i on
+      into = kids-in job l m sided b j x y c i on
 
       inside : Every (λ q. InBoard job (offcut l b q)) (kids job l c x y ++ ps)
       inside =
@@ -116,12 +115,12 @@ module _ (job : Job) (l : Listing) (m : Model job l) where
           (every-map (λ q (z : In (offcut l b q) o). in-board job (offcut l b q) o z (h .0)) (kids job l c x y) into) (h .1)
 
       -- what is apart from the piece is apart from what lies in it
-      off : (t : Offcut) → In t o → Every (λ q. ApartBy (blade job) t (offcut l b q)) ps
-      off t z = every-map (λ q (w : Off job l b (piece j x y) q). apart-in (blade job) t o (offcut l b q) (offcut l b q) z (self (offcut l b q)) w) ps (a .0)
+      off : (t : Offcut) → In t o → Every (λ q. ApartBy (job .blade) t (offcut l b q)) ps
+      off t z = every-map (λ q (w : Off job l b (piece j x y) q). apart-in (job .blade) t o (offcut l b q) (offcut l b q) z (self (offcut l b q)) w) ps (a .0)
 
       pairs : Pairs (Off job l b) (kids job l c x y ++ ps)
       pairs =
-          pairs-append (Off job l b) (kids job l c x y) ps (kids-apart job l m b j x y c i on) (a .1)
+          pairs-append (Off job l b) (kids job l c x y) ps (kids-apart job l m sided b j x y c i on) (a .1)
           (every-map (λ q (z : In (offcut l b q) o). off (offcut l b q) z) (kids job l c x y) into)
 
       some-in : (t : Offcut) (qs : List Piece) → Every (λ q. In (offcut l b q) o) qs → Some (λ q. In t (offcut l b q)) qs → In t o
@@ -137,8 +136,8 @@ module _ (job : Job) (l : Listing) (m : Model job l) where
           cases (inl w) = inl (some-in t (kids job l c x y) into w)
           cases (inr w) = inr w
 
-      off-all : Every (λ q. ApartBy (blade job) it (offcut l b q)) (kids job l c x y ++ ps)
-      off-all = every-append (λ q. ApartBy (blade job) it (offcut l b q)) (kids job l c x y) ps (kids-off job l m b j x y c i on s k p) (off it in-o)
+      off-all : Every (λ q. ApartBy (job .blade) it (offcut l b q)) (kids job l c x y ++ ps)
+      off-all = every-append (λ q. ApartBy (job .blade) it (offcut l b q)) (kids job l c x y) ps (kids-off job l m sided b j x y c i on s k p) (off it in-o)
 
       go : Lie job l b (kids job l c x y ++ ps) es → Lie job l b (piece j x y ∷ ps) (did c (placement (turn b s k p) (cutAt l c .item) x y) ∷ es)
       go rec =
@@ -194,13 +193,13 @@ module _ (job : Job) (l : Listing) where
 module _ (job : Job) (l : Listing) (m : Model job l) (sided : Sided job) (ns : List ℕ) where
   all-parts : Lie job l 0 [] (eventsOf job l ns)
   unfolding eventsOf
-  all-parts = parts-lie job l m (run-follows job l m sided (stepsFor ns) ns) tt tt
+  all-parts = parts-lie job l m sided (run-follows job l m sided (stepsFor ns) ns) tt tt
 
   same : placedIn (eventsOf job l ns) ≡ unfolded job l ns .placements
   unfolding eventsOf unfolded
   same = same-items (stepsFor ns) job l (start ns)
 
-  -- the offcuts of any counts: inside their boards, apart from each other and from the items
+  -- the offcuts of any counts: inside their boards, at least b apart from each other and from the items
   pub offcuts-lie : OffcutsLie job (unfolded job l ns .placements) (offcutsIn l (eventsOf job l ns))
   offcuts-lie =
       record {

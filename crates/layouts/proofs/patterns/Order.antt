@@ -7,6 +7,7 @@ use mathlib.Core.List.{[], _∷_, map}
 use Rattle.job.specs.Lists.{sumOf}
 use Rattle.job.specs.Mode.{three}
 use Rattle.job.specs.Job.{Job}
+use Rattle.job.specs.Admitted.{Sided}
 use Rattle.job.proofs.Sums.{sumOf-map, sumOf-same, sumOf-parts}
 use Rattle.listing.specs.Plate.{plate}
 use Rattle.layouts.specs.Layout.{Stack, Strip, Board, widthOf, heightOf, stackHeight, stripHeight, fullStack}
@@ -19,7 +20,7 @@ use Rattle.layouts.proofs.lists.Sort.{every-falling, sum-falling, fille
 use Rattle.layouts.proofs.rules.RulesExact.{full-exact}
 use Rattle.layouts.proofs.trees.Tree.{Tree, leaf, node}
 use Rattle.layouts.proofs.trees.Pattern.{Pattern, stripOf, boardOf}
-use Rattle.layouts.proofs.patterns.PatternSteps.{Wide, cut-1}
+use Rattle.layouts.proofs.patterns.PatternSteps.{cut-1}
 use Rattle.layouts.proofs.patterns.PatternRules.{Beside, single-high, strip-high, beside}
 
 -- the items of a strip, of a board, by their sums
@@ -82,7 +83,7 @@ module _ (job : Job) where
   same-stacks [] h = refl
   same-stacks (k ∷ s) h = ap₂ (λ (a : Stack) (b : Strip). a ∷ b) (falling-same (widthOf job) k (h .0)) (same-stacks s (h .1))
 
-  module _ (wide : Wide job) where
+  module _ (sided : Sided job) where
     -- a strip that a stage 1 cut begins is in order
     ordered-strip :
         (w i : ℕ) (a : Tree)
@@ -112,5 +113,5 @@ module _ (job : Job) where
     ordered-pattern w h (node i a b) p =
         let q = cut-1 job w h i a b .0 p in
         ap₂ (λ (s : Strip) (r : Board). s ∷ r)
-        (ordered-strip w i a (beside job wide (w - widthOf job i) (heightOf job i) a (q .1)))
-        (ordered-pattern w (h - heightOf job i) b (q .2))
+        (ordered-strip w i a (beside job sided (w - widthOf job i) (heightOf job i) a (q .1)))
+        (ordered-pattern w (h - heightOf job i - job .blade) b (q .2))

@@ -1,11 +1,11 @@
 -- From layouts to patterns: a board that keeps the layout rules, put in folding's order, is the layout of a cut pattern of the board.
-use Prim.Native.Nat.{ℕ, _-_, _≤_}
+use Prim.Native.Nat.{ℕ, _+_, _-_, _≤_}
 use native.Mathlib.Omega.{arith}
-use mathlib.Core.Path.{_≡_, refl, sym, _∙_}
+use mathlib.Core.Path.{_≡_, refl, sym, ap, _∙_}
 use mathlib.Core.Logic.{_≢_}
 use mathlib.Core.Bool.{Bool, true, false}
 use mathlib.Core.List.{[], _∷_, map}
-use Rattle.job.specs.Lists.{sumOf, maxOf}
+use Rattle.job.specs.Lists.{sumOf, gapSum, maxOf}
 use Rattle.job.specs.Mode.{three, exact}
 use Rattle.job.specs.Job.{Job}
 use Rattle.job.proofs.Sums.{sumOf-map, sumOf-same}
@@ -35,14 +35,14 @@ module _ (job : Job) where
       → Falling (widthOf job) s
       → stackHeight job s ≤ h
       → Pattern job (plate w h 3) (stackTree s)
-  unfolding stackHeight sumOf
+  unfolding stackHeight gapSum sumOf
   pattern-stack t w h [] ty na sa fa up = tt
   pattern-stack t w h (i ∷ s) ty na sa fa up =
       cut-3 job w h i leaf (stackTree s) t .1 (
         record { type = ty .0; wide = na .0; high = omega arith },
         λ e. sa e .0,
         tt,
-        pattern-stack t (widthOf job i) (h - heightOf job i) s (ty .1) (fa .0)
+        pattern-stack t (widthOf job i) (h - heightOf job i - job .blade) s (ty .1) (fa .0)
             (λ e. every-map (λ j (q : widthOf job j ≡ w). q ∙ sym (sa e .0)) s (sa e .1)) (fa .1) (omega arith),
       )
 
@@ -61,16 +61,16 @@ module _ (job : Job) where
       → Every (InOrder h) s
       → stripWidth job s ≤ w
       → Pattern job (plate w h 2) (stripTree s)
-  unfolding stripWidth stackWidth stackHeight sumOf maxOf
+  unfolding stripWidth stackWidth stackHeight gapSum sumOf maxOf
   pattern-stacks t w h [] g up = tt
   pattern-stacks t w h ([] ∷ s) g up = tt
   pattern-stacks t w h ((i ∷ k) ∷ s) g up =
       let q = g .0 in
       cut-2-three job w h i (stackTree k) (stripTree s) t .1 (
         record { type = q .types .0; wide = omega arith; high = omega (arith, q .low) },
-        pattern-stack t (widthOf job i) (h - heightOf job i) k (q .types .1) (q .falls .0)
+        pattern-stack t (widthOf job i) (h - heightOf job i - job .blade) k (q .types .1) (q .falls .0)
             (λ e. every-map (λ j (r : widthOf job i ≡ widthOf job j). sym r) k (q .even e .0 .1)) (q .falls .1) (omega (arith, q .low)),
-        pattern-stacks t (w - widthOf job i) h s (g .1) (omega arith),
+        pattern-stacks t (w - widthOf job i - job .blade) h s (g .1) (omega arith),
       )
 
   -- a single item, at most h high
@@ -88,7 +88,7 @@ module _ (job : Job) where
       → Falling (stackHeight job) s
       → stripWidth job s ≤ w
       → Pattern job (plate w h 2) (stripTree s)
-  unfolding stripWidth stackWidth stackHeight sumOf maxOf
+  unfolding stripWidth stackWidth stackHeight gapSum sumOf maxOf
   pattern-singles t w h [] g fa up = tt
   pattern-singles t w h ([] ∷ s) g fa up = tt
   pattern-singles t w h ((i ∷ j ∷ k) ∷ s) g fa up = absurd (omega (arith, g .0 .single))
@@ -98,7 +98,7 @@ module _ (job : Job) where
         record { type = q .types .0; wide = omega arith; high = omega (arith, q .low) },
         λ e. omega (arith, q .just e),
         tt,
-        pattern-singles t (w - widthOf job i) (heightOf job i) s (lower s (g .1) (fa .0) (q .just)) (fa .1) (omega arith),
+        pattern-singles t (w - widthOf job i - job .blade) (heightOf job i) s (lower s (g .1) (fa .0) (q .just)) (fa .1) (omega arith),
       )
     where
       lower :
@@ -115,8 +115,8 @@ module _ (job : Job) where
 
   -- sorting a stack keeps its sides
   falling-high : (s : Stack) → stackHeight job (falling (widthOf job) s) ≡ stackHeight job s
-  unfolding stackHeight
-  falling-high s = sum-falling (widthOf job) (heightOf job) s
+  unfolding stackHeight gapSum
+  falling-high s = ap (λ (n : ℕ). n - job .blade) (sum-falling (widthOf job) (λ i. heightOf job i + job .blade) s)
 
   falling-wide : (s : Stack) → stackWidth job (falling (widthOf job) s) ≡ stackWidth job s
   unfolding stackWidth
@@ -132,7 +132,7 @@ module _ (job : Job) where
   Ready h [] = ⊥
   Ready h ([] ∷ s) = ⊥
   Ready h ((i ∷ is) ∷ s) =
-      (is ≡ []) × Within job (job .width) h i × Pattern job (plate (job .width - widthOf job i) (heightOf job i) 2) (stripTree s)
+      (is ≡ []) × Within job (job .width) h i × Pattern job (plate (job .width - widthOf job i - job .blade) (heightOf job i) 2) (stripTree s)
 
   -- two stages: single items in falling height, in an exact mode all of one height c
   ready-items :
@@ -146,14 +146,14 @@ module _ (job : Job) where
       → Falling (stackHeight job) s
       → stripWidth job s ≤ job .width
       → Ready h s
-  unfolding stripWidth stackWidth stackHeight sumOf maxOf
+  unfolding stripWidth stackWidth stackHeight gapSum sumOf maxOf
   ready-items t h c [] fi si ty lo le fa cr = absurd fi
   ready-items t h c ([] ∷ s) fi si ty lo le fa cr = absurd (omega (arith, si .0))
   ready-items t h c ((i ∷ j ∷ k) ∷ s) fi si ty lo le fa cr = absurd (omega (arith, si .0))
   ready-items t h c ((i ∷ []) ∷ s) fi si ty lo le fa cr = (
     refl,
     record { type = ty .0 .0; wide = omega arith; high = omega (arith, lo .0) },
-    pattern-singles t (job .width - widthOf job i) (heightOf job i) s
+    pattern-singles t (job .width - widthOf job i - job .blade) (heightOf job i) s
         (level s (si .1) (ty .1) (fa .0) (λ e. le e .1) (λ e. le e .0)) (fa .1) (omega arith),
   )
     where
@@ -172,7 +172,7 @@ module _ (job : Job) where
       )
 
   ready-two : (s : Strip) → three (job .mode) ≡ false → StripOk job s → Ready (stripHeight job s) (falling (stackHeight job) s)
-  unfolding stripHeight stripWidth
+  unfolding stripHeight stripWidth gapSum
   ready-two s t k =
       ready-items t (stripHeight job s) (maxOf (heightOf job) (itemsOfStrip s)) (falling (stackHeight job) s)
       (filled-falling (stackHeight job) s (k .filled))
@@ -184,7 +184,7 @@ module _ (job : Job) where
       (single-heights job (maxOf (heightOf job) (itemsOfStrip s)) s (k .staged .single t) .1
       (alike-same (heightOf job) (itemsOfStrip s) (k .staged .level t e))))
       (falling-falls (stackHeight job) s)
-      (omega (arith, sum-falling (stackHeight job) (stackWidth job) s, k .across))
+      (omega (arith, sum-falling (stackHeight job) (λ k. stackWidth job k + job .blade) s, k .across))
 
   -- three stages: stacks in order, the first a single item of height h
   ready-stacks :
@@ -194,7 +194,7 @@ module _ (job : Job) where
       → Every (InOrder h) s
       → stripWidth job s ≤ job .width
       → Ready h s
-  unfolding stripWidth stackWidth stackHeight sumOf maxOf
+  unfolding stripWidth stackWidth stackHeight gapSum sumOf maxOf
   ready-stacks t h [] hp g cr = absurd hp
   ready-stacks t h ([] ∷ s) hp g cr = absurd (omega (arith, full-exact job h [] .0 hp .0))
   ready-stacks t h ((i ∷ j ∷ k) ∷ s) hp g cr = absurd (omega (arith, full-exact job h (i ∷ j ∷ k) .0 hp .0))
@@ -202,7 +202,7 @@ module _ (job : Job) where
       let z : heightOf job i ≡ h = omega (arith, full-exact job h (i ∷ []) .0 hp .1) in (
         refl,
         record { type = g .0 .types .0; wide = omega arith; high = omega arith },
-        rw z (pattern-stacks t (job .width - widthOf job i) h s (g .1) (omega arith)),
+        rw z (pattern-stacks t (job .width - widthOf job i - job .blade) h s (g .1) (omega arith)),
       )
 
   ready-three :
@@ -210,7 +210,7 @@ module _ (job : Job) where
       → three (job .mode) ≡ true
       → StripOk job s
       → Ready (stripHeight job s) (toFront (fullStack job (stripHeight job s)) (map (falling (widthOf job)) s))
-  unfolding stripHeight stripWidth
+  unfolding stripHeight stripWidth gapSum
   ready-three s t k =
       ready-stacks t (stripHeight job s) (toFront test s₁)
       (front-passes test s₁ passes)
@@ -218,9 +218,9 @@ module _ (job : Job) where
       (in-order s (k .stacks) (k .types) (k .staged .even t) (max-above (stackHeight job) s)))
       (omega (
         arith,
-        sum-front test (stackWidth job) s₁,
-        sumOf-map (stackWidth job) (falling (widthOf job)) s,
-        sumOf-same (λ a. stackWidth job (falling (widthOf job) a)) (stackWidth job) s falling-wide,
+        sum-front test (λ a. stackWidth job a + job .blade) s₁,
+        sumOf-map (λ a. stackWidth job a + job .blade) (falling (widthOf job)) s,
+        sumOf-same (λ a. stackWidth job (falling (widthOf job) a) + job .blade) (λ a. stackWidth job a + job .blade) s (λ a. ap (λ (n : ℕ). n + job .blade) (falling-wide a)),
         k .across,
       ))
     where
@@ -275,7 +275,7 @@ module _ (job : Job) where
       → Every (StripOk job) b
       → boardHeight job b ≤ h
       → Pattern job (plate (job .width) h 1) (boardTree (map (ordered job) b))
-  unfolding boardHeight sumOf
+  unfolding boardHeight gapSum sumOf
   ordered-strips h [] k up = tt
   ordered-strips h (s ∷ b) k up = go (ordered job s) (ready s (k .0)) (λ m. ordered-strips m b (k .1))
     where
@@ -291,7 +291,7 @@ module _ (job : Job) where
           cut-1 job (job .width) h i (stripTree m) (boardTree (map (ordered job) b)) .1 (
             record { type = f .type; wide = f .wide; high = omega (arith, f .high) },
             q .2,
-            rec (h - heightOf job i) (omega (arith, f .high)),
+            rec (h - heightOf job i - job .blade) (omega (arith, f .high)),
           )
 
   filled-ordered : (b : Board) → Filled b → Filled (map (ordered job) b)

@@ -1,14 +1,15 @@
 -- From patterns to layouts: the layout of a cut pattern of the board keeps the layout rules of the mode, and is in folding's order.
-use Prim.Native.Nat.{ℕ, _-_, _≤_}
+use Prim.Native.Nat.{ℕ, _+_, _-_, _≤_}
 use native.Mathlib.Omega.{arith}
 use mathlib.Core.Path.{_≡_, refl, sym, ap, _∙_}
 use mathlib.Core.Logic.{inl, _≢_}
 use mathlib.Core.Bool.{Bool, true, false, cond, false≢true}
 use mathlib.Core.List.{[], _∷_}
 use lib.ListN.{length}
-use Rattle.job.specs.Lists.{sumOf, maxOf}
+use Rattle.job.specs.Lists.{sumOf, gapsAfter, gapSum, maxOf}
 use Rattle.job.specs.Mode.{three, exact}
 use Rattle.job.specs.Job.{Job}
+use Rattle.job.specs.Admitted.{Sided}
 use Rattle.listing.specs.Plate.{plate, board}
 use Rattle.layouts.specs.Layout.{Stack, Strip, Board, widthOf, heightOf, stackWidth, stackHeight, stripWidth, stripHeight, boardHeight}
 use Rattle.layouts.specs.Placement.{itemsOfStrip}
@@ -18,23 +19,23 @@ use Rattle.layouts.specs.Exact.{Falling}
 use Rattle.layouts.proofs.rules.RulesExact.{same-alike, single-heights}
 use Rattle.layouts.proofs.trees.Tree.{Tree, leaf, node}
 use Rattle.layouts.proofs.trees.Pattern.{Pattern, stackOf, stripOf, boardOf}
-use Rattle.layouts.proofs.patterns.PatternSteps.{Wide, Within, cut-1, cut-2-three, cut-2-two, cut-3, waste-leaf}
+use Rattle.layouts.proofs.patterns.PatternSteps.{laid-sides, Within, cut-1, cut-2-three, cut-2-two, cut-3, waste-leaf}
 
 module _ (job : Job) where
-  -- what a pattern of a stage 3 plate of w by h makes of the items above
+  -- what a pattern of a stage 3 plate makes of the items above, where h remains above the item below them, the blade's gap with it
   pub record Above (w h : ℕ) (l : Stack) : Type 0 where
     pub types : Every (OfJob job) l
     pub narrow : Every (λ i. widthOf job i ≤ w) l
     pub same : exact (job .mode) ≡ true → Every (λ i. widthOf job i ≡ w) l
     pub falls : Falling (widthOf job) l
-    pub tall : sumOf (heightOf job) l ≤ h
+    pub tall : gapsAfter (job .blade) (heightOf job) l ≤ h
 
-  -- what a pattern of a stage 2 plate of w by h makes of the stacks beside
+  -- what a pattern of a stage 2 plate makes of the stacks beside, where w remains beside the item before them, the blade's gap with it
   pub record Beside (w h : ℕ) (ss : Strip) : Type 0 where
     pub stacks : Every Filled ss
     pub types : Every (Every (OfJob job)) ss
     pub low : Every (λ s. stackHeight job s ≤ h) ss
-    pub across : stripWidth job ss ≤ w
+    pub across : gapsAfter (job .blade) (stackWidth job) ss ≤ w
     -- in two stages
     pub single : three (job .mode) ≡ false → Every Single ss
     pub level : three (job .mode) ≡ false → exact (job .mode) ≡ true → Every (λ s. stackHeight job s ≡ h) ss
@@ -43,14 +44,14 @@ module _ (job : Job) where
     pub even : exact (job .mode) ≡ true → Every (Alike (widthOf job)) ss
     pub falls : Every (Falling (widthOf job)) ss
 
-  -- what a pattern of a stage 1 plate of w by h makes of the strips
+  -- what a pattern of a stage 1 plate makes of the strips, where h remains above the strips below, the blade's gap with it
   pub record Over (w h : ℕ) (b : Board) : Type 0 where
     pub strips : w ≡ job .width → Every (StripOk job) b
-    pub up : boardHeight job b ≤ h
+    pub up : gapsAfter (job .blade) (stripHeight job) b ≤ h
 
   -- a stack that is one item
   pub single-high : (i : ℕ) → stackHeight job (i ∷ []) ≡ heightOf job i
-  unfolding stackHeight sumOf
+  unfolding stackHeight gapSum sumOf
   single-high i = omega arith
 
   pub single-wide : (i : ℕ) → stackWidth job (i ∷ []) ≡ widthOf job i
@@ -67,7 +68,7 @@ module _ (job : Job) where
     pub items : Above (widthOf job i) (h - heightOf job i) (stackOf a)
     pub alone : three (job .mode) ≡ false → stackOf a ≡ []
     pub just : three (job .mode) ≡ false → exact (job .mode) ≡ true → heightOf job i ≡ h
-    pub further : Pattern job (plate (w - widthOf job i) (cond (three (job .mode)) h (heightOf job i)) 2) b
+    pub further : Pattern job (plate (w - widthOf job i - job .blade) (cond (three (job .mode)) h (heightOf job i)) 2) b
 
   -- the stack's width is its first item's, since no other is wider; its height is at most the plate's
   module _ (w h i : ℕ) (a b : Tree) (q : Begun w h i a b) where
@@ -76,11 +77,11 @@ module _ (job : Job) where
     stack-wide = omega (arith, max-least (widthOf job) (widthOf job i) (stackOf a) (q .items .narrow))
 
     stack-high : stackHeight job (i ∷ stackOf a) ≤ h
-    unfolding stackHeight sumOf
+    unfolding stackHeight gapSum sumOf
     stack-high = omega (arith, q .within .high, q .items .tall)
 
     stack-alone : three (job .mode) ≡ false → stackHeight job (i ∷ stackOf a) ≡ heightOf job i
-    unfolding stackHeight sumOf
+    unfolding stackHeight gapSum sumOf
     stack-alone t = rw (q .alone t) (omega arith)
 
     stack-even : exact (job .mode) ≡ true → Alike (widthOf job) (i ∷ stackOf a)
@@ -104,24 +105,24 @@ module _ (job : Job) where
         }
 
     strip-across : widthOf job i ≤ w → stripWidth job ((i ∷ []) ∷ stripOf a) ≤ w
-    unfolding stripWidth sumOf
+    unfolding stripWidth gapSum sumOf
     strip-across k = omega (arith, single-wide i, u .across)
 
-  module _ (wide : Wide job) where
+  module _ (sided : Sided job) where
     -- stage 3: the items above one another fall in width, in 3E all of one width
-    pub above : three (job .mode) ≡ true → (w h : ℕ) (x : Tree) → Pattern job (plate w h 3) x → Above w h (stackOf x)
+    pub above : three (job .mode) ≡ true → (w h : ℕ) (x : Tree) → Pattern job (plate w (h - job .blade) 3) x → Above w h (stackOf x)
     unfolding sumOf
     above t w h leaf p = none-above w h
     above t w h (node i a b) p =
-        let q = cut-3 job w h i a b t .0 p in
+        let q = cut-3 job w (h - job .blade) i a b t .0 p in
         let f = q .0 in
-        let r = above t (widthOf job i) (h - heightOf job i) b (q .3) in
+        let r = above t (widthOf job i) (h - job .blade - heightOf job i) b (q .3) in
         record {
           types = (f .type, r .types);
           narrow = (f .wide, every-map (λ j (k : widthOf job j ≤ widthOf job i). omega (arith, f .wide)) (stackOf b) (r .narrow));
           same = λ e. (q .1 e, every-map (λ j (k : widthOf job j ≡ widthOf job i). k ∙ q .1 e) (stackOf b) (r .same e));
           falls = (r .narrow, r .falls);
-          tall = omega (arith, f .high, r .tall);
+          tall = omega (arith, f .high, laid-sides job sided i (f .type), r .tall);
         }
 
     -- stage 2, its first cut
@@ -140,7 +141,7 @@ module _ (job : Job) where
             }
         go false t =
             let q = cut-2-two job w h i a b t .0 p in
-            let e : a ≡ leaf = waste-leaf job wide a (q .2) in
+            let e : a ≡ leaf = waste-leaf job sided a (q .2) in
             record {
               within = q .0;
               items = rw e (none-above (widthOf job i) (h - heightOf job i));
@@ -150,8 +151,8 @@ module _ (job : Job) where
             }
 
     -- stage 2: the stacks beside one another, in two stages single items that fall in height, in 2E all of one height
-    pub beside : (w h : ℕ) (x : Tree) → Pattern job (plate w h 2) x → Beside w h (stripOf x)
-    unfolding stripWidth sumOf
+    pub beside : (w h : ℕ) (x : Tree) → Pattern job (plate (w - job .blade) h 2) x → Beside w h (stripOf x)
+    unfolding sumOf
     beside w h leaf p =
         record {
           stacks = tt;
@@ -165,25 +166,26 @@ module _ (job : Job) where
           falls = tt;
         }
     beside w h (node i a b) p =
-        let q = begun w h i a b p in
+        let v : ℕ = w - job .blade in
+        let q = begun v h i a b p in
         let m : ℕ = cond (three (job .mode)) h (heightOf job i) in
-        let r = beside (w - widthOf job i) m b (q .further) in
+        let r = beside (v - widthOf job i) m b (q .further) in
         let lower : m ≤ h = at-most (three (job .mode)) (q .within .high) in
         record {
           stacks = (tt, r .stacks);
           types = ((q .within .type, q .items .types), r .types);
-          low = (stack-high w h i a b q, every-map (λ s (k : stackHeight job s ≤ m). omega arith) (stripOf b) (r .low));
-          across = omega (arith, stack-wide w h i a b q, q .within .wide, r .across);
+          low = (stack-high v h i a b q, every-map (λ s (k : stackHeight job s ≤ m). omega arith) (stripOf b) (r .low));
+          across = omega (arith, stack-wide v h i a b q, q .within .wide, laid-sides job sided i (q .within .type), r .across);
           single = λ t. (ap (λ (l : Stack). length (i ∷ l)) (q .alone t), r .single t);
           level = λ t e. (
-            stack-alone w h i a b q t ∙ q .just t e,
+            stack-alone v h i a b q t ∙ q .just t e,
             every-map (λ s (k : stackHeight job s ≡ m). k ∙ same t ∙ q .just t e) (stripOf b) (r .level t e),
           );
           order = λ t. (
-            every-map (λ s (k : stackHeight job s ≤ m). omega (arith, stack-alone w h i a b q t, same t)) (stripOf b) (r .low),
+            every-map (λ s (k : stackHeight job s ≤ m). omega (arith, stack-alone v h i a b q t, same t)) (stripOf b) (r .low),
             r .order t,
           );
-          even = λ e. (stack-even w h i a b q e, r .even e);
+          even = λ e. (stack-even v h i a b q e, r .even e);
           falls = ((q .items .narrow, q .items .falls), r .falls);
         }
       where
@@ -195,14 +197,14 @@ module _ (job : Job) where
         same t = rw t refl
 
     -- stage 1: the strips, on a plate of the board's width
-    pub over : (w h : ℕ) (x : Tree) → Pattern job (plate w h 1) x → Over w h (boardOf x)
-    unfolding boardHeight sumOf
+    pub over : (w h : ℕ) (x : Tree) → Pattern job (plate w (h - job .blade) 1) x → Over w h (boardOf x)
+    unfolding sumOf
     over w h leaf p = record { strips = λ e. tt; up = omega arith }
     over w h (node i a b) p =
-        let q = cut-1 job w h i a b .0 p in
+        let q = cut-1 job w (h - job .blade) i a b .0 p in
         let f = q .0 in
         let u = beside (w - widthOf job i) (heightOf job i) a (q .1) in
-        let r = over w (h - heightOf job i) b (q .2) in
+        let r = over w (h - job .blade - heightOf job i) b (q .2) in
         record {
           strips = λ e. (
             record {
@@ -214,15 +216,17 @@ module _ (job : Job) where
             },
             r .strips e,
           );
-          up = omega (arith, strip-high w i a u, f .high, r .up);
+          up = omega (arith, strip-high w i a u, f .high, laid-sides job sided i (f .type), r .up);
         }
 
     -- the layout of a pattern of the board keeps the rules
     pub pattern-ok : (x : Tree) → x ≢ leaf → Pattern job (board job) x → BoardOk job (boardOf x)
+    unfolding boardHeight gapSum
     pattern-ok leaf d p = absurd (d refl)
     pattern-ok (node i a b) d p =
-        let r = over (job .width) (job .height) (node i a b) p in
-        record { filled = tt; strips = r .strips refl; up = r .up }
+        let e : job .height + job .blade - job .blade ≡ job .height = omega arith in
+        let r = over (job .width) (job .height + job .blade) (node i a b) (rw e p) in
+        record { filled = tt; strips = r .strips refl; up = omega (arith, r .up) }
 
     -- the sides of what a cut begins: at stage 2 a stack as wide as its first item, at stage 1 a strip as high as its first item
     pub stack-width : (w h i : ℕ) (a b : Tree) → Pattern job (plate w h 2) (node i a b) → stackWidth job (i ∷ stackOf a) ≡ widthOf job i

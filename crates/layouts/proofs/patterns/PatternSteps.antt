@@ -5,7 +5,8 @@ use mathlib.Core.Path.{_≡_, refl}
 use mathlib.Core.Logic.{_↔_}
 use mathlib.Core.Bool.{true, false}
 use Rattle.job.specs.Mode.{three, exact}
-use Rattle.job.specs.Job.{Job, positionAt, permitted}
+use Rattle.job.specs.Job.{Job, positionAt}
+use Rattle.job.specs.Admitted.{Sided}
 use Rattle.job.proofs.Tests.{not-both}
 use Rattle.job.proofs.Positions.{permitted-range, permitted-lies, lies-permitted}
 use Rattle.listing.specs.declared.plate.Plate.{Plate}
@@ -17,10 +18,6 @@ use Rattle.layouts.specs.Rules.{OfJob}
 use Rattle.layouts.proofs.trees.Tree.{Tree, leaf, node}
 use Rattle.layouts.proofs.trees.Pattern.{Pattern}
 
--- every permitted position is at least 1 wide
-abbrev pub Wide : Job → Type 0
-Wide job = (q : ℕ) → permitted job q ≡ true → 1 ≤ widthOf job q
-
 -- an item type of the job in a permitted position that is at most w wide and h high
 pub record Within (job : Job) (w h i : ℕ) : Type 0 where
   pub type : OfJob job i
@@ -28,6 +25,11 @@ pub record Within (job : Job) (w h i : ℕ) : Type 0 where
   pub high : heightOf job i ≤ h
 
 module _ (job : Job) where
+  -- an item that lies in a permitted position has sides of at least 1
+  pub laid-sides : Sided job → (i : ℕ) → OfJob job i → (1 ≤ widthOf job i) × (1 ≤ heightOf job i)
+  unfolding widthOf heightOf
+  laid-sides sided i t = sided i (lies-permitted job i t)
+
   -- an item type that may be cut from a plate is within its sides
   cut-within : (p : Plate) (i : ℕ) → CutFrom job p i → Within job (p .width) (p .height) i
   unfolding widthOf heightOf
@@ -54,7 +56,7 @@ module _ (job : Job) where
   pub cut-1 :
       (w h i : ℕ) (a b : Tree)
       → Pattern job (plate w h 1) (node i a b)
-      ↔ (Within job w h i × Pattern job (plate (w - widthOf job i) (heightOf job i) 2) a × Pattern job (plate w (h - heightOf job i) 1) b)
+      ↔ (Within job w h i × Pattern job (plate (w - widthOf job i - job .blade) (heightOf job i) 2) a × Pattern job (plate w (h - heightOf job i - job .blade) 1) b)
   unfolding leaves widthOf heightOf
   cut-1 w h i a b = (
     λ p. (cut-within (plate w h 1) i (p .0), p .1, p .2),
@@ -66,7 +68,7 @@ module _ (job : Job) where
       (w h i : ℕ) (a b : Tree)
       → three (job .mode) ≡ true
       → Pattern job (plate w h 2) (node i a b)
-      ↔ (Within job w h i × Pattern job (plate (widthOf job i) (h - heightOf job i) 3) a × Pattern job (plate (w - widthOf job i) h 2) b)
+      ↔ (Within job w h i × Pattern job (plate (widthOf job i) (h - heightOf job i - job .blade) 3) a × Pattern job (plate (w - widthOf job i - job .blade) h 2) b)
   unfolding leaves widthOf heightOf
   cut-2-three w h i a b t = (
     λ p. (cut-within (plate w h 2) i (p .0), rw t at (p .1), rw t at (p .2)),
@@ -85,7 +87,7 @@ module _ (job : Job) where
       ↔ (Within job w h i
       × (exact (job .mode) ≡ true → heightOf job i ≡ h)
       × Pattern job waste a
-      × Pattern job (plate (w - widthOf job i) (heightOf job i) 2) b)
+      × Pattern job (plate (w - widthOf job i - job .blade) (heightOf job i) 2) b)
   unfolding leaves widthOf heightOf
   cut-2-two w h i a b t = (
     λ p.
@@ -102,7 +104,7 @@ module _ (job : Job) where
       ↔ (Within job w h i
       × (exact (job .mode) ≡ true → widthOf job i ≡ w)
       × Pattern job waste a
-      × Pattern job (plate (widthOf job i) (h - heightOf job i) 3) b)
+      × Pattern job (plate (widthOf job i) (h - heightOf job i - job .blade) 3) b)
   unfolding leaves widthOf heightOf
   cut-3 w h i a b t = (
     λ p.
@@ -112,7 +114,7 @@ module _ (job : Job) where
   )
 
   -- nothing is cut from waste, where every item is at least 1 wide
-  pub waste-leaf : Wide job → (x : Tree) → Pattern job waste x → x ≡ leaf
-  waste-leaf wide leaf p = refl
-  waste-leaf wide (node i a b) p =
-      let f = cut-within waste i (p .0) in absurd (omega (arith, f .wide, wide i (lies-permitted job i (f .type))))
+  pub waste-leaf : Sided job → (x : Tree) → Pattern job waste x → x ≡ leaf
+  waste-leaf sided leaf p = refl
+  waste-leaf sided (node i a b) p =
+      let f = cut-within waste i (p .0) in absurd (omega (arith, f .wide, laid-sides sided i (f .type) .0))

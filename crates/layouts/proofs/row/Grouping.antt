@@ -102,8 +102,8 @@ module _ (job : Job) where
   unfolding stackLines begun
   stack-lines b s k p x y i [] rs v h e = grouped-new _ rs v e
   stack-lines b s k p x y i (i′ ∷ is) rs v h e =
-      grouped-on _ (stackLines job b s k (suc p) x (y + heightOf job i) (i′ ∷ is) ++ rs) (goes-on b s k p h)
-      ∙ ap (inSet i) (stack-lines b s k (suc p) x (y + heightOf job i) i′ is rs v (omega arith) e)
+      grouped-on _ (stackLines job b s k (suc p) x (y + heightOf job i + job .blade) (i′ ∷ is) ++ rs) (goes-on b s k p h)
+      ∙ ap (inSet i) (stack-lines b s k (suc p) x (y + heightOf job i + job .blade) i′ is rs v (omega arith) e)
       ∙ in-before v i (i′ ∷ is) (grouped rs)
 
   full-stack :
@@ -145,11 +145,11 @@ module _ (job : Job) where
       ∙ full-stack b s k x y st rs (levelAt w) (f .0) e
       ∙ before-one w st (grouped rs)
   strip-lines b s k x y st (st′ ∷ sts) rs w h f e =
-      let more = stripLines job b s (suc k) (x + stackWidth job st) y (st′ ∷ sts) in
+      let more = stripLines job b s (suc k) (x + stackWidth job st + job .blade) y (st′ ∷ sts) in
       ap grouped (append-assoc (stackLines job b s k 1 x y st) more rs)
       ∙ full-stack b s k x y st (more ++ rs) stack (f .0)
-      (strip-begins b s (suc k) (x + stackWidth job st) y st′ sts rs (f .1 .0) ∙ new-stack b s k h)
-      ∙ ap (before stack st) (strip-lines b s (suc k) (x + stackWidth job st) y st′ sts rs w (omega arith) (f .1) e)
+      (strip-begins b s (suc k) (x + stackWidth job st + job .blade) y st′ sts rs (f .1 .0) ∙ new-stack b s k h)
+      ∙ ap (before stack st) (strip-lines b s (suc k) (x + stackWidth job st + job .blade) y st′ sts rs w (omega arith) (f .1) e)
       ∙ before-strip w st (st′ ∷ sts) (grouped rs)
 
   full-strip :
@@ -173,11 +173,11 @@ module _ (job : Job) where
       ∙ full-strip b s y st rs true (f .0) e
       ∙ board-one st (grouped rs)
   board-lines b s y st (st′ ∷ sts) rs h f e =
-      let more = boardLines job b (suc s) (y + stripHeight job st) (st′ ∷ sts) in
+      let more = boardLines job b (suc s) (y + stripHeight job st + job .blade) (st′ ∷ sts) in
       ap grouped (append-assoc (stripLines job b s 1 0 y st) more rs)
       ∙ full-strip b s y st (more ++ rs) false (f .0)
-      (board-begins b (suc s) (y + stripHeight job st) st′ sts rs (f .1 .0) ∙ new-strip b s h)
-      ∙ ap (stripBefore false st) (board-lines b (suc s) (y + stripHeight job st) st′ sts rs (omega arith) (f .1) e)
+      (board-begins b (suc s) (y + stripHeight job st + job .blade) st′ sts rs (f .1 .0) ∙ new-strip b s h)
+      ∙ ap (stripBefore false st) (board-lines b (suc s) (y + stripHeight job st + job .blade) st′ sts rs (omega arith) (f .1) e)
 
   -- the lines of a set
   set-begins : (b : ℕ) (bs : List Board) → FullSet bs → begun (setLines job b bs) ≡ some board

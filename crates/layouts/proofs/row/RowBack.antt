@@ -131,25 +131,25 @@ module _ (job : Job) where
   stack-bare b s k p x y x′ y′ [] = refl
   stack-bare b s k p x y x′ y′ (i ∷ is) =
       ap (λ (l : List Placement). record { turn = turn b s k p; item = i; x = 0; y = 0 } ∷ l)
-      (stack-bare b s k (suc p) x (y + heightOf job i) x′ (y′ + heightOf job i) is)
+      (stack-bare b s k (suc p) x (y + heightOf job i + job .blade) x′ (y′ + heightOf job i + job .blade) is)
 
   strip-bare : (b s k x y x′ y′ : ℕ) (st : Strip) → map bare (stripLines job b s k x y st) ≡ map bare (stripLines job b s k x′ y′ st)
   unfolding stripLines
   strip-bare b s k x y x′ y′ [] = refl
   strip-bare b s k x y x′ y′ (l ∷ ls) =
-      map-append bare (stackLines job b s k 1 x y l) (stripLines job b s (suc k) (x + stackWidth job l) y ls)
+      map-append bare (stackLines job b s k 1 x y l) (stripLines job b s (suc k) (x + stackWidth job l + job .blade) y ls)
       ∙ ap₂ (λ (m n : List Placement). m ++ n) (stack-bare b s k 1 x y x′ y′ l)
-      (strip-bare b s (suc k) (x + stackWidth job l) y (x′ + stackWidth job l) y′ ls)
-      ∙ sym (map-append bare (stackLines job b s k 1 x′ y′ l) (stripLines job b s (suc k) (x′ + stackWidth job l) y′ ls))
+      (strip-bare b s (suc k) (x + stackWidth job l + job .blade) y (x′ + stackWidth job l + job .blade) y′ ls)
+      ∙ sym (map-append bare (stackLines job b s k 1 x′ y′ l) (stripLines job b s (suc k) (x′ + stackWidth job l + job .blade) y′ ls))
 
   board-bare : (b s y y′ : ℕ) (bd : Board) → map bare (boardLines job b s y bd) ≡ map bare (boardLines job b s y′ bd)
   unfolding boardLines
   board-bare b s y y′ [] = refl
   board-bare b s y y′ (st ∷ sts) =
-      map-append bare (stripLines job b s 1 0 y st) (boardLines job b (suc s) (y + stripHeight job st) sts)
+      map-append bare (stripLines job b s 1 0 y st) (boardLines job b (suc s) (y + stripHeight job st + job .blade) sts)
       ∙ ap₂ (λ (m n : List Placement). m ++ n) (strip-bare b s 1 0 y 0 y′ st)
-      (board-bare b (suc s) (y + stripHeight job st) (y′ + stripHeight job st) sts)
-      ∙ sym (map-append bare (stripLines job b s 1 0 y′ st) (boardLines job b (suc s) (y′ + stripHeight job st) sts))
+      (board-bare b (suc s) (y + stripHeight job st + job .blade) (y′ + stripHeight job st + job .blade) sts)
+      ∙ sym (map-append bare (stripLines job b s 1 0 y′ st) (boardLines job b (suc s) (y′ + stripHeight job st + job .blade) sts))
 
   -- the lines of a set whose first line has the turn b, s, k, p: from there to the end of the stack, of the strip, of the board, and of the set
   abbrev toStrip : ℕ → ℕ → ℕ → Strip → List Placement → List Placement
@@ -177,8 +177,8 @@ module _ (job : Job) where
   unfolding stripLines
   open-strip b s k st ks rs =
       ap (λ (l : List Placement). l ++ rs)
-      (map-append bare (stackLines job b s k 1 0 0 st) (stripLines job b s (suc k) (0 + stackWidth job st) 0 ks)
-      ∙ ap (λ (l : List Placement). map bare (stackLines job b s k 1 0 0 st) ++ l) (strip-bare b s (suc k) (0 + stackWidth job st) 0 0 0 ks))
+      (map-append bare (stackLines job b s k 1 0 0 st) (stripLines job b s (suc k) (0 + stackWidth job st + job .blade) 0 ks)
+      ∙ ap (λ (l : List Placement). map bare (stackLines job b s k 1 0 0 st) ++ l) (strip-bare b s (suc k) (0 + stackWidth job st + job .blade) 0 0 0 ks))
       ∙ append-assoc (map bare (stackLines job b s k 1 0 0 st)) (map bare (stripLines job b s (suc k) 0 0 ks)) rs
 
   open-board :
@@ -187,8 +187,8 @@ module _ (job : Job) where
   unfolding boardLines
   open-board b s st ss rs =
       ap (λ (l : List Placement). l ++ rs)
-      (map-append bare (stripLines job b s 1 0 0 st) (boardLines job b (suc s) (0 + stripHeight job st) ss)
-      ∙ ap (λ (l : List Placement). map bare (stripLines job b s 1 0 0 st) ++ l) (board-bare b (suc s) (0 + stripHeight job st) 0 ss))
+      (map-append bare (stripLines job b s 1 0 0 st) (boardLines job b (suc s) (0 + stripHeight job st + job .blade) ss)
+      ∙ ap (λ (l : List Placement). map bare (stripLines job b s 1 0 0 st) ++ l) (board-bare b (suc s) (0 + stripHeight job st + job .blade) 0 ss))
       ∙ append-assoc (map bare (stripLines job b s 1 0 0 st)) (map bare (boardLines job b (suc s) 0 ss)) rs
 
   open-set : (b : ℕ) (bd : Board) (bs : List Board) → toSet b (bd ∷ bs) ≡ toBoard b 1 bd (toSet (suc b) bs)
@@ -212,7 +212,7 @@ module _ (job : Job) where
   from-place t i (((st ∷ ks) ∷ ss) ∷ bs) n f =
       let after = toStrip (t .board) (t .strip) (suc (t .stack)) ks (toBoard (t .board) (suc (t .strip)) ss (toSet (suc (t .board)) bs)) in
       ap (λ (l : List Placement). line t i ∷ (l ++ after))
-      (stack-bare (t .board) (t .strip) (t .stack) (suc (t .place)) 0 (0 + heightOf job i) 0 0 st)
+      (stack-bare (t .board) (t .strip) (t .stack) (suc (t .place)) 0 (0 + heightOf job i + job .blade) 0 0 st)
 
   from-stack :
       (t : Turn) (i : ℕ) (bs : List Board)

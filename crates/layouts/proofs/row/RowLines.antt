@@ -39,21 +39,21 @@ module _ (job : Job) where
   stack-items : (b s k p x y : ℕ) (st : Stack) → map lineItem (stackLines job b s k p x y st) ≡ st
   unfolding stackLines
   stack-items b s k p x y [] = refl
-  stack-items b s k p x y (i ∷ is) = ap (λ (r : Stack). i ∷ r) (stack-items b s k (suc p) x (y + heightOf job i) is)
+  stack-items b s k p x y (i ∷ is) = ap (λ (r : Stack). i ∷ r) (stack-items b s k (suc p) x (y + heightOf job i + job .blade) is)
 
   strip-items : (b s k x y : ℕ) (st : Strip) → map lineItem (stripLines job b s k x y st) ≡ itemsOfStrip st
   unfolding stripLines itemsOfStrip flatMap
   strip-items b s k x y [] = refl
   strip-items b s k x y (l ∷ ls) =
-      map-append lineItem (stackLines job b s k 1 x y l) (stripLines job b s (suc k) (x + stackWidth job l) y ls)
-      ∙ ap₂ (λ (a c : List ℕ). a ++ c) (stack-items b s k 1 x y l) (strip-items b s (suc k) (x + stackWidth job l) y ls)
+      map-append lineItem (stackLines job b s k 1 x y l) (stripLines job b s (suc k) (x + stackWidth job l + job .blade) y ls)
+      ∙ ap₂ (λ (a c : List ℕ). a ++ c) (stack-items b s k 1 x y l) (strip-items b s (suc k) (x + stackWidth job l + job .blade) y ls)
 
   board-items : (b s y : ℕ) (bd : Board) → map lineItem (boardLines job b s y bd) ≡ itemsOfBoard bd
   unfolding boardLines itemsOfBoard flatMap
   board-items b s y [] = refl
   board-items b s y (st ∷ sts) =
-      map-append lineItem (stripLines job b s 1 0 y st) (boardLines job b (suc s) (y + stripHeight job st) sts)
-      ∙ ap₂ (λ (a c : List ℕ). a ++ c) (strip-items b s 1 0 y st) (board-items b (suc s) (y + stripHeight job st) sts)
+      map-append lineItem (stripLines job b s 1 0 y st) (boardLines job b (suc s) (y + stripHeight job st + job .blade) sts)
+      ∙ ap₂ (λ (a c : List ℕ). a ++ c) (strip-items b s 1 0 y st) (board-items b (suc s) (y + stripHeight job st + job .blade) sts)
 
   set-items : (b : ℕ) (bs : List Board) → map lineItem (setLines job b bs) ≡ itemsOfSet bs
   unfolding setLines itemsOfSet flatMap

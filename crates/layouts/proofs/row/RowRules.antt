@@ -9,7 +9,7 @@ use lib.Dec.{leb, ltb}
 use lib.ListN.{length}
 use borrow.Author.Tests.{ltb-false, le-ltb, leb-true, le-leb, not-false}
 use Rattle.job.specs.declared.item.Item.{Item}
-use Rattle.job.specs.Lists.{sumOf, occurs}
+use Rattle.job.specs.Lists.{sumOf, gapsAfter, gapSum, occurs}
 use Rattle.job.specs.Verdict.{pass, refuse, lowest}
 use Rattle.job.specs.Job.{Job, typeOf}
 use Rattle.job.proofs.Decides.{Passes}
@@ -54,7 +54,7 @@ module _ (job : Job) where
     unfolding laidBoard
     laid-board line y [] = (λ h. tt, λ h. tt)
     laid-board line y (s ∷ ss) =
-        let r = laid-board (line + length (itemsOfStrip s)) (y + stripHeight job s) ss in
+        let r = laid-board (line + length (itemsOfStrip s)) (y + stripHeight job s + job .blade) ss in
         (λ h. (h .0, r .0 (h .1)), λ h. (h .0, r .1 (h .1)))
 
     laid-set : (line : ℕ) (bs : List Board) → Every (Every P) bs ↔ Every (λ l. P (l .strip)) (laidSet job line bs)
@@ -96,26 +96,26 @@ module _ (job : Job) where
         (le-ltb (job .width) (stripWidth job (l .strip)) (q .0)) (le-ltb (job .height) (l .below + stripHeight job (l .strip)) (q .1)),
   )
 
-  -- the strips of a board from y upwards
+  -- the strips of a board from y upwards, b after each of them
   board-fits :
       (line y : ℕ) (b : Board)
       → Every (λ s. stripWidth job s ≤ job .width) b
-      → y + boardHeight job b ≤ job .height
+      → y + gapsAfter (job .blade) (stripHeight job) b ≤ job .height + job .blade
       → Every Fitting (laidBoard job line y b)
-  unfolding laidBoard boardHeight sumOf
+  unfolding laidBoard sumOf
   board-fits line y [] a u = tt
   board-fits line y (s ∷ ss) a u =
-      ((a .0, omega arith), board-fits (line + length (itemsOfStrip s)) (y + stripHeight job s) ss (a .1) (omega arith))
+      ((a .0, omega arith), board-fits (line + length (itemsOfStrip s)) (y + stripHeight job s + job .blade) ss (a .1) (omega arith))
 
   fits-board :
       (line y : ℕ) (b : Board)
-      → y ≤ job .height
+      → y ≤ job .height + job .blade
       → Every Fitting (laidBoard job line y b)
-      → Every (λ s. stripWidth job s ≤ job .width) b × (y + boardHeight job b ≤ job .height)
-  unfolding laidBoard boardHeight sumOf
+      → Every (λ s. stripWidth job s ≤ job .width) b × (y + gapsAfter (job .blade) (stripHeight job) b ≤ job .height + job .blade)
+  unfolding laidBoard sumOf
   fits-board line y [] h a = (tt, omega arith)
   fits-board line y (s ∷ ss) h a =
-      let r = fits-board (line + length (itemsOfStrip s)) (y + stripHeight job s) ss (a .0 .1) (a .1) in
+      let r = fits-board (line + length (itemsOfStrip s)) (y + stripHeight job s + job .blade) ss (omega (arith, a .0 .1)) (a .1) in
       ((a .0 .0, r .0), omega (arith, r .1))
 
   -- a board whose strips do
@@ -123,7 +123,7 @@ module _ (job : Job) where
   WithinBoard b = Every (λ s. stripWidth job s ≤ job .width) b × (boardHeight job b ≤ job .height)
 
   set-fits : (line : ℕ) (bs : List Board) → Every WithinBoard bs ↔ Every Fitting (laidSet job line bs)
-  unfolding laidSet
+  unfolding laidSet boardHeight gapSum
   set-fits line [] = (λ h. tt, λ h. tt)
   set-fits line (b ∷ bs) =
       let r = set-fits (line + length (itemsOfBoard b)) bs in

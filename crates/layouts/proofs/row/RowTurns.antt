@@ -158,7 +158,7 @@ module _ (job : Job) where
       → InTurn (turn b s k p) (stackLines job b s k (suc p) x y st ++ rs)
   unfolding stackLines
   stack-on b s k p x y [] rs h = h p
-  stack-on b s k p x y (i ∷ is) rs h = (same-stack, stack-on b s k (suc p) x (y + heightOf job i) is rs h)
+  stack-on b s k p x y (i ∷ is) rs h = (same-stack, stack-on b s k (suc p) x (y + heightOf job i + job .blade) is rs h)
 
   -- a stack that is begun after t
   stack-begun :
@@ -169,7 +169,7 @@ module _ (job : Job) where
       → InTurn t (stackLines job b s k 1 x y st ++ rs)
   unfolding stackLines
   stack-begun t b s k x y [] rs n f h = absurd f
-  stack-begun t b s k x y (i ∷ is) rs n f h = (n, stack-on b s k 1 x (y + heightOf job i) is rs h)
+  stack-begun t b s k x y (i ∷ is) rs n f h = (n, stack-on b s k 1 x (y + heightOf job i + job .blade) is rs h)
 
   -- the further stacks of a strip, and a strip that is begun after t
   strip-on :
@@ -180,10 +180,10 @@ module _ (job : Job) where
   unfolding stripLines
   strip-on b s k p x y [] rs f h = h k p
   strip-on b s k p x y (l ∷ ls) rs f h =
-      let more = stripLines job b s (suc (suc k)) (x + stackWidth job l) y ls in
+      let more = stripLines job b s (suc (suc k)) (x + stackWidth job l + job .blade) y ls in
       rw (append-assoc (stackLines job b s (suc k) 1 x y l) more rs)
       (stack-begun (turn b s k p) b s (suc k) x y l (more ++ rs) next-stack (f .0)
-      (λ q. strip-on b s (suc k) q (x + stackWidth job l) y ls rs (f .1) h))
+      (λ q. strip-on b s (suc k) q (x + stackWidth job l + job .blade) y ls rs (f .1) h))
 
   strip-begun :
       (t : Turn) (b s y : ℕ) (st : Strip) (rs : List Placement)
@@ -194,9 +194,9 @@ module _ (job : Job) where
   unfolding stripLines
   strip-begun t b s y [] rs n f h = absurd (f .0)
   strip-begun t b s y (l ∷ ls) rs n f h =
-      let more = stripLines job b s 2 (0 + stackWidth job l) y ls in
+      let more = stripLines job b s 2 (0 + stackWidth job l + job .blade) y ls in
       rw (append-assoc (stackLines job b s 1 1 0 y l) more rs)
-      (stack-begun t b s 1 0 y l (more ++ rs) n (f .1 .0) (λ q. strip-on b s 1 q (0 + stackWidth job l) y ls rs (f .1 .1) h))
+      (stack-begun t b s 1 0 y l (more ++ rs) n (f .1 .0) (λ q. strip-on b s 1 q (0 + stackWidth job l + job .blade) y ls rs (f .1 .1) h))
 
   -- the further strips of a board, and a board that is begun after t
   board-on :
@@ -207,10 +207,10 @@ module _ (job : Job) where
   unfolding boardLines
   board-on b s k p y [] rs f h = h s k p
   board-on b s k p y (st ∷ sts) rs f h =
-      let more = boardLines job b (suc (suc s)) (y + stripHeight job st) sts in
+      let more = boardLines job b (suc (suc s)) (y + stripHeight job st + job .blade) sts in
       rw (append-assoc (stripLines job b (suc s) 1 0 y st) more rs)
       (strip-begun (turn b s k p) b (suc s) y st (more ++ rs) next-strip (f .0)
-      (λ j q. board-on b (suc s) j q (y + stripHeight job st) sts rs (f .1) h))
+      (λ j q. board-on b (suc s) j q (y + stripHeight job st + job .blade) sts rs (f .1) h))
 
   board-begun :
       (t : Turn) (b : ℕ) (bd : Board) (rs : List Placement)
@@ -221,9 +221,9 @@ module _ (job : Job) where
   unfolding boardLines
   board-begun t b [] rs n f h = absurd (f .0)
   board-begun t b (st ∷ sts) rs n f h =
-      let more = boardLines job b 2 (0 + stripHeight job st) sts in
+      let more = boardLines job b 2 (0 + stripHeight job st + job .blade) sts in
       rw (append-assoc (stripLines job b 1 1 0 0 st) more rs)
-      (strip-begun t b 1 0 st (more ++ rs) n (f .1 .0) (λ j q. board-on b 1 j q (0 + stripHeight job st) sts rs (f .1 .1) h))
+      (strip-begun t b 1 0 st (more ++ rs) n (f .1 .0) (λ j q. board-on b 1 j q (0 + stripHeight job st + job .blade) sts rs (f .1 .1) h))
 
   -- the further boards of a set
   set-on : (b s k p : ℕ) (bs : List Board) → FullSet bs → InTurn (turn b s k p) (setLines job (suc b) bs)

@@ -1,16 +1,16 @@
--- The rectangles of a set of layouts that keeps the rules lie inside their boards, and no two of one board overlap.
+-- The rectangles of a set of layouts that keeps the rules lie inside their boards, and any two of one board are at least b apart.
 use Prim.Native.Nat.{ℕ, suc, _+_, _≤_, _<_}
 use native.Mathlib.Omega.{arith}
 use mathlib.Core.Path.{_≡_, refl}
 use mathlib.Core.Logic.{_⊎_, inl, inr}
 use mathlib.Core.Bool.{true}
 use mathlib.Core.List.{List, [], _∷_, _++_}
-use Rattle.job.specs.Lists.{all, sumOf, maxOf}
+use Rattle.job.specs.Lists.{all, sumOf, gapsAfter, gapSum, maxOf}
 use Rattle.job.specs.Job.{Job}
 use Rattle.job.proofs.Tests.{and-both}
 use Rattle.layouts.specs.Layout.{Stack, Strip, Board, widthOf, heightOf, stackWidth, stackHeight, stripWidth, stripHeight, boardHeight, layoutRules}
 use Rattle.layouts.specs.Placement.{Placement, stackLines, stripLines, boardLines, setLines, linesOf}
-use Rattle.layouts.specs.Rectangle.{inside, clear, noOverlap}
+use Rattle.layouts.specs.Rectangle.{inside, clear, allApart}
 use Rattle.layouts.specs.Rules.{Every, StripOk, SetOk, Apart}
 use Rattle.layouts.proofs.lists.Every.{every-all, every-map, every-append, max-above}
 use Rattle.layouts.proofs.rules.RulesExact.{set-exact}
@@ -47,39 +47,39 @@ module _ (job : Job) where
   wider x₀ y₀ x₁ y₁ x₀′ y₀′ x₁′ y₁′ a b c d rs h =
       every-map (λ r (q : Between x₀ y₀ x₁ y₁ r). search arith) rs h
 
-  -- of two lines in turn: the second is on a later board, or the first ends where or before the second begins, across or upwards
+  -- of two lines in turn: the second is on a later board, or the first ends b or more before the second begins, across or upwards
   abbrev pub Ahead : Placement → Placement → Type 0
   Ahead p q =
       (p .turn .board < q .turn .board)
-      ⊎ ((p .x + widthOf job (p .item) ≤ q .x) ⊎ (p .y + heightOf job (p .item) ≤ q .y))
+      ⊎ ((p .x + widthOf job (p .item) + job .blade ≤ q .x) ⊎ (p .y + heightOf job (p .item) + job .blade ≤ q .y))
 
   -- a stack: each item above those before it
   stack-between :
       (b s k p x y x₁ y₁ : ℕ) (st : Stack)
       → Every (λ i. x + widthOf job i ≤ x₁) st
-      → y + stackHeight job st ≤ y₁
+      → y + gapsAfter (job .blade) (heightOf job) st ≤ y₁ + job .blade
       → Every (Between x y x₁ y₁) (stackLines job b s k p x y st)
-  unfolding stackLines stackHeight sumOf
+  unfolding stackLines sumOf
   stack-between b s k p x y x₁ y₁ [] a u = tt
   stack-between b s k p x y x₁ y₁ (i ∷ is) a u = (
     record { left = omega arith; low = omega arith; right = a .0; high = omega arith },
-    wider x (y + heightOf job i) x₁ y₁ x y x₁ y₁ (omega arith) (omega arith) (omega arith) (omega arith)
-        (stackLines job b s k (suc p) x (y + heightOf job i) is)
-        (stack-between b s k (suc p) x (y + heightOf job i) x₁ y₁ is (a .1) (omega arith)),
+    wider x (y + heightOf job i + job .blade) x₁ y₁ x y x₁ y₁ (omega arith) (omega arith) (omega arith) (omega arith)
+        (stackLines job b s k (suc p) x (y + heightOf job i + job .blade) is)
+        (stack-between b s k (suc p) x (y + heightOf job i + job .blade) x₁ y₁ is (a .1) (omega arith)),
   )
 
   stack-ahead :
       (b s k p x y x₁ y₁ : ℕ) (st : Stack)
       → Every (λ i. x + widthOf job i ≤ x₁) st
-      → y + stackHeight job st ≤ y₁
+      → y + gapsAfter (job .blade) (heightOf job) st ≤ y₁ + job .blade
       → Pairwise Ahead (stackLines job b s k p x y st)
-  unfolding stackLines stackHeight sumOf
+  unfolding stackLines sumOf
   stack-ahead b s k p x y x₁ y₁ [] a u = tt
   stack-ahead b s k p x y x₁ y₁ (i ∷ is) a u = (
-    every-map (λ r (q : Between x (y + heightOf job i) x₁ y₁ r). inr (inr (q .low)))
-        (stackLines job b s k (suc p) x (y + heightOf job i) is)
-        (stack-between b s k (suc p) x (y + heightOf job i) x₁ y₁ is (a .1) (omega arith)),
-    stack-ahead b s k (suc p) x (y + heightOf job i) x₁ y₁ is (a .1) (omega arith),
+    every-map (λ r (q : Between x (y + heightOf job i + job .blade) x₁ y₁ r). inr (inr (q .low)))
+        (stackLines job b s k (suc p) x (y + heightOf job i + job .blade) is)
+        (stack-between b s k (suc p) x (y + heightOf job i + job .blade) x₁ y₁ is (a .1) (omega arith)),
+    stack-ahead b s k (suc p) x (y + heightOf job i + job .blade) x₁ y₁ is (a .1) (omega arith),
   )
 
   -- a stack lies within its own width
@@ -91,32 +91,32 @@ module _ (job : Job) where
   strip-between :
       (b s k x y x₁ y₁ : ℕ) (st : Strip)
       → Every (λ l. y + stackHeight job l ≤ y₁) st
-      → x + stripWidth job st ≤ x₁
+      → x + gapsAfter (job .blade) (stackWidth job) st ≤ x₁ + job .blade
       → Every (Between x y x₁ y₁) (stripLines job b s k x y st)
-  unfolding stripLines stripWidth sumOf
+  unfolding stripLines stackHeight gapSum sumOf
   strip-between b s k x y x₁ y₁ [] a u = tt
   strip-between b s k x y x₁ y₁ (l ∷ ls) a u =
-      every-append (Between x y x₁ y₁) (stackLines job b s k 1 x y l) (stripLines job b s (suc k) (x + stackWidth job l) y ls)
+      every-append (Between x y x₁ y₁) (stackLines job b s k 1 x y l) (stripLines job b s (suc k) (x + stackWidth job l + job .blade) y ls)
       (wider x y (x + stackWidth job l) y₁ x y x₁ y₁ (omega arith) (omega arith) (omega arith) (omega arith)
-      (stackLines job b s k 1 x y l) (stack-between b s k 1 x y (x + stackWidth job l) y₁ l (narrow x l) (a .0)))
-      (wider (x + stackWidth job l) y x₁ y₁ x y x₁ y₁ (omega arith) (omega arith) (omega arith) (omega arith)
-      (stripLines job b s (suc k) (x + stackWidth job l) y ls) (strip-between b s (suc k) (x + stackWidth job l) y x₁ y₁ ls (a .1) (omega arith)))
+      (stackLines job b s k 1 x y l) (stack-between b s k 1 x y (x + stackWidth job l) y₁ l (narrow x l) (omega (arith, a .0))))
+      (wider (x + stackWidth job l + job .blade) y x₁ y₁ x y x₁ y₁ (omega arith) (omega arith) (omega arith) (omega arith)
+      (stripLines job b s (suc k) (x + stackWidth job l + job .blade) y ls) (strip-between b s (suc k) (x + stackWidth job l + job .blade) y x₁ y₁ ls (a .1) (omega arith)))
 
   strip-ahead :
       (b s k x y x₁ y₁ : ℕ) (st : Strip)
       → Every (λ l. y + stackHeight job l ≤ y₁) st
-      → x + stripWidth job st ≤ x₁
+      → x + gapsAfter (job .blade) (stackWidth job) st ≤ x₁ + job .blade
       → Pairwise Ahead (stripLines job b s k x y st)
-  unfolding stripLines stripWidth sumOf
+  unfolding stripLines stackHeight gapSum sumOf
   strip-ahead b s k x y x₁ y₁ [] a u = tt
   strip-ahead b s k x y x₁ y₁ (l ∷ ls) a u =
-      pairwise-append Ahead (stackLines job b s k 1 x y l) (stripLines job b s (suc k) (x + stackWidth job l) y ls)
-      (stack-ahead b s k 1 x y (x + stackWidth job l) y₁ l (narrow x l) (a .0))
-      (strip-ahead b s (suc k) (x + stackWidth job l) y x₁ y₁ ls (a .1) (omega arith))
+      pairwise-append Ahead (stackLines job b s k 1 x y l) (stripLines job b s (suc k) (x + stackWidth job l + job .blade) y ls)
+      (stack-ahead b s k 1 x y (x + stackWidth job l) y₁ l (narrow x l) (omega (arith, a .0)))
+      (strip-ahead b s (suc k) (x + stackWidth job l + job .blade) y x₁ y₁ ls (a .1) (omega arith))
       (every-map (λ r (q : Between x y (x + stackWidth job l) y₁ r).
-      every-map (λ r′ (q′ : Between (x + stackWidth job l) y x₁ y₁ r′). inr (inl (omega (arith, q .right, q′ .left))))
-      (stripLines job b s (suc k) (x + stackWidth job l) y ls) (strip-between b s (suc k) (x + stackWidth job l) y x₁ y₁ ls (a .1) (omega arith)))
-      (stackLines job b s k 1 x y l) (stack-between b s k 1 x y (x + stackWidth job l) y₁ l (narrow x l) (a .0)))
+      every-map (λ r′ (q′ : Between (x + stackWidth job l + job .blade) y x₁ y₁ r′). inr (inl (omega (arith, q .right, q′ .left))))
+      (stripLines job b s (suc k) (x + stackWidth job l + job .blade) y ls) (strip-between b s (suc k) (x + stackWidth job l + job .blade) y x₁ y₁ ls (a .1) (omega arith)))
+      (stackLines job b s k 1 x y l) (stack-between b s k 1 x y (x + stackWidth job l) y₁ l (narrow x l) (omega (arith, a .0))))
 
   -- a strip lies within its own height
   lower : (y : ℕ) (st : Strip) → Every (λ l. y + stackHeight job l ≤ y + stripHeight job st) st
@@ -127,52 +127,52 @@ module _ (job : Job) where
   board-between :
       (b s y y₁ : ℕ) (bd : Board)
       → Every (StripOk job) bd
-      → y + boardHeight job bd ≤ y₁
+      → y + gapsAfter (job .blade) (stripHeight job) bd ≤ y₁ + job .blade
       → Every (Between 0 y (job .width) y₁) (boardLines job b s y bd)
-  unfolding boardLines boardHeight sumOf
+  unfolding boardLines stripWidth gapSum sumOf
   board-between b s y y₁ [] k u = tt
   board-between b s y y₁ (st ∷ sts) k u =
-      every-append (Between 0 y (job .width) y₁) (stripLines job b s 1 0 y st) (boardLines job b (suc s) (y + stripHeight job st) sts)
+      every-append (Between 0 y (job .width) y₁) (stripLines job b s 1 0 y st) (boardLines job b (suc s) (y + stripHeight job st + job .blade) sts)
       (wider 0 y (job .width) (y + stripHeight job st) 0 y (job .width) y₁ (omega arith) (omega arith) (omega arith) (omega arith)
       (stripLines job b s 1 0 y st) (strip-between b s 1 0 y (job .width) (y + stripHeight job st) st (lower y st) (omega (arith, k .0 .across))))
-      (wider 0 (y + stripHeight job st) (job .width) y₁ 0 y (job .width) y₁ (omega arith) (omega arith) (omega arith) (omega arith)
-      (boardLines job b (suc s) (y + stripHeight job st) sts) (board-between b (suc s) (y + stripHeight job st) y₁ sts (k .1) (omega arith)))
+      (wider 0 (y + stripHeight job st + job .blade) (job .width) y₁ 0 y (job .width) y₁ (omega arith) (omega arith) (omega arith) (omega arith)
+      (boardLines job b (suc s) (y + stripHeight job st + job .blade) sts) (board-between b (suc s) (y + stripHeight job st + job .blade) y₁ sts (k .1) (omega arith)))
 
   board-ahead :
       (b s y y₁ : ℕ) (bd : Board)
       → Every (StripOk job) bd
-      → y + boardHeight job bd ≤ y₁
+      → y + gapsAfter (job .blade) (stripHeight job) bd ≤ y₁ + job .blade
       → Pairwise Ahead (boardLines job b s y bd)
-  unfolding boardLines boardHeight sumOf
+  unfolding boardLines stripWidth gapSum sumOf
   board-ahead b s y y₁ [] k u = tt
   board-ahead b s y y₁ (st ∷ sts) k u =
-      pairwise-append Ahead (stripLines job b s 1 0 y st) (boardLines job b (suc s) (y + stripHeight job st) sts)
+      pairwise-append Ahead (stripLines job b s 1 0 y st) (boardLines job b (suc s) (y + stripHeight job st + job .blade) sts)
       (strip-ahead b s 1 0 y (job .width) (y + stripHeight job st) st (lower y st) (omega (arith, k .0 .across)))
-      (board-ahead b (suc s) (y + stripHeight job st) y₁ sts (k .1) (omega arith))
+      (board-ahead b (suc s) (y + stripHeight job st + job .blade) y₁ sts (k .1) (omega arith))
       (every-map (λ r (q : Between 0 y (job .width) (y + stripHeight job st) r).
-      every-map (λ r′ (q′ : Between 0 (y + stripHeight job st) (job .width) y₁ r′). inr (inr (omega (arith, q .high, q′ .low))))
-      (boardLines job b (suc s) (y + stripHeight job st) sts) (board-between b (suc s) (y + stripHeight job st) y₁ sts (k .1) (omega arith)))
+      every-map (λ r′ (q′ : Between 0 (y + stripHeight job st + job .blade) (job .width) y₁ r′). inr (inr (omega (arith, q .high, q′ .low))))
+      (boardLines job b (suc s) (y + stripHeight job st + job .blade) sts) (board-between b (suc s) (y + stripHeight job st + job .blade) y₁ sts (k .1) (omega arith)))
       (stripLines job b s 1 0 y st) (strip-between b s 1 0 y (job .width) (y + stripHeight job st) st (lower y st) (omega (arith, k .0 .across))))
 
   -- the board that each line names
   stack-named : (b s k p x y : ℕ) (st : Stack) → Every (λ r. r .turn .board ≡ b) (stackLines job b s k p x y st)
   unfolding stackLines
   stack-named b s k p x y [] = tt
-  stack-named b s k p x y (i ∷ is) = (refl, stack-named b s k (suc p) x (y + heightOf job i) is)
+  stack-named b s k p x y (i ∷ is) = (refl, stack-named b s k (suc p) x (y + heightOf job i + job .blade) is)
 
   strip-named : (b s k x y : ℕ) (st : Strip) → Every (λ r. r .turn .board ≡ b) (stripLines job b s k x y st)
   unfolding stripLines
   strip-named b s k x y [] = tt
   strip-named b s k x y (l ∷ ls) =
-      every-append (λ r. r .turn .board ≡ b) (stackLines job b s k 1 x y l) (stripLines job b s (suc k) (x + stackWidth job l) y ls)
-      (stack-named b s k 1 x y l) (strip-named b s (suc k) (x + stackWidth job l) y ls)
+      every-append (λ r. r .turn .board ≡ b) (stackLines job b s k 1 x y l) (stripLines job b s (suc k) (x + stackWidth job l + job .blade) y ls)
+      (stack-named b s k 1 x y l) (strip-named b s (suc k) (x + stackWidth job l + job .blade) y ls)
 
   pub board-named : (b s y : ℕ) (bd : Board) → Every (λ r. r .turn .board ≡ b) (boardLines job b s y bd)
   unfolding boardLines
   board-named b s y [] = tt
   board-named b s y (st ∷ sts) =
-      every-append (λ r. r .turn .board ≡ b) (stripLines job b s 1 0 y st) (boardLines job b (suc s) (y + stripHeight job st) sts)
-      (strip-named b s 1 0 y st) (board-named b (suc s) (y + stripHeight job st) sts)
+      every-append (λ r. r .turn .board ≡ b) (stripLines job b s 1 0 y st) (boardLines job b (suc s) (y + stripHeight job st + job .blade) sts)
+      (strip-named b s 1 0 y st) (board-named b (suc s) (y + stripHeight job st + job .blade) sts)
 
   set-named : (b : ℕ) (bs : List Board) → Every (λ r. b ≤ r .turn .board) (setLines job b bs)
   unfolding setLines
@@ -184,7 +184,7 @@ module _ (job : Job) where
 
   -- a set: each board within the board's sides, and of two lines in turn the first ahead of the second
   set-between : (b : ℕ) (bs : List Board) → SetOk job bs → Every (Between 0 0 (job .width) (job .height)) (setLines job b bs)
-  unfolding setLines
+  unfolding setLines boardHeight gapSum
   set-between b [] k = tt
   set-between b (bd ∷ bs) k =
       every-append (Between 0 0 (job .width) (job .height)) (boardLines job b 1 0 bd) (setLines job (suc b) bs)
@@ -192,7 +192,7 @@ module _ (job : Job) where
       (set-between (suc b) bs (k .1))
 
   set-ahead : (b : ℕ) (bs : List Board) → SetOk job bs → Pairwise Ahead (setLines job b bs)
-  unfolding setLines
+  unfolding setLines boardHeight gapSum
   set-ahead b [] k = tt
   set-ahead b (bd ∷ bs) k =
       pairwise-append Ahead (boardLines job b 1 0 bd) (setLines job (suc b) bs)
@@ -222,17 +222,17 @@ module _ (job : Job) where
       go (inr (inl k)) e = inl k
       go (inr (inr k)) e = inr (inr (inl k))
 
-  ahead-none : (ps : List Placement) → Pairwise Ahead ps → noOverlap job ps ≡ true
-  unfolding noOverlap
-  ahead-none [] h = refl
-  ahead-none (p ∷ ps) h =
-      and-both (all (clear job p) ps) (noOverlap job ps) (every-all (clear job p) (Ahead p) (ahead-clear p) ps (h .0)) (ahead-none ps (h .1))
+  ahead-apart : (ps : List Placement) → Pairwise Ahead ps → allApart job ps ≡ true
+  unfolding allApart
+  ahead-apart [] h = refl
+  ahead-apart (p ∷ ps) h =
+      and-both (all (clear job p) ps) (allApart job ps) (every-all (clear job p) (Ahead p) (ahead-clear p) ps (h .0)) (ahead-apart ps (h .1))
 
   -- every rectangle of a set that keeps the rules is inside its board, ..
   pub rules-inside : (bs : List Board) → layoutRules job bs ≡ true → all (inside job) (linesOf job bs) ≡ true
   rules-inside bs e =
       every-all (inside job) (Between 0 0 (job .width) (job .height)) between-inside (linesOf job bs) (lines-between bs (set-exact job bs .0 e))
 
-  -- .. and no two of one board overlap
-  pub rules-no-overlap : (bs : List Board) → layoutRules job bs ≡ true → noOverlap job (linesOf job bs) ≡ true
-  rules-no-overlap bs e = ahead-none (linesOf job bs) (lines-ahead bs (set-exact job bs .0 e))
+  -- .. and any two of one board are apart
+  pub rules-apart : (bs : List Board) → layoutRules job bs ≡ true → allApart job (linesOf job bs) ≡ true
+  rules-apart bs e = ahead-apart (linesOf job bs) (lines-ahead bs (set-exact job bs .0 e))

@@ -6,7 +6,7 @@ use mathlib.Core.Logic.{_↔_}
 use mathlib.Core.Bool.{Bool, true, false, not, _&&_, false≢true, _||_}
 use mathlib.Core.List.{List, [], _∷_, flatMap}
 use lib.Dec.{leb, eqb}
-use Rattle.job.specs.Lists.{any, all, sumOf, maxOf}
+use Rattle.job.specs.Lists.{any, all, sumOf, gapSum, maxOf}
 use Rattle.job.specs.Mode.{three, exact}
 use Rattle.job.specs.Job.{Job, permitted}
 use Rattle.job.proofs.Positions.{permitted-exact}
@@ -57,7 +57,7 @@ module _ (job : Job) where
       → Every Single s
       → Every (λ k. stackHeight job k ≡ m) s
       ↔ Every (λ i. heightOf job i ≡ m) (itemsOfStrip s)
-  unfolding itemsOfStrip flatMap stackHeight sumOf
+  unfolding itemsOfStrip flatMap stackHeight gapSum sumOf
   single-heights m [] h = (λ q. tt, λ q. tt)
   single-heights m ([] ∷ s) h = absurd (omega (arith, h .0))
   single-heights m ((i ∷ i′ ∷ k) ∷ s) h = absurd (omega (arith, h .0))
@@ -65,7 +65,7 @@ module _ (job : Job) where
       let r = single-heights m s (h .1) in (λ q. (omega (arith, q .0), r .0 (q .1)), λ q. (omega (arith, q .0), r .1 (q .1)))
 
   single-highest : (s : Strip) → Every Single s → stripHeight job s ≡ maxOf (heightOf job) (itemsOfStrip s)
-  unfolding itemsOfStrip flatMap stripHeight stackHeight sumOf maxOf
+  unfolding itemsOfStrip flatMap stripHeight stackHeight gapSum sumOf maxOf
   single-highest [] h = refl
   single-highest ([] ∷ s) h = absurd (omega (arith, h .0))
   single-highest ((i ∷ i′ ∷ k) ∷ s) h = absurd (omega (arith, h .0))

@@ -1,4 +1,4 @@
--- The tests of "The words of demand 3" are exact: demands, rectangles inside their board, rectangles that do not overlap.
+-- The tests of "The words of demand 3" are exact: demands, rectangles inside their board, rectangles that are apart.
 use Prim.Native.Nat.{ℕ, zero, suc, _+_, _≤_, _<_}
 use native.Mathlib.Omega.{arith}
 use mathlib.Core.Path.{_≡_, refl}
@@ -15,8 +15,8 @@ use Rattle.job.proofs.Tests.{and-left, and-right, and-both}
 use Rattle.job.proofs.Decides.{decides-le, decides-eq, decides-self, decides-and, decides-four, decides-if}
 use Rattle.layouts.specs.Layout.{Board}
 use Rattle.layouts.specs.Placement.{Placement, noPlacement, meetsFrom, meetsDemands, typesOfSet}
-use Rattle.layouts.specs.Rectangle.{endX, endY, inside, apart, clear, noOverlap}
-use Rattle.layouts.specs.Rules.{Every, MeetsDemands, Inside, Apart, NoOverlap}
+use Rattle.layouts.specs.Rectangle.{endX, endY, inside, apart, clear, allApart}
+use Rattle.layouts.specs.Rules.{Every, MeetsDemands, Inside, Apart, AllApart}
 use Rattle.layouts.proofs.lists.Every.{every-at, at-every, decides-all}
 
 -- each type of a list of types, the first being i, lies among the items as often as demanded
@@ -73,15 +73,15 @@ module _ (job : Job) where
   pub all-inside-exact : (ps : List Placement) → (all (inside job) ps ≡ true) ↔ Every (Inside job) ps
   all-inside-exact ps = decides-all inside-exact ps
 
-  -- two rectangles do not overlap, ..
+  -- two rectangles are apart, ..
   pub apart-exact : (p q : Placement) → (apart job p q ≡ true) ↔ Apart job p q
   unfolding apart endX endY
   apart-exact p q =
       decides-four
-      (decides-le (endX job p) (q .x))
-      (decides-le (endX job q) (p .x))
-      (decides-le (endY job p) (q .y))
-      (decides-le (endY job q) (p .y))
+      (decides-le (endX job p + job .blade) (q .x))
+      (decides-le (endX job q + job .blade) (p .x))
+      (decides-le (endY job p + job .blade) (q .y))
+      (decides-le (endY job q + job .blade) (p .y))
 
   -- .. where they are of one board
   abbrev pub Clear : Placement → Placement → Type 0
@@ -91,29 +91,29 @@ module _ (job : Job) where
   unfolding clear
   clear-exact p q = decides-if (decides-eq (p .turn .board) (q .turn .board)) (apart-exact p q)
 
-  -- no two rectangles of a list overlap: the first is clear of the others, and of these no two overlap
-  first-exact : (p : Placement) (ps : List Placement) → (noOverlap job (p ∷ ps) ≡ true) ↔ (Every (Clear p) ps × (noOverlap job ps ≡ true))
-  unfolding noOverlap
-  first-exact p ps = decides-and (decides-all (clear-exact p) ps) (decides-self (noOverlap job ps))
+  -- any two rectangles of a list are clear of each other: the first of the others, and any two of these
+  first-exact : (p : Placement) (ps : List Placement) → (allApart job (p ∷ ps) ≡ true) ↔ (Every (Clear p) ps × (allApart job ps ≡ true))
+  unfolding allApart
+  first-exact p ps = decides-and (decides-all (clear-exact p) ps) (decides-self (allApart job ps))
 
-  none-each : (ps : List Placement) → noOverlap job ps ≡ true → NoOverlap job ps
-  none-each [] e j k lt top = absurd (omega arith)
-  none-each (p ∷ ps) e zero zero lt top = absurd (omega arith)
-  none-each (p ∷ ps) e zero (suc k) lt top = every-at (Clear p) ps (first-exact p ps .0 e .0) noPlacement k (omega arith)
-  none-each (p ∷ ps) e (suc j) zero lt top = absurd (omega arith)
-  none-each (p ∷ ps) e (suc j) (suc k) lt top = none-each ps (first-exact p ps .0 e .1) j k (omega arith) (omega arith)
+  apart-each : (ps : List Placement) → allApart job ps ≡ true → AllApart job ps
+  apart-each [] e j k lt top = absurd (omega arith)
+  apart-each (p ∷ ps) e zero zero lt top = absurd (omega arith)
+  apart-each (p ∷ ps) e zero (suc k) lt top = every-at (Clear p) ps (first-exact p ps .0 e .0) noPlacement k (omega arith)
+  apart-each (p ∷ ps) e (suc j) zero lt top = absurd (omega arith)
+  apart-each (p ∷ ps) e (suc j) (suc k) lt top = apart-each ps (first-exact p ps .0 e .1) j k (omega arith) (omega arith)
 
-  none-empty : noOverlap job [] ≡ true
-  unfolding noOverlap
-  none-empty = refl
+  apart-empty : allApart job [] ≡ true
+  unfolding allApart
+  apart-empty = refl
 
-  each-none : (ps : List Placement) → NoOverlap job ps → noOverlap job ps ≡ true
-  each-none [] h = none-empty
-  each-none (p ∷ ps) h =
+  each-apart : (ps : List Placement) → AllApart job ps → allApart job ps ≡ true
+  each-apart [] h = apart-empty
+  each-apart (p ∷ ps) h =
       first-exact p ps .1 (
         at-every (Clear p) noPlacement ps (λ k lt. h 0 (suc k) (omega arith) (omega arith)),
-        each-none ps (λ j k lt top. h (suc j) (suc k) (omega arith) (omega arith)),
+        each-apart ps (λ j k lt top. h (suc j) (suc k) (omega arith) (omega arith)),
       )
 
-  pub overlap-exact : (ps : List Placement) → (noOverlap job ps ≡ true) ↔ NoOverlap job ps
-  overlap-exact ps = (none-each ps, each-none ps)
+  pub all-apart-exact : (ps : List Placement) → (allApart job ps ≡ true) ↔ AllApart job ps
+  all-apart-exact ps = (apart-each ps, each-apart ps)

@@ -90,7 +90,7 @@ module _ (job : Job) (l : Listing) (m : Model job l) where
           let r = number-kept _ (cutAt l c .right) (right-number c p) (omega arith) in
           let s : leftBy job l (cutAt l c) .top ≡ leftBy job l (cutAt l c) .right
           = sym (t .2) ∙ ap (plateAt l) (e ∙ sym f) ∙ r .2 in
-          stages-differ (job .mode) (positionAt job (cutAt l c .item)) (plateOf l c) (ap (λ (q : Plate). q .stage) s)
+          stages-differ (job .mode) (job .blade) (positionAt job (cutAt l c .item)) (plateOf l c) (ap (λ (q : Plate). q .stage) s)
 
       swapped : (t : Bool) → bit (eqb (cutAt l c .top) k) + bit (eqb (cutAt l c .right) k)
           ≡ bit (eqb (cond t (cutAt l c .top) (cutAt l c .right)) k) + bit (eqb (cond t (cutAt l c .right) (cutAt l c .top)) k)

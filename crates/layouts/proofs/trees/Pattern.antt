@@ -14,11 +14,11 @@ use Rattle.layouts.proofs.trees.Tree.{Tree, leaf, node}
 -- the residual of the next stage, and that of the plate's own stage
 abbrev pub branch : Job → Plate → ℕ → Plate
 branch job p i =
-    let r = leaves (job .mode) (positionAt job i) p in cond (eqb (p .stage) 2) (r .top) (r .right)
+    let r = leaves (job .mode) (job .blade) (positionAt job i) p in cond (eqb (p .stage) 2) (r .top) (r .right)
 
 abbrev pub rest : Job → Plate → ℕ → Plate
 rest job p i =
-    let r = leaves (job .mode) (positionAt job i) p in cond (eqb (p .stage) 2) (r .right) (r .top)
+    let r = leaves (job .mode) (job .blade) (positionAt job i) p in cond (eqb (p .stage) 2) (r .right) (r .top)
 
 -- a tree of positions that can be cut from the plate
 abbrev pub Pattern : Job → Plate → Tree → Type 0

@@ -57,26 +57,26 @@ module _ (job : Job) (l : Listing) (m : Model job l) (sided : Sided job) where
   module _ (c : ℕ) (i : IsCut l c) where
     -- the stages of top and right, by the stage of the cut
     pub top-1 : plateOf l c .stage ≡ 1 → 0 < cutAt l c .top → plateAt l (cutAt l c .top) .stage ≡ 1
-    top-1 e = number-stage _ (cutAt l c .top) 1 (top-number job l m c i) (stages-1 (job .mode) (positionAt job (cutAt l c .item)) (plateOf l c) e .0)
+    top-1 e = number-stage _ (cutAt l c .top) 1 (top-number job l m c i) (stages-1 (job .mode) (job .blade) (positionAt job (cutAt l c .item)) (plateOf l c) e .0)
 
     pub right-1 : plateOf l c .stage ≡ 1 → 0 < cutAt l c .right → plateAt l (cutAt l c .right) .stage ≡ 2
-    right-1 e = number-stage _ (cutAt l c .right) 2 (right-number job l m c i) (stages-1 (job .mode) (positionAt job (cutAt l c .item)) (plateOf l c) e .1)
+    right-1 e = number-stage _ (cutAt l c .right) 2 (right-number job l m c i) (stages-1 (job .mode) (job .blade) (positionAt job (cutAt l c .item)) (plateOf l c) e .1)
 
     pub top-2 : plateOf l c .stage ≡ 2 → 0 < cutAt l c .top → plateAt l (cutAt l c .top) .stage ≡ 3
-    top-2 e h = go (stages-2 (job .mode) (positionAt job (cutAt l c .item)) (plateOf l c) e .0)
+    top-2 e h = go (stages-2 (job .mode) (job .blade) (positionAt job (cutAt l c .item)) (plateOf l c) e .0)
       where
         go : (leftBy job l (cutAt l c) .top ≡ waste) ⊎ (leftBy job l (cutAt l c) .top .stage ≡ 3) → plateAt l (cutAt l c .top) .stage ≡ 3
         go (inl w) = absurd (omega (arith, waste-number _ (cutAt l c .top) (top-number job l m c i) w))
         go (inr s) = number-stage _ (cutAt l c .top) 3 (top-number job l m c i) s h
 
     pub right-2 : plateOf l c .stage ≡ 2 → 0 < cutAt l c .right → plateAt l (cutAt l c .right) .stage ≡ 2
-    right-2 e = number-stage _ (cutAt l c .right) 2 (right-number job l m c i) (stages-2 (job .mode) (positionAt job (cutAt l c .item)) (plateOf l c) e .1)
+    right-2 e = number-stage _ (cutAt l c .right) 2 (right-number job l m c i) (stages-2 (job .mode) (job .blade) (positionAt job (cutAt l c .item)) (plateOf l c) e .1)
 
     pub top-3 : plateOf l c .stage ≡ 3 → 0 < cutAt l c .top → plateAt l (cutAt l c .top) .stage ≡ 3
-    top-3 e = number-stage _ (cutAt l c .top) 3 (top-number job l m c i) (stages-3 (job .mode) (positionAt job (cutAt l c .item)) (plateOf l c) e .0)
+    top-3 e = number-stage _ (cutAt l c .top) 3 (top-number job l m c i) (stages-3 (job .mode) (job .blade) (positionAt job (cutAt l c .item)) (plateOf l c) e .0)
 
     pub right-3 : plateOf l c .stage ≡ 3 → cutAt l c .right ≡ 0
-    right-3 e = waste-number _ (cutAt l c .right) (right-number job l m c i) (stages-3 (job .mode) (positionAt job (cutAt l c .item)) (plateOf l c) e .1)
+    right-3 e = waste-number _ (cutAt l c .right) (right-number job l m c i) (stages-3 (job .mode) (job .blade) (positionAt job (cutAt l c .item)) (plateOf l c) e .1)
 
     -- the rest is of the cut's own stage, the branch of the next; at stage 3 there is none
     pub rest-stage-1 : plateOf l c .stage ≡ 1 → 0 < restOf l c → plateAt l (restOf l c) .stage ≡ 1

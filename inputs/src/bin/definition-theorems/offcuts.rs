@@ -31,7 +31,7 @@ pub fn offcuts_theorem(random: &mut Random) -> Theorem {
     }
 }
 
-/// A theorem over the areas of items, offcuts and waste on a board, or on one past the last.
+/// A theorem over the areas of items, offcuts, waste and swath on a board, or on one past the last.
 pub fn areas_theorem(random: &mut Random) -> Theorem {
     let model = Model::random(random);
     let counts = random_counts(random, &model);
@@ -43,7 +43,12 @@ pub fn areas_theorem(random: &mut Random) -> Theorem {
         equation: Equation {
             definition: "areasOn",
             arguments: vec![words(&model.words), words(&counts), (board + 1).to_string()],
-            answer: vec![numbers([areas.items, areas.offcuts, areas.waste])],
+            answer: vec![numbers([
+                areas.items,
+                areas.offcuts,
+                areas.waste,
+                areas.swath,
+            ])],
         },
         refusal: None,
     }

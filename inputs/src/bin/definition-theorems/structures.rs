@@ -43,7 +43,7 @@ pub fn walk_theorem(random: &mut Random) -> Theorem {
 }
 
 /// A theorem over a set of layouts: whether it keeps the rules, meets the demands, lies inside
-/// its boards and without overlap; and its lines.
+/// its boards, and with the blade between any two items; and its lines.
 pub fn set_theorem(random: &mut Random) -> Theorem {
     let model = Model::random(random);
     let set = set_or_broken(random, &model.job);
@@ -56,7 +56,7 @@ pub fn set_theorem(random: &mut Random) -> Theorem {
         set.iter().all(|board| keeps_rules(&model.job, board)),
         ensure_demands(&model.job, &laid).is_ok(),
         is_inside(&model.job, &lines),
-        is_without_overlap(&model.job, &lines),
+        are_apart(&model.job, &lines),
     ];
     Theorem {
         equation: Equation {
@@ -113,10 +113,7 @@ pub fn rectangle_theorem(random: &mut Random) -> Theorem {
         3 => line.y = line.y.saturating_sub(1),
         _ => line.board = random.between(1, 2),
     }
-    let holds = [
-        is_inside(&model.job, &lines),
-        is_without_overlap(&model.job, &lines),
-    ];
+    let holds = [is_inside(&model.job, &lines), are_apart(&model.job, &lines)];
     Theorem {
         equation: Equation {
             definition: "rectangles",
@@ -160,13 +157,14 @@ fn set_or_broken(random: &mut Random, job: &Job) -> Vec<Board> {
     set
 }
 
-/// The square millimetres that items cover, by board; one that two of them cover stands twice.
-fn cells(job: &Job, lines: &[Placement]) -> Vec<[u16; 3]> {
+/// The square millimetres that items cover, each item taken so much wider and higher, by board; one
+/// that two of them cover stands twice.
+fn cells(job: &Job, lines: &[Placement], more: u16) -> Vec<[u16; 3]> {
     let mut cells = Vec::new();
     for line in lines {
         let item = job.sides(line.position);
-        for x in line.x..line.x + item.width {
-            cells.extend((line.y..line.y + item.height).map(|y| [line.board, x, y]));
+        for x in line.x..line.x + item.width + more {
+            cells.extend((line.y..line.y + item.height + more).map(|y| [line.board, x, y]));
         }
     }
     cells
@@ -175,13 +173,14 @@ fn cells(job: &Job, lines: &[Placement]) -> Vec<[u16; 3]> {
 /// Whether only the boards are covered.
 fn is_inside(job: &Job, lines: &[Placement]) -> bool {
     let inside = |&[_, x, y]: &[u16; 3]| x < job.width && y < job.height;
-    cells(job, lines).iter().all(inside)
+    cells(job, lines, 0).iter().all(inside)
 }
 
-/// Whether no square millimetre is covered twice.
-fn is_without_overlap(job: &Job, lines: &[Placement]) -> bool {
+/// Whether any two items of a board are at least the blade apart, across or upwards: where each is
+/// taken the blade wider and higher, no square millimetre is covered twice.
+fn are_apart(job: &Job, lines: &[Placement]) -> bool {
     let mut covered = HashSet::new();
-    let mut cells = cells(job, lines).into_iter();
+    let mut cells = cells(job, lines, job.blade).into_iter();
     cells.all(|cell| covered.insert(cell))
 }
 

@@ -1,6 +1,6 @@
 //! The words of demand 3, written a second time and plainly: rules, positions, rectangles.
 
-use reference::{Board, Job, Mode, Position, Stack, Strip};
+use reference::{Board, Job, Mode, Position, Strip};
 
 /// The width and height of an item as it lies.
 fn sides(job: &Job, position: Position) -> (u16, u16) {
@@ -17,23 +17,27 @@ fn permitted(job: &Job, position: Position) -> bool {
     !position.turned || (item.leave && item.width != item.height)
 }
 
-/// A stack's width and height.
-fn stack_sides(job: &Job, stack: &Stack) -> (u16, u16) {
+/// A stack's width and height; the blade stands between its items and is no part of the width.
+fn stack_sides(job: &Job, stack: &[Position]) -> (u16, u16) {
     let mut sides = (0, 0);
-    for &item in stack {
+    for (place, &item) in stack.iter().enumerate() {
         let (width, height) = self::sides(job, item);
         sides.0 = sides.0.max(width);
-        sides.1 += height;
+        sides.1 += if place == 0 {
+            height
+        } else {
+            job.blade + height
+        };
     }
     sides
 }
 
-/// A strip's width and height.
+/// A strip's width and height; the blade stands between its stacks.
 fn strip_sides(job: &Job, strip: &Strip) -> (u16, u16) {
     let mut sides = (0, 0);
-    for stack in strip {
+    for (place, stack) in strip.iter().enumerate() {
         let (width, height) = stack_sides(job, stack);
-        sides.0 += width;
+        sides.0 += if place == 0 { width } else { job.blade + width };
         sides.1 = sides.1.max(height);
     }
     sides
@@ -70,13 +74,14 @@ pub fn keeps_rules(job: &Job, set: &[Board]) -> bool {
             && board.iter().all(|strip| !strip.is_empty())
             && board.iter().flatten().all(|stack| !stack.is_empty());
         let heights: u16 = board.iter().map(|strip| strip_sides(job, strip).1).sum();
+        let gaps = job.blade * (board.len().max(1) as u16 - 1);
         let strip_fits = |strip: &Strip| strip_sides(job, strip).0 <= job.width;
         let mut pieces = board.iter().flatten().flatten();
         filled
             && pieces.all(|&piece| permitted(job, piece))
             && board.iter().all(|strip| stage_rule(job, strip))
             && board.iter().all(strip_fits)
-            && heights <= job.height
+            && heights + gaps <= job.height
     })
 }
 
@@ -85,14 +90,18 @@ pub fn lines(job: &Job, set: &[Board]) -> Vec<[u16; 8]> {
     let mut lines = Vec::new();
     for (b, board) in set.iter().enumerate() {
         for (s, strip) in board.iter().enumerate() {
-            let y: u16 = board[..s]
-                .iter()
-                .map(|below| strip_sides(job, below).1)
+            let strips = board[..s].iter();
+            let y: u16 = strips
+                .map(|below| strip_sides(job, below).1 + job.blade)
                 .sum();
             for (k, stack) in strip.iter().enumerate() {
-                let x = strip_sides(job, &strip[..k].to_vec()).0;
+                let stacks = strip[..k].iter();
+                let x: u16 = stacks
+                    .map(|before| stack_sides(job, before).0 + job.blade)
+                    .sum();
                 for (p, &item) in stack.iter().enumerate() {
-                    let below = stack_sides(job, &stack[..p].to_vec()).1;
+                    let items = stack[..p].iter();
+                    let below: u16 = items.map(|&item| sides(job, item).1 + job.blade).sum();
                     let [b, s, k, p] = [b, s, k, p].map(|index| index as u16 + 1);
                     let turn = u16::from(item.turned);
                     lines.push([b, s, k, p, item.item, x, y + below, turn]);
@@ -134,7 +143,8 @@ pub fn set_in_turn(lines: &[[u16; 8]]) -> Vec<Board> {
     set
 }
 
-/// Every rectangle lies inside its board, and no two on one board overlap.
+/// Every rectangle lies inside its board, and any two on one board are at least the blade apart
+/// across or at least the blade apart upwards.
 pub fn rectangles_apart(job: &Job, lines: &[[u16; 8]]) {
     let edges = |line: &[u16; 8]| {
         let position = Position {
@@ -150,8 +160,11 @@ pub fn rectangles_apart(job: &Job, lines: &[[u16; 8]]) {
         assert!(x_end <= job.width && y_end <= job.height);
         for other in &lines[..index] {
             let (ox, oy, ox_end, oy_end) = edges(other);
-            let apart = x_end <= ox || ox_end <= x || y_end <= oy || oy_end <= y;
-            assert!(apart || other[0] != line[0], "{line:?} overlaps {other:?}");
+            let b = job.blade;
+            let across = x_end + b <= ox || ox_end + b <= x;
+            let upwards = y_end + b <= oy || oy_end + b <= y;
+            let apart = across || upwards || other[0] != line[0];
+            assert!(apart, "{line:?} is too near to {other:?}");
         }
     }
 }

@@ -1,4 +1,4 @@
-//! Jobs: those of document 01, and random ones.
+//! Jobs: those of document 01, with a blade of no width, and random ones.
 
 use super::random::Random;
 use reference::{Item, Job, Mode};
@@ -14,18 +14,30 @@ pub fn mode_words(mode: Mode) -> [u16; 2] {
 }
 
 /// Job words from a mode, the board's sides, and width, height, demand of each type; no type has
-/// leave to be turned.
+/// leave to be turned, and the blade has no width.
 pub fn job(mode: Mode, board: [u16; 2], items: &[[u16; 3]]) -> Vec<u16> {
-    let without = |&[width, height, demand]: &[u16; 3]| [width, height, demand, 0];
-    let items: Vec<[u16; 4]> = items.iter().map(without).collect();
-    job_with_leave(mode, board, &items)
+    job_with_blade(mode, board, 0, items)
 }
 
-/// Job words from a mode, the board's sides, and width, height, demand, leave of each type.
+/// The same with a blade.
+pub fn job_with_blade(mode: Mode, board: [u16; 2], blade: u16, items: &[[u16; 3]]) -> Vec<u16> {
+    let without = |&[width, height, demand]: &[u16; 3]| [width, height, demand, 0];
+    let items: Vec<[u16; 4]> = items.iter().map(without).collect();
+    job_of(mode, board, blade, &items)
+}
+
+/// Job words from a mode, the board's sides, and width, height, demand, leave of each type; the
+/// blade has no width.
 pub fn job_with_leave(mode: Mode, board: [u16; 2], items: &[[u16; 4]]) -> Vec<u16> {
+    job_of(mode, board, 0, items)
+}
+
+/// Job words from a mode, the board's sides, the blade, and width, height, demand, leave of each
+/// type.
+pub fn job_of(mode: Mode, board: [u16; 2], blade: u16, items: &[[u16; 4]]) -> Vec<u16> {
     let mut words = mode_words(mode).to_vec();
     words.extend(board);
-    words.push(items.len() as u16);
+    words.extend([items.len() as u16, blade]);
     words.extend(items.iter().flatten());
     words
 }
@@ -51,16 +63,18 @@ pub fn words_of(structured: &Job) -> Vec<u16> {
     let items: Vec<[u16; 4]> = (structured.items.iter())
         .map(|item| [item.width, item.height, item.demand, u16::from(item.leave)])
         .collect();
-    job_with_leave(
+    job_of(
         structured.mode,
         [structured.width, structured.height],
+        structured.blade,
         &items,
     )
 }
 
 /// A random job: any mode, a small board, up to five types whose sides are drawn from few
 /// values, so that equal widths and heights occur and the exact modes have work to do. Most jobs
-/// have types with leave to be turned, and some of these fit the board only turned.
+/// have types with leave to be turned, and some of these fit the board only turned. The blade has no
+/// width, or a narrow one, or any within its limits, so that it is wider than some boards.
 pub fn random_job(random: &mut Random) -> Job {
     let mode = random.pick(&Mode::ALL);
     random_job_in(random, mode)
@@ -69,8 +83,12 @@ pub fn random_job(random: &mut Random) -> Job {
 /// A random job in a mode.
 pub fn random_job_in(random: &mut Random, mode: Mode) -> Job {
     let longest = random.pick(&[4, 8, 15, 30]);
-    let width = random.between(1, longest);
-    let height = random.between(1, longest);
+    let [width, height] = [0; 2].map(|_| random.between(1, longest));
+    random_job_on(random, mode, [width, height])
+}
+
+/// A random job in a mode on a board.
+fn random_job_on(random: &mut Random, mode: Mode, [width, height]: [u16; 2]) -> Job {
     let widths: Vec<u16> = (0..3).map(|_| random.between(1, width)).collect();
     let heights: Vec<u16> = (0..3).map(|_| random.between(1, height)).collect();
     let types = random.between(1, 5);
@@ -84,11 +102,13 @@ pub fn random_job_in(random: &mut Random, mode: Mode) -> Job {
         };
         with_leave(random, item, turning)
     });
+    let items = items.collect();
     Job {
         mode,
         width,
         height,
-        items: items.collect(),
+        blade: random_blade(random),
+        items,
     }
 }
 
@@ -104,6 +124,22 @@ fn with_leave(random: &mut Random, item: Item, turning: bool) -> Item {
         height,
         leave,
         ..item
+    }
+}
+
+/// No blade, a narrow one, or one of any width within its limits.
+fn random_blade(random: &mut Random) -> u16 {
+    let widest = random.pick(&[0, 3, 3, 20]);
+    random.between(0, widest)
+}
+
+/// A random job on a board of up to 25, with a blade of any width within its limits: often wider
+/// than every side.
+pub fn random_blade_job_in(random: &mut Random, mode: Mode) -> Job {
+    let [width, height] = [0; 2].map(|_| random.between(1, 25));
+    Job {
+        blade: random.between(0, 20),
+        ..random_job_on(random, mode, [width, height])
     }
 }
 
@@ -123,10 +159,12 @@ pub fn random_large_job(random: &mut Random, mode: Mode) -> Job {
         };
         with_leave(random, item, turning)
     });
+    let items = items.collect();
     Job {
         mode,
         width,
         height,
-        items: items.collect(),
+        blade: random_blade(random),
+        items,
     }
 }

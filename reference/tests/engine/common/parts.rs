@@ -1,5 +1,5 @@
-//! The parts of the boards of an unfolding, written plainly from document 02, Two: items, offcuts
-//! and waste as rectangles.
+//! The parts of the boards of an unfolding, written plainly from document 02, Two and Four: items,
+//! offcuts, waste and the blade's swath as rectangles.
 
 use super::plain;
 
@@ -9,7 +9,7 @@ pub type Part = [u16; 5];
 /// The items of lines.
 pub fn items(job: &[u16], lines: &[[u16; 8]]) -> Vec<Part> {
     let part = |&[board, _, _, _, item, x, y, turn]: &[u16; 8]| {
-        let first = 5 + 4 * (usize::from(item) - 1);
+        let first = 6 + 4 * (usize::from(item) - 1);
         let [width, height] = [job[first], job[first + 1]];
         match turn {
             0 => [board, x, y, width, height],
@@ -25,29 +25,104 @@ pub fn offcuts(records: &[[u16; 6]]) -> Vec<Part> {
     records.iter().map(part).collect()
 }
 
-/// The waste of the cuts, by their indices (from 0), that give these items: the residuals that are
-/// not kept, above and beside the item; in two stages at stage 2 all that is above the item, at
-/// stage 3 all that is beside it.
-pub fn waste(job: &[u16], items: &[Part], cuts: &[usize]) -> Vec<Part> {
+/// A cut of an unfolding: the item, the sides and the stage of the plate that it is cut from, and
+/// the numbers of the kept residuals.
+struct Done {
+    item: Part,
+    plate: [u16; 3],
+    kept: [u16; 2],
+}
+
+/// The cuts, by their indices (from 0), that give these items.
+fn done(job: &[u16], items: &[Part], cuts: &[usize]) -> Vec<Done> {
     let (plates, records) = plain::listing(job);
-    let mut waste = Vec::new();
-    for (&[board, x, y, wi, hi], &cut) in items.iter().zip(cuts) {
-        let [plate, _, kept_top, kept_right] = records[cut];
-        let [w, h, stage] = plates[usize::from(plate)];
-        let [top, right] = plain::leaves(job, [w, h, stage], [wi, hi]);
-        if kept_top == 0 {
-            waste.push([board, x, y + hi, top[0], top[1]]);
+    let done = |(&item, &cut): (&Part, &usize)| {
+        let [plate, _, top, right] = records[cut];
+        Done {
+            item,
+            plate: plates[usize::from(plate)],
+            kept: [top, right],
         }
-        if kept_right == 0 {
-            waste.push([board, x + wi, y, right[0], right[1]]);
-        }
+    };
+    items.iter().zip(cuts).map(done).collect()
+}
+
+impl Done {
+    /// What is trimmed off: in two stages at stage 2 all that is above the item, at stage 3 all that
+    /// is beside it.
+    fn trim(&self, job: &[u16]) -> Option<Part> {
+        let [board, x, y, wi, hi] = self.item;
+        let [w, h, stage] = self.plate;
         match (job[0], stage) {
-            (2, 2) => waste.push([board, x, y + hi, w, h - hi]),
-            (3, 3) => waste.push([board, x + wi, y, w - wi, h]),
-            _ => {}
+            (2, 2) => Some([board, x, y + hi, w, h - hi]),
+            (3, 3) => Some([board, x + wi, y, w - wi, h]),
+            _ => None,
         }
     }
+
+    /// The way of the blade along each line that divides the plate, clipped to the plate: at stage
+    /// 1 across the plate and then up the strip, at stage 2 up the strip and in three stages then
+    /// across the stack, at stage 3 across the stack.
+    fn ways(&self, job: &[u16]) -> Vec<Part> {
+        let [board, x, y, wi, hi] = self.item;
+        let [w, h, stage] = self.plate;
+        let [right, top] = [job[5].min(w - wi), job[5].min(h - hi)];
+        match (job[0], stage) {
+            (_, 1) => vec![[board, x, y + hi, w, top], [board, x + wi, y, right, hi]],
+            (2, 2) => vec![[board, x + wi, y, right, h]],
+            (3, 2) => vec![[board, x + wi, y, right, h], [board, x, y + hi, wi, top]],
+            _ => vec![[board, x, y + hi, w, top]],
+        }
+    }
+}
+
+/// The waste of the cuts: the residuals that are not kept, beyond the blade, and the trims.
+pub fn waste(job: &[u16], items: &[Part], cuts: &[usize]) -> Vec<Part> {
+    let mut waste = Vec::new();
+    for cut in done(job, items, cuts) {
+        let [board, x, y, wi, hi] = cut.item;
+        let [top, right] = plain::leaves(job, cut.plate, [wi, hi]);
+        if cut.kept[0] == 0 {
+            waste.push([board, x, y + hi + job[5], top[0], top[1]]);
+        }
+        if cut.kept[1] == 0 {
+            waste.push([board, x + wi + job[5], y, right[0], right[1]]);
+        }
+        waste.extend(cut.trim(job));
+    }
+    waste.retain(|part| part[3] > 0 && part[4] > 0);
     waste
+}
+
+/// What of a part lies outside another one of its board: to the left, to the right, below and above.
+fn outside(part: Part, other: Part) -> [Part; 4] {
+    let [board, x, y, width, height] = part;
+    let [x_end, y_end] = [x + width, y + height];
+    let left = other[1].clamp(x, x_end);
+    let right = (other[1] + other[3]).clamp(x, x_end);
+    let foot = other[2].clamp(y, y_end);
+    let head = (other[2] + other[4]).clamp(y, y_end);
+    [
+        [board, x, y, left - x, height],
+        [board, right, y, x_end - right, height],
+        [board, left, y, right - left, foot - y],
+        [board, left, head, right - left, y_end - head],
+    ]
+}
+
+/// The swath of the cuts: the ways of the blade, but for what lies inside the trim of the cut, which
+/// is waste.
+pub fn swath(job: &[u16], items: &[Part], cuts: &[usize]) -> Vec<Part> {
+    let mut swath = Vec::new();
+    for cut in done(job, items, cuts) {
+        for way in cut.ways(job) {
+            match cut.trim(job) {
+                Some(trim) => swath.extend(outside(way, trim)),
+                None => swath.push(way),
+            }
+        }
+    }
+    swath
 }
 
 /// The area of the parts of one board.
@@ -58,13 +133,15 @@ pub fn area_on(board: u16, parts: &[Part]) -> u64 {
         .sum()
 }
 
-/// Every part lies inside its board, and no two parts of one board overlap.
+/// Every part lies inside its board, and any two parts of one board are at least the blade apart,
+/// across or upwards.
 pub fn assert_apart(job: &[u16], parts: &[Part]) {
+    let blade = job[5];
     for (index, &[board, x, y, width, height]) in parts.iter().enumerate() {
         assert!(x + width <= job[2] && y + height <= job[3]);
         for &[other_board, ox, oy, other_width, other_height] in &parts[..index] {
-            let across = x + width <= ox || ox + other_width <= x;
-            let upwards = y + height <= oy || oy + other_height <= y;
+            let across = x + width + blade <= ox || ox + other_width + blade <= x;
+            let upwards = y + height + blade <= oy || oy + other_height + blade <= y;
             assert!(board != other_board || across || upwards);
         }
     }
@@ -76,6 +153,7 @@ pub fn assert_partition(job: &[u16], boards: u32, parts: &[Part]) {
     let mut painted = vec![0; w * h * boards as usize];
     for part in parts {
         let [board, x, y, width, height] = part.map(usize::from);
+        assert!(x + width <= w && y + height <= h, "{job:?}");
         for row in y..y + height {
             let first = ((board - 1) * h + row) * w + x;
             for cell in &mut painted[first..first + width] {

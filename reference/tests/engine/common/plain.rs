@@ -1,5 +1,5 @@
 //! The listing, written a second time and plainly from document 01, "Plates and cuts", and from
-//! document 02, One: over job words, with every lookup a search of the whole list.
+//! document 02, One and Four: over job words, with every lookup a search of the whole list.
 
 type Plate = [u16; 3];
 type Cut = [u16; 4];
@@ -22,7 +22,7 @@ fn may_cut(job: &[u16], [w, h, stage]: Plate, [wi, hi]: [u16; 2]) -> bool {
 /// The item words of the permitted positions in the order of the walk, each with its sides.
 fn positions(job: &[u16]) -> Vec<(u16, [u16; 2])> {
     let mut positions = Vec::new();
-    for (item, number) in job[5..].chunks(4).zip(1..) {
+    for (item, number) in job[6..].chunks(4).zip(1..) {
         let [width, height, leave] = [item[0], item[1], item[3]];
         positions.push((2 * number, [width, height]));
         if leave == 1 && width != height {
@@ -32,14 +32,18 @@ fn positions(job: &[u16]) -> Vec<(u16, [u16; 2])> {
     positions
 }
 
-/// Top and right of a cut; a plate with a side of 0 where there is none.
+/// Top and right of a cut; a plate with a side of 0 where there is none, or where the blade or less
+/// remains.
 pub fn leaves(job: &[u16], [w, h, stage]: Plate, [wi, hi]: [u16; 2]) -> [Plate; 2] {
     const NONE: Plate = [0, 0, 0];
+    let blade = job[5];
+    let beyond = |remains: u16| remains.max(blade) - blade;
+    let [across, upwards] = [beyond(w - wi), beyond(h - hi)];
     match (job[0], stage) {
-        (_, 1) => [[w, h - hi, 1], [w - wi, hi, 2]],
-        (2, 2) => [NONE, [w - wi, hi, 2]],
-        (3, 2) => [[wi, h - hi, 3], [w - wi, h, 2]],
-        (3, 3) => [[wi, h - hi, 3], NONE],
+        (_, 1) => [[w, upwards, 1], [across, hi, 2]],
+        (2, 2) => [NONE, [across, hi, 2]],
+        (3, 2) => [[wi, upwards, 3], [across, h, 2]],
+        (3, 3) => [[wi, upwards, 3], NONE],
         _ => panic!("no plate has another stage"),
     }
 }
@@ -85,7 +89,7 @@ pub fn accepts(job: &[u16], counts: &[u16]) -> Option<u32> {
         let of_cut = |(cut, &count): (&Cut, &u16)| if chosen(cut) { u32::from(count) } else { 0 };
         cuts.iter().zip(counts).map(of_cut).sum()
     };
-    let demands_met = job[5..]
+    let demands_met = job[6..]
         .chunks(4)
         .zip(1..)
         .all(|(item, number)| sum(&|cut| cut[1] / 2 == number) >= u32::from(item[2]));

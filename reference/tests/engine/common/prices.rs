@@ -11,13 +11,16 @@ pub fn words_of(prices: &Prices) -> Vec<u16> {
     words
 }
 
-/// Each price is the area's share of the board, in units of 1/D, rounded down.
+/// Each price is the area's share of the board, in units of 1/D, rounded down; sides are taken with
+/// the blade.
 pub fn area_prices(job: &Job, listing: &Listing, denominator: u16) -> Prices {
-    let board = u64::from(job.width) * u64::from(job.height);
-    let price = |width: u16, height: u16| {
-        let area = u64::from(width) * u64::from(height);
-        (area * u64::from(denominator) / board) as u16
+    let area = |width: u16, height: u16| {
+        let [width, height] = [width, height].map(|side| u64::from(side + job.blade));
+        width * height
     };
+    let board = area(job.width, job.height);
+    let price =
+        |width: u16, height: u16| (area(width, height) * u64::from(denominator) / board) as u16;
     let of_plate = |plate: &Plate| price(plate.width, plate.height);
     Prices {
         denominator,

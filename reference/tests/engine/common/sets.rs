@@ -66,7 +66,8 @@ fn random_board(random: &mut Random, job: &Job, lead: Position) -> Board {
             three_stage_strip(random, job, lead)
         };
         let single = strip.iter().map(|stack| job.sides(stack[0]).height);
-        room -= single.max().unwrap().max(job.sides(lead).height);
+        let highest = single.max().unwrap().max(job.sides(lead).height);
+        room = beyond(job, room, highest);
         board.push(strip);
         next = match random.once_in(6) {
             true => None,
@@ -75,6 +76,11 @@ fn random_board(random: &mut Random, job: &Job, lead: Position) -> Board {
     }
     random.shuffle(&mut board);
     board
+}
+
+/// The room that is left beyond a length and the blade.
+fn beyond(job: &Job, room: u16, length: u16) -> u16 {
+    room.saturating_sub(length + job.blade)
 }
 
 /// An item in a position that fits into the room and has the given width, if one is given.
@@ -97,7 +103,7 @@ fn random_item(
 /// A strip of single items, not higher than the room; in 2E all as high as the leading one.
 fn two_stage_strip(random: &mut Random, job: &Job, lead: Position, room: u16) -> Strip {
     let mut strip = vec![vec![lead]];
-    let mut width = job.width - job.sides(lead).width;
+    let mut width = beyond(job, job.width, job.sides(lead).width);
     while let Some(item) = random_item(random, job, width, room, None) {
         if random.once_in(6) {
             break;
@@ -105,7 +111,7 @@ fn two_stage_strip(random: &mut Random, job: &Job, lead: Position, room: u16) ->
         if job.mode == Mode::TwoExact && job.sides(item).height != job.sides(lead).height {
             continue;
         }
-        width -= job.sides(item).width;
+        width = beyond(job, width, job.sides(item).width);
         strip.push(vec![item]);
     }
     random.shuffle(&mut strip);
@@ -117,27 +123,24 @@ fn two_stage_strip(random: &mut Random, job: &Job, lead: Position, room: u16) ->
 fn three_stage_strip(random: &mut Random, job: &Job, lead: Position) -> Strip {
     let mut strip = vec![vec![lead]];
     let height = job.sides(lead).height;
-    let mut width = job.width - job.sides(lead).width;
+    let mut width = beyond(job, job.width, job.sides(lead).width);
     while let Some(first) = random_item(random, job, width, height, None) {
         if random.once_in(6) {
             break;
         }
         let exact_width = (job.mode == Mode::ThreeExact).then(|| job.sides(first).width);
         let mut stack = vec![first];
-        let mut room = height - job.sides(first).height;
+        let mut room = beyond(job, height, job.sides(first).height);
         while let Some(item) = random_item(random, job, width, room, exact_width) {
             if random.once_in(6) {
                 break;
             }
-            room -= job.sides(item).height;
+            room = beyond(job, room, job.sides(item).height);
             stack.push(item);
         }
         random.shuffle(&mut stack);
-        width -= stack
-            .iter()
-            .map(|&item| job.sides(item).width)
-            .max()
-            .unwrap();
+        let widths = stack.iter().map(|&item| job.sides(item).width);
+        width = beyond(job, width, widths.max().unwrap());
         strip.push(stack);
     }
     random.shuffle(&mut strip);

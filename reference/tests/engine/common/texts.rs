@@ -26,8 +26,9 @@ pub fn job_text(job: &[u16]) -> Vec<u8> {
         number(job[2]),
         number(job[3]),
         number(job[4]),
+        number(job[5]),
     ]);
-    for (item_type, item) in (1..).zip(job[5..].chunks(4)) {
+    for (item_type, item) in (1..).zip(job[6..].chunks(4)) {
         text.extend(line(&[
             2,
             item_type,

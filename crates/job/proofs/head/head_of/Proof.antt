@@ -1,4 +1,4 @@
--- `head_of` reads the five words of the head.
+-- `head_of` reads the six words of the head.
 use mathlib.Core.Path.{refl}
 use borrow.Author.Needs.{needs}
 use Rattle.job.specs.Job.{jobOf}
@@ -7,7 +7,14 @@ use Rattle.job.proofs.head.head_of.Tie as tie
 
 returns : tie.Need-returns
 unfolding jobOf
-returns c = record { of-mode = c .before .before .before .from-line .ensures; of-width = refl; of-height = refl; of-types = refl }
+returns c =
+    record {
+      of-mode = c .before .before .before .before .from-line .ensures;
+      of-width = refl;
+      of-height = refl;
+      of-blade = refl;
+      of-types = refl;
+    }
 
 pub head-of-spec : {M : Type 1} → statement M
 head-of-spec =
@@ -16,6 +23,7 @@ head-of-spec =
     (λ c. search needs)
     (λ c. search needs)
     (λ c κs. search needs)
+    (λ c. search needs)
     (λ c. search needs)
     (λ c. search needs)
     (λ c. search needs)

@@ -10,12 +10,12 @@ use Rattle.layouts_strips.proofs.past.next_below.Tie as tie
 returns : tie.Need-returns
 returns c =
     let a = c .before .before .before .args in
-    below-same (begun (drop (a .c) (rowsOf (now (a .layouts))))) (a .top) (c .before .begins-strip .ensures) (c .if1 .taken)
+    below-same (begun (drop (a .c) (rowsOf (now (a .layouts))))) (a .above) (c .before .begins-strip .ensures) (c .if1 .taken)
 
 returns-2 : tie.Need-returns-2
 returns-2 c =
     let a = c .before .before .before .args in
-    below-none (begun (drop (a .c) (rowsOf (now (a .layouts))))) (a .top) (c .before .begins-strip .ensures) (c .if1 .left)
+    below-none (begun (drop (a .c) (rowsOf (now (a .layouts))))) (a .above) (c .before .begins-strip .ensures) (c .if1 .left)
 
 pub next-below-spec : {M : Type 1} → statement M
 next-below-spec = tie.close (tie.spec (λ c κs. search needs) returns returns-2)

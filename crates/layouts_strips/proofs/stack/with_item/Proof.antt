@@ -1,4 +1,4 @@
--- `with_item` adds the height, keeps the greater width, and goes on to be even only where the widths are equal.
+-- `with_item` adds a gap and the height, keeps the greater width, and goes on to be even only where the widths are equal.
 use borrow.Author.Needs.{needs}
 use Rattle.layouts_strips.proofs.stack.with_item.Statement.{statement}
 use Rattle.layouts_strips.proofs.stack.with_item.Tie as tie
@@ -16,6 +16,8 @@ with-item-spec =
     (λ c. search needs)
     (λ c. search needs)
     (λ c κs. search needs)
+    (λ c. search needs)
+    (λ c. search needs)
     (λ c. search needs)
     (λ c. search needs)
     returns

@@ -18,42 +18,43 @@ use Rattle.layouts_strips.proofs.strip.strip_at.Statement.{statement}
 use Rattle.layouts_strips.proofs.strip.strip_at.Tie as tie
 
 abbrev Inv-loop : tie.InvT-loop
-Inv-loop job layouts lines a m₀ m =
+Inv-loop job layouts lines a head m₀ m =
     (StripIs (jobOf job) a (stripOf (drop a (rowsOf layouts))) (stacksIn (jobOf job) m (stripOf (drop (m .end) (rowsOf layouts))))) × ((StripSmall a lines m) × (m .end < lines))
 
 abbrev μ-loop : tie.MeasureT-loop
-μ-loop job layouts lines a m₀ m = lines - m .end
+μ-loop job layouts lines a head m₀ m = lines - m .end
 
 loop-holds : tie.Need-loop-holds Inv-loop μ-loop
 loop-holds c =
-    let s = c .before .before in
+    let s = c .before .before .before in
     (strip-begins (jobOf (now (s .args .job))) (s .args .a) (stripOf (drop (s .args .a) (rowsOf (now (s .args .layouts))))), (record { begun = search needs; inside = search needs; narrow = search needs; low = search needs }, s .pre .1))
 
 stack-at-requires : tie.Need-stack-at-requires Inv-loop μ-loop
-stack-at-requires c κs = (c .before .before .before .pre .0, c .loop .inv .1 .1)
+stack-at-requires c κs = (c .before .before .before .before .pre .0, c .loop .inv .1 .1)
 
 with-stack-requires : tie.Need-with-stack-requires Inv-loop μ-loop
 with-stack-requires c κs =
-    let few = c .before .before .before .before .pre .0 .few in
+    let few = c .before .before .before .before .before .pre .0 .few in
     let small = c .before .loop .inv .1 .0 in
     (omega arith, c .stack-at .ensures .1 .narrow)
 
 begins-stack-requires : tie.Need-begins-stack-requires Inv-loop μ-loop
 begins-stack-requires c κs =
-    let small = strip-small (c .before .before .loop .inv .1 .0) (c .before .stack-at .ensures .1) (c .with-stack .ensures) in
-    (c .before .before .before .before .before .pre .0 .whole, small .inside)
+    let small = strip-small (c .before .before .loop .inv .1 .0) (c .before .stack-at .ensures .1) (omega (arith, c .before .before .before .head-of .ok)) (c .with-stack .ensures) in
+    (c .before .before .before .before .before .before .pre .0 .whole, small .inside)
 
 returns : tie.Need-returns Inv-loop μ-loop
 returns c =
-    let s = c .before .before .before .before .before .before .before in
+    let s = c .before .before .before .before .before .before .before .before in
+    let head = c .before .before .before .before .before .head-of in
     let l = c .before .before .before .before .loop in
     let k = c .before .before .before .stack-at in
     let m = c .before .before .with-stack in
     let e : m .result .end ≡ k .result .end = ap (λ (x : StripMeasure). x .end) (m .ensures) in
     let after = k .ensures .1 .begun in
-    let small = strip-small (l .inv .1 .0) (k .ensures .1) (m .ensures) in
+    let small = strip-small (l .inv .1 .0) (k .ensures .1) (omega (arith, head .ok)) (m .ensures) in
     let from = l .inv .1 .0 .begun in (
-      strip-ends (jobOf (now (s .args .job))) (now (s .args .layouts)) (s .args .lines) (s .args .a) (l .m) (s .pre .0 .whole) (l .inv .1 .1) (k .ensures .0) (m .ensures) (l .inv .0) (c .before .begins-stack .ensures) (not-true _ (c .if1 .taken)),
+      strip-ends (jobOf (now (s .args .job))) (now (s .args .layouts)) (s .args .lines) (s .args .a) (l .m) (s .pre .0 .whole) (l .inv .1 .1) (k .ensures .0) (m .ensures) (head .ensures .of-blade) (l .inv .0) (c .before .begins-stack .ensures) (not-true _ (c .if1 .taken)),
       (small, omega arith),
     )
 
@@ -69,14 +70,15 @@ loop-less c =
 
 loop-again : tie.Need-loop-again Inv-loop μ-loop
 loop-again c =
-    let s = c .before .before .before .before .before .before .before in
+    let s = c .before .before .before .before .before .before .before .before in
+    let head = c .before .before .before .before .before .head-of in
     let l = c .before .before .before .before .loop in
     let k = c .before .before .before .stack-at in
     let m = c .before .before .with-stack in
     let b = c .before .begins-stack in (
-      strip-next (jobOf (now (s .args .job))) (now (s .args .layouts)) (s .args .lines) (s .args .a) (l .m) (s .pre .0 .whole) (l .inv .1 .1) (k .ensures .0) (m .ensures) (l .inv .0) (b .ensures) (not-false _ (c .if1 .left)),
+      strip-next (jobOf (now (s .args .job))) (now (s .args .layouts)) (s .args .lines) (s .args .a) (l .m) (s .pre .0 .whole) (l .inv .1 .1) (k .ensures .0) (m .ensures) (head .ensures .of-blade) (l .inv .0) (b .ensures) (not-false _ (c .if1 .left)),
       (
-        strip-small (l .inv .1 .0) (k .ensures .1) (m .ensures),
+        strip-small (l .inv .1 .0) (k .ensures .1) (omega (arith, head .ok)) (m .ensures),
         line-inside beginsStack (now (s .args .layouts)) (s .args .lines) (m .result .end) refl (s .pre .0 .whole) (b .ensures) (not-false _ (c .if1 .left)),
       ),
     )
@@ -87,6 +89,7 @@ strip-at-spec =
     (tie.spec
     Inv-loop
     μ-loop
+    (λ c κs. search needs)
     loop-holds
     stack-at-requires
     with-stack-requires

@@ -23,6 +23,7 @@ walk-requires c κs =
     let d = c .before .before .before .before .before .before .head-of .ensures in (
       record {
         of-job = passed-words (now (s .args .job)) (s .pre .0) d;
+        of-blade = d .of-blade;
         plate-room = omega (arith, s .pre .1 .0, x .kept .0, y .kept .0);
         cut-room = omega (arith, s .pre .1 .1, z .kept .0);
         few-plates = omega arith;
@@ -36,7 +37,7 @@ returns c =
     let a = c .before .before .before .before .before .before .before .before .before .before .before .before .before .before .before .before .before .before .before .before .before .before .before .before .before .before .args in
     let x = c .before .before .before .before .before .before .before .walk in
     let h = as-next (c .before .m .given .1) (x .ensures) in
-    (h .rep .some-plate, walked (now (a .job)) (now (a .plates)) (now (a .cuts)) _ _ h (x .kept .1 .1 .1 .0 ∙ c .before .before .before .before .before .before .before .before .before .before .before .before .put-plate .kept .0 ∙ c .before .before .before .before .before .before .before .before .before .before .before .before .before .before .before .before .before .before .before .before .before .clear .kept .0) (x .kept .1 .1 .1 .1 .0 ∙ c .before .before .before .before .before .before .before .before .before .before .before .before .before .before .before .before .before .clear2 .kept .0))
+    (h .rep .some-plate, walked (now (a .job)) (now (a .plates)) (now (a .cuts)) _ _ h (x .kept .1 .1 .1 .1 .0 ∙ c .before .before .before .before .before .before .before .before .before .before .before .before .put-plate .kept .0 ∙ c .before .before .before .before .before .before .before .before .before .before .before .before .before .before .before .before .before .before .before .before .before .clear .kept .0) (x .kept .1 .1 .1 .1 .1 .0 ∙ c .before .before .before .before .before .before .before .before .before .before .before .before .before .before .before .before .before .clear2 .kept .0))
 
 returns-2 : tie.Need-returns-2
 returns-2 c =
@@ -45,8 +46,8 @@ returns-2 c =
     let e = as-stop _ _ (c .before .before .before .before .before .before .before .before .before .number .given .1) (x .ensures) in (
       tt,
       walk-stopped (now (a .job)) (now (a .plates)) (now (a .cuts)) _ _ _ (e .0) (e .1)
-          (c .before .before .before .before .before .before .clear3 .ensures ∙ ap zeros (x .kept .1 .1 .1 .0 ∙ c .before .before .before .before .before .before .before .before .before .before .before .before .before .before .before .before .before .before .before .before .put-plate .kept .0 ∙ c .before .before .before .before .before .before .before .before .before .before .before .before .before .before .before .before .before .before .before .before .before .before .before .before .before .before .before .before .before .clear .kept .0))
-          (c .before .before .clear4 .ensures ∙ ap zeros (x .kept .1 .1 .1 .1 .0 ∙ c .before .before .before .before .before .before .before .before .before .before .before .before .before .before .before .before .before .before .before .before .before .before .before .before .before .clear2 .kept .0)),
+          (c .before .before .before .before .before .before .clear3 .ensures ∙ ap zeros (x .kept .1 .1 .1 .1 .0 ∙ c .before .before .before .before .before .before .before .before .before .before .before .before .before .before .before .before .before .before .before .before .put-plate .kept .0 ∙ c .before .before .before .before .before .before .before .before .before .before .before .before .before .before .before .before .before .before .before .before .before .before .before .before .before .before .before .before .before .clear .kept .0))
+          (c .before .before .clear4 .ensures ∙ ap zeros (x .kept .1 .1 .1 .1 .1 .0 ∙ c .before .before .before .before .before .before .before .before .before .before .before .before .before .before .before .before .before .before .before .before .before .before .before .before .before .clear2 .kept .0)),
     )
 
 pub list-into-spec : {M : Type 1} → statement M

@@ -28,10 +28,10 @@ permitted c =
     mayCut-of (s .args .plate) (c .before .may-cut .ensures) (s .pre .0 .of-job .of-mode) (c .before .before .position-at .ensures) (not-false _ (c .if1 .left))
 
 -- what the cut leaves
-left-is : (c : tie.After-cut-leaves) → c .cut-leaves .result ≡ leaves (jobOf (words (c .before .before .before .before .before .before .before .before)) .mode) (positionAt (jobOf (words (c .before .before .before .before .before .before .before .before))) (c .before .before .before .before .before .before .before .before .args .i .0)) (c .before .before .before .before .before .before .before .before .args .plate)
+left-is : (c : tie.After-cut-leaves) → c .cut-leaves .result ≡ leaves (jobOf (words (c .before .before .before .before .before .before .before .before)) .mode) (jobOf (words (c .before .before .before .before .before .before .before .before)) .blade) (positionAt (jobOf (words (c .before .before .before .before .before .before .before .before))) (c .before .before .before .before .before .before .before .before .args .i .0)) (c .before .before .before .before .before .before .before .before .args .plate)
 left-is c =
     let s = c .before .before .before .before .before .before .before .before in
-    leaves-of (s .args .plate) (c .cut-leaves .ensures) (s .pre .0 .of-job .of-mode) (c .before .before .before .before .position-at .ensures)
+    leaves-of (s .args .plate) (c .cut-leaves .ensures) (s .pre .0 .of-job .of-mode) (s .pre .0 .of-blade) (c .before .before .before .before .position-at .ensures)
 
 returns : tie.Need-returns
 returns c l h =

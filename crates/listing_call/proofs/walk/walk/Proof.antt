@@ -21,18 +21,18 @@ Kept rest whole plates₀ cuts₀ plates cuts m k =
     Here rest whole plates cuts (m .0) (k .0) × ((length plates ≡ length plates₀) × (length cuts ≡ length cuts₀))
 
 abbrev Inv-loop : tie.InvT-loop
-Inv-loop job mode n plates₀ cuts₀ last m₀ k₀ j plate i₀ plates cuts m k i =
+Inv-loop job mode blade n plates₀ cuts₀ last m₀ k₀ j plate i₀ plates cuts m k i =
     Kept (restRow (jobOf job) j plate i) (walk (jobOf job)) plates₀ cuts₀ plates cuts m k × ((2 ≤ i) × (i ≤ last + 1))
 
 abbrev μ-loop : tie.MeasureT-loop
-μ-loop job mode n plates₀ cuts₀ last m₀ k₀ j plate i₀ plates cuts m k i = last + 1 - i
+μ-loop job mode blade n plates₀ cuts₀ last m₀ k₀ j plate i₀ plates cuts m k i = last + 1 - i
 
 abbrev Inv-walk : tie.InvT-walk
-Inv-walk job mode n plates₀ cuts₀ last m₀ k₀ j₀ plates cuts m k j =
+Inv-walk job mode blade n plates₀ cuts₀ last m₀ k₀ j₀ plates cuts m k j =
     Kept (restWalk (jobOf job) j) (walk (jobOf job)) plates₀ cuts₀ plates cuts m k
 
 abbrev μ-walk : tie.MeasureT-walk
-μ-walk job mode n plates₀ cuts₀ last m₀ k₀ j₀ plates cuts m k j = maxPlates - j
+μ-walk job mode blade n plates₀ cuts₀ last m₀ k₀ j₀ plates cuts m k j = maxPlates - j
 
 walk-holds : tie.Need-walk-holds Inv-loop μ-loop Inv-walk μ-walk
 walk-holds c = (walk-start (jobOf (now (c .before .before .before .before .args .job))) (c .before .before .before .before .pre .1), (refl, refl))
@@ -55,6 +55,7 @@ pair-step-requires c κs =
     let l = c .before .before .before .loop .inv in (
       record {
         of-job = p .of-job;
+        of-blade = p .of-blade;
         plate-room = omega (arith, p .plate-room, w .1 .0, l .0 .1 .0);
         cut-room = omega (arith, p .cut-room, w .1 .1, l .0 .1 .1);
         few-plates = l .0 .0 .rep .few-plates;
@@ -76,7 +77,7 @@ loop-again c =
     let x = c .before .before .before .before .before .before .before .pair-step in
     let t = c .before .before .before .before .before .before .before .before .before .before .loop-test .taken in
     let on = row-next (jobOf (now (s .args .job))) (c .before .before .before .before .before .before .before .before .before .before .before .before .before .before .before .before .walk .j) (c .before .before .before .before .before .before .before .before .before .before .before .before .plate-at .result) (l .i) (l .inv .0 .0) (omega (arith, l .inv .1 .0)) (rw (last-position (s .pre .0 .of-job)) t) (as-next (c .before .m1 .given .1) (x .ensures (l .inv .0 .0 .l) (l .inv .0 .0 .rep))) in
-    ((on, (x .kept .1 .1 .1 .0 ∙ l .inv .0 .1 .0, x .kept .1 .1 .1 .1 .0 ∙ l .inv .0 .1 .1)), (omega arith, omega (arith, t)))
+    ((on, (x .kept .1 .1 .1 .1 .0 ∙ l .inv .0 .1 .0, x .kept .1 .1 .1 .1 .1 .0 ∙ l .inv .0 .1 .1)), (omega arith, omega (arith, t)))
 
 add-j : tie.Need-add-j Inv-loop μ-loop Inv-walk μ-walk
 add-j c = omega (arith, c .before .before .before .before .if1 .left, c .before .before .before .before .before .before .walk .inv .0 .rep .few-plates)
@@ -98,11 +99,11 @@ returns c =
 
 same-length-3 : tie.Need-same-length-3 Inv-loop μ-loop Inv-walk μ-walk
 same-length-3 c =
-    c .before .before .before .before .before .before .before .pair-step .kept .1 .1 .1 .0 ∙ c .before .before .before .before .before .before .before .before .before .before .before .loop .inv .0 .1 .0 ∙ c .before .before .before .before .before .before .before .before .before .before .before .before .before .before .before .before .walk .inv .1 .0
+    c .before .before .before .before .before .before .before .pair-step .kept .1 .1 .1 .1 .0 ∙ c .before .before .before .before .before .before .before .before .before .before .before .loop .inv .0 .1 .0 ∙ c .before .before .before .before .before .before .before .before .before .before .before .before .before .before .before .before .walk .inv .1 .0
 
 same-length-4 : tie.Need-same-length-4 Inv-loop μ-loop Inv-walk μ-walk
 same-length-4 c =
-    c .before .before .before .before .before .before .before .pair-step .kept .1 .1 .1 .1 .0 ∙ c .before .before .before .before .before .before .before .before .before .before .before .loop .inv .0 .1 .1 ∙ c .before .before .before .before .before .before .before .before .before .before .before .before .before .before .before .before .walk .inv .1 .1
+    c .before .before .before .before .before .before .before .pair-step .kept .1 .1 .1 .1 .1 .0 ∙ c .before .before .before .before .before .before .before .before .before .before .before .loop .inv .0 .1 .1 ∙ c .before .before .before .before .before .before .before .before .before .before .before .before .before .before .before .before .walk .inv .1 .1
 
 returns-2 : tie.Need-returns-2 Inv-loop μ-loop Inv-walk μ-walk
 returns-2 c =

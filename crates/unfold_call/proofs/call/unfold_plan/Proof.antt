@@ -1,7 +1,8 @@
--- `unfold_plan` runs a copy of the counts: what the run gives is the unfolding of the plan.
+-- `unfold_plan` runs a copy of the counts with the job's blade: what the run gives is the unfolding of the plan.
 use mathlib.Core.Path.{_≡_, sym, ap, _∙_}
 use mathlib.Core.List.{List}
 use Prim.Native.Nat.{ℕ}
+use native.Mathlib.Omega.{arith}
 use borrow.Author.Needs.{needs}
 use denote.Ref.{now}
 use lib.ListN.{length, take, replicate, length-replicate}
@@ -21,13 +22,16 @@ copy counts e = e ∙ ap (λ (n : ℕ). take n counts) (sym size)
 copy-counts-requires : tie.Need-copy-counts-requires
 copy-counts-requires c κs = rw (← size) (c .before .before .before .before .before .before .before .pre .1 .0 .0)
 
+head-of-requires : tie.Need-head-of-requires
+head-of-requires c κs = omega (arith, c .before .before .before .before .before .before .before .before .before .pre .0 .words)
+
 run-requires : tie.Need-run-requires
 run-requires c κs =
-    let s = c .before .before .before .before .before .before .before .before .before .before .before .before in
+    let s = c .before .before .before .before .before .before .before .before .before .before .before .before .before in
     let a = s .args in
     let lent = s .pre .0 in
     let p = s .pre .1 in
-    let e = copy (now (a .counts)) (c .before .before .before .before .copy-counts .ensures) in (
+    let e = copy (now (a .counts)) (c .before .before .before .before .before .copy-counts .ensures) in (
       lent,
       (
         (copy-counted (now (a .job)) (lent .admitted) (lent .model) (now (a .counts)) (p .0 .0) (p .0 .1) e (a .k .0) (lent .cuts-number), copy-boards (now (a .job)) (lent .admitted) (lent .model) (now (a .counts)) (p .0 .0) (p .0 .1) e (a .boards) (p .1 .0)),
@@ -35,7 +39,7 @@ run-requires c κs =
           (p .1 .1 .0, p .1 .1 .1 .0),
           (
             (copy-few (now (a .job)) (lent .admitted) (lent .model) (now (a .counts)) (p .0 .0) (p .0 .1) e, copy-few-offcuts (now (a .job)) (lent .admitted) (lent .model) (now (a .counts)) (p .0 .0) (p .0 .1) e),
-            p .1 .1 .1 .1,
+            (p .1 .1 .1 .1, c .before .before .before .head-of .ensures .of-blade),
           ),
         ),
       ),
@@ -43,21 +47,21 @@ run-requires c κs =
 
 returns : tie.Need-returns
 returns c =
-    let s = c .before .before .before .before .before .before .before .before .before .before .before .before .before .before .before .before .before .before in
+    let s = c .before .before .before .before .before .before .before .before .before .before .before .before .before .before .before .before .before .before .before in
     let a = s .args in
     let lent = s .pre .0 in
     let p = s .pre .1 in
-    let e = copy (now (a .counts)) (c .before .before .before .before .before .before .before .before .before .before .copy-counts .ensures) in
+    let e = copy (now (a .counts)) (c .before .before .before .before .before .before .before .before .before .before .before .copy-counts .ensures) in
     let r = c .before .before .before .before .before .run in (
       copy-results (now (a .job)) (lent .admitted) (lent .model) (now (a .counts)) (p .0 .0) (p .0 .1) e (a .lengths) (r .result) _ _ (r .ensures),
       (
         copy-words (now (a .job)) (lent .admitted) (lent .model) (now (a .counts)) (p .0 .0) (p .0 .1) e (a .lengths) (r .result) _ _ (r .ensures),
-        λ full. copy-list (now (a .job)) (lent .admitted) (lent .model) (now (a .counts)) (p .0 .0) (p .0 .1) e (a .lengths) (r .result) _ _ (r .ensures) (rw (← (r .kept .1 .1 .1 .1 .1 .1 .1 .1 .0)) at full),
+        λ full. copy-list (now (a .job)) (lent .admitted) (lent .model) (now (a .counts)) (p .0 .0) (p .0 .1) e (a .lengths) (r .result) _ _ (r .ensures) (rw (← (r .kept .1 .1 .1 .1 .1 .1 .1 .1 .1 .0)) at full),
       ),
     )
 
 same-left : tie.Need-slice-aggregate-run
-same-left c = size ∙ sym (c .before .before .copy-counts .kept .1 .0)
+same-left c = size ∙ sym (c .before .before .before .copy-counts .kept .1 .0)
 
 pub unfold-plan-spec : {M : Type 1} → statement M
 unfold-plan-spec =
@@ -65,6 +69,7 @@ unfold-plan-spec =
     (tie.spec
     (λ c. size)
     copy-counts-requires
+    head-of-requires
     same-left
     run-requires
     (λ c. search needs)

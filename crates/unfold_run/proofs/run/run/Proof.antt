@@ -23,12 +23,12 @@ use Rattle.unfold_run.proofs.run.run.Statement.{statement}
 use Rattle.unfold_run.proofs.run.run.Tie as tie
 
 abbrev Inv-loop : tie.InvT-loop
-Inv-loop job plates cuts k lengths counts₀ boards placements₀ offcuts₀ at₀ fuel₀ counts placements offcuts at fuel =
+Inv-loop job blade plates cuts k lengths counts₀ boards placements₀ offcuts₀ at₀ fuel₀ counts placements offcuts at fuel =
     GoingAt (J job) (L job) lengths (started (J job) (L job) counts₀) (startedOffcuts (J job) (L job) counts₀) fuel at counts placements offcuts
     × ((length counts ≡ length counts₀) × ((length placements ≡ length placements₀) × (length offcuts ≡ length offcuts₀)))
 
 abbrev μ-loop : tie.MeasureT-loop
-μ-loop job plates cuts k lengths counts₀ boards placements₀ offcuts₀ at₀ fuel₀ counts placements offcuts at fuel = fuel
+μ-loop job blade plates cuts k lengths counts₀ boards placements₀ offcuts₀ at₀ fuel₀ counts placements offcuts at fuel = fuel
 
 module _ (job : Job) (l : Listing) (m : Model job l) (lengths : Lengths) (whole : Run) (os : List Offcut) where
   -- what the answer of `advance` says once its case is known
@@ -59,7 +59,7 @@ loop-holds c =
     let p = s .pre .1 in (
       (
         going-start _ _ (s .pre .0 .model) _ (now (a .counts)) (now (a .placements)) (a .boards) _ (c .start .ensures _) refl (p .1 .0 .0) (omega (arith, p .0 .0, s .pre .0 .cuts-number)) (p .0 .1) (p .1 .1 .0 .0) (p .1 .0 .1),
-        leaving-start _ _ (a .lengths) _ (now (a .counts)) (now (a .offcuts)) _ (c .start .ensures _) refl (p .1 .1 .1) (p .1 .1 .0 .1),
+        leaving-start _ _ (a .lengths) _ (now (a .counts)) (now (a .offcuts)) _ (c .start .ensures _) refl (p .1 .1 .1 .0) (p .1 .1 .0 .1),
       ),
       (refl, (refl, refl)),
     )
@@ -68,7 +68,7 @@ advance-requires : tie.Need-advance-requires Inv-loop μ-loop
 advance-requires c κs =
     let s = c .before .before .before .before .before .before .before .before .before .before .before .before in
     let d = c .before .before .before .before .loop in
-    (s .pre .0, record { whole = _; os = _; fuel = d .fuel - 1; going = next _ _ (s .pre .0 .model) _ _ _ (d .fuel) (d .at) _ _ _ (c .before .before .before .loop-test .taken) (d .inv .0) })
+    (s .pre .0, (record { whole = _; os = _; fuel = d .fuel - 1; going = next _ _ (s .pre .0 .model) _ _ _ (d .fuel) (d .at) _ _ _ (c .before .before .before .loop-test .taken) (d .inv .0) }, s .pre .1 .1 .1 .1 .1))
 
 returns : tie.Need-returns Inv-loop μ-loop
 returns c =
@@ -82,17 +82,17 @@ loop-again c =
     let d = c .before .before .before .before .before .before .before .before .before .before .before .before .before .before .loop in
     let r = c .before .before .before .before .before .before .before .before .before .advance in (
       told _ _ m _ _ _ (d .fuel - 1) (d .at) _ _ _ (r .ensures _ _ (d .fuel - 1) (next _ _ m _ _ _ (d .fuel) (d .at) _ _ _ (c .before .before .before .before .before .before .before .before .before .before .before .before .before .loop-test .taken) (d .inv .0))) (c .before .next .given .1),
-      (r .kept .1 .1 .1 .1 .1 .1 .0 ∙ d .inv .1 .0, (r .kept .1 .1 .1 .1 .1 .1 .1 .0 ∙ d .inv .1 .1 .0, r .kept .1 .1 .1 .1 .1 .1 .1 .1 .0 ∙ d .inv .1 .1 .1)),
+      (r .kept .1 .1 .1 .1 .1 .1 .1 .0 ∙ d .inv .1 .0, (r .kept .1 .1 .1 .1 .1 .1 .1 .1 .0 ∙ d .inv .1 .1 .0, r .kept .1 .1 .1 .1 .1 .1 .1 .1 .1 .0 ∙ d .inv .1 .1 .1)),
     )
 
 same-counts : tie.Need-same-length Inv-loop μ-loop
-same-counts c = c .before .before .before .before .before .before .before .before .advance .kept .1 .1 .1 .1 .1 .1 .0 ∙ c .before .before .before .before .before .before .before .before .before .before .before .before .before .loop .inv .1 .0
+same-counts c = c .before .before .before .before .before .before .before .before .advance .kept .1 .1 .1 .1 .1 .1 .1 .0 ∙ c .before .before .before .before .before .before .before .before .before .before .before .before .before .loop .inv .1 .0
 
 same-placements : tie.Need-same-length-2 Inv-loop μ-loop
-same-placements c = c .before .before .before .before .before .before .before .before .advance .kept .1 .1 .1 .1 .1 .1 .1 .0 ∙ c .before .before .before .before .before .before .before .before .before .before .before .before .before .loop .inv .1 .1 .0
+same-placements c = c .before .before .before .before .before .before .before .before .advance .kept .1 .1 .1 .1 .1 .1 .1 .1 .0 ∙ c .before .before .before .before .before .before .before .before .before .before .before .before .before .loop .inv .1 .1 .0
 
 same-offcuts : tie.Need-same-length-3 Inv-loop μ-loop
-same-offcuts c = c .before .before .before .before .before .before .before .before .advance .kept .1 .1 .1 .1 .1 .1 .1 .1 .0 ∙ c .before .before .before .before .before .before .before .before .before .before .before .before .before .loop .inv .1 .1 .1
+same-offcuts c = c .before .before .before .before .before .before .before .before .advance .kept .1 .1 .1 .1 .1 .1 .1 .1 .1 .0 ∙ c .before .before .before .before .before .before .before .before .before .before .before .before .before .loop .inv .1 .1 .1
 
 returns-2 : tie.Need-returns-2 Inv-loop μ-loop
 returns-2 c =

@@ -1,6 +1,8 @@
--- `cut` spends the count, reads the cut and its item, and lets the residuals wait: right, and then top.
+-- `cut` spends the count, reads the cut and its item, and lets the residuals wait past the blade: right, and then top.
+use Prim.Native.Nat.{_+_, _≤_}
 use native.Mathlib.Omega.{arith}
 use denote.Ref.{now}
+use Rattle.job.specs.Sizes.{maxSide, maxBlade}
 use Rattle.layouts.specs.Demand3.{L}
 use Rattle.unfold_waiting.specs.Meaning.{pieceOf, waitingOf, turnOf}
 use Rattle.unfold_step.proofs.CodeCut.{cut-there, item-there, top-there, right-there, boards-fall, across-small, up-small, done-so}
@@ -9,39 +11,40 @@ use Rattle.unfold_step.proofs.state.State.cut.Tie as tie
 
 spend-requires : tie.Need-spend-requires
 spend-requires c κs =
-    let able = c .before .before .before .before .before .before .before .pre .1 .1 in
+    let able = c .before .before .before .before .before .before .before .pre .1 .1 .0 in
     (able .from-one, (omega (arith, able .to-last, c .before .before .before .before .before .before .before .pre .1 .0 .counted), able .left))
 
 cut-at-requires : tie.Need-cut-at-requires
-cut-at-requires c κs = let s = c .before .before .before .before .before .before .before .before .before .before in cut-there _ _ _ _ (s .pre .0) _ _ _ (s .pre .1 .1)
+cut-at-requires c κs = let s = c .before .before .before .before .before .before .before .before .before .before in cut-there _ _ _ _ (s .pre .0) _ _ _ (s .pre .1 .1 .0)
 
 position-at-requires : tie.Need-position-at-requires
-position-at-requires c κs = let s = c .before .before .before .before .before .before .before .before .before .before .before .before .before .before in item-there _ _ _ _ (s .pre .0) _ _ _ (s .pre .1 .1) _ (c .before .before .before .cut-at .ensures)
+position-at-requires c κs = let s = c .before .before .before .before .before .before .before .before .before .before .before .before .before .before in item-there _ _ _ _ (s .pre .0) _ _ _ (s .pre .1 .1 .0) _ (c .before .before .before .cut-at .ensures)
 
 next-requires : tie.Need-next-requires
 next-requires c κs = c .before .before .before .before .before .before .before .before .before .before .before .before .before .before .before .pre .1 .0 .turns
 
-add-wait : tie.Need-add-wait
-add-wait c = let s = c .before .before .before .before .before .before .before .before .before .before .before .before .before .before .before .before .before .before in omega (arith, across-small _ _ _ _ (s .pre .0) _ _ _ (s .pre .1 .1) _ (c .before .before .before .before .before .before .before .cut-at .ensures) _ (c .before .before .before .position-at .ensures))
+-- the sums across and upwards stay small
+across : (c : tie.After-struct-known2) → (c .before .before .before .before .before .before .before .before .before .before .before .before .before .before .before .before .before .before .args .p .x + c .before .before .before .position-at .result .width) + c .before .before .before .before .before .before .before .before .before .before .before .before .before .before .before .before .before .before .args .blade ≤ maxSide + maxBlade
+across c = let s = c .before .before .before .before .before .before .before .before .before .before .before .before .before .before .before .before .before .before in across-small _ _ _ _ (s .pre .0) _ _ _ (s .pre .1 .1 .0) _ (c .before .before .before .before .before .before .before .cut-at .ensures) _ (c .before .before .before .position-at .ensures) _ (s .pre .1 .1 .1)
+
+up : (c : tie.After-struct-known4) → (c .before .before .before .before .before .before .before .before .before .before .before .before .before .before .before .before .before .before .before .before .before .args .p .y + c .before .before .before .before .before .before .position-at .result .height) + c .before .before .before .before .before .before .before .before .before .before .before .before .before .before .before .before .before .before .before .before .before .args .blade ≤ maxSide + maxBlade
+up c = let s = c .before .before .before .before .before .before .before .before .before .before .before .before .before .before .before .before .before .before .before .before .before in up-small _ _ _ _ (s .pre .0) _ _ _ (s .pre .1 .1 .0) _ (c .before .before .before .before .before .before .before .before .before .before .cut-at .ensures) _ (c .before .before .before .before .before .before .position-at .ensures) _ (s .pre .1 .1 .1)
 
 wait-requires : tie.Need-wait-requires
-wait-requires c κs = let s = c .before .before .before .before .before .before .before .before .before .before .before .before .before .before .before .before .before .before in right-there _ _ _ _ (s .pre .0) _ _ _ (s .pre .1 .1) _ (c .before .before .before .before .before .before .before .cut-at .ensures)
-
-add-wait-2 : tie.Need-add-wait-2
-add-wait-2 c = let s = c .before .before .before .before .before .before .before .before .before .before .before .before .before .before .before .before .before .before .before .before .before in omega (arith, up-small _ _ _ _ (s .pre .0) _ _ _ (s .pre .1 .1) _ (c .before .before .before .before .before .before .before .before .before .before .cut-at .ensures) _ (c .before .before .before .before .before .before .position-at .ensures))
+wait-requires c κs = let s = c .before .before .before .before .before .before .before .before .before .before .before .before .before .before .before .before .before .before in right-there _ _ _ _ (s .pre .0) _ _ _ (s .pre .1 .1 .0) _ (c .before .before .before .before .before .before .before .cut-at .ensures)
 
 wait-requires-2 : tie.Need-wait-requires-2
-wait-requires-2 c κs = let s = c .before .before .before .before .before .before .before .before .before .before .before .before .before .before .before .before .before .before .before .before .before in top-there _ _ _ _ (s .pre .0) _ _ _ (s .pre .1 .1) _ (c .before .before .before .before .before .before .before .before .before .before .cut-at .ensures)
+wait-requires-2 c κs = let s = c .before .before .before .before .before .before .before .before .before .before .before .before .before .before .before .before .before .before .before .before .before in top-there _ _ _ _ (s .pre .0) _ _ _ (s .pre .1 .1 .0) _ (c .before .before .before .before .before .before .before .before .before .before .cut-at .ensures)
 
 returns : tie.Need-returns
 returns c =
     let s = c .before .before .before .before .before .before .before .before .before .before .before .before .before .before .before .before .before .before .before .before .before .before .before in
     let a = s .args in
     let lent = s .pre .0 in
-    let able = s .pre .1 .1 in
+    let able = s .pre .1 .1 .0 in
     let cut = c .before .before .before .before .before .before .before .before .before .before .before .before .cut-at in
     let spend = c .before .before .before .before .before .before .before .before .before .before .before .before .before .before .before .spend in (
-      done-so (now (a .job)) (now (a .plates)) (now (a .cuts)) (a .k .0) lent (now (a .counts)) (a .c .0) (pieceOf (a .p)) able (cut .result) (cut .ensures) (c .before .before .before .before .before .before .before .before .position-at .result) (c .before .before .before .before .before .before .before .before .position-at .ensures) (a .stage) (turnOf (a .self .turn)) (waitingOf (a .self .waiting)) (waitingOf (a .self .waiting)) (spend .ensures) (c .before .before .before .before .before .before .before .next .ensures) (c .before .before .before .before .wait .ensures (L (now (a .job))) (lent .plates-held)) (c .before .wait2 .ensures (L (now (a .job))) (lent .plates-held)),
+      done-so (now (a .job)) (now (a .plates)) (now (a .cuts)) (a .k .0) lent (now (a .counts)) (a .c .0) (pieceOf (a .p)) able (cut .result) (cut .ensures) (c .before .before .before .before .before .before .before .before .position-at .result) (c .before .before .before .before .before .before .before .before .position-at .ensures) (a .blade) (s .pre .1 .1 .1) (a .stage) (turnOf (a .self .turn)) (waitingOf (a .self .waiting)) (waitingOf (a .self .waiting)) (spend .ensures) (c .before .before .before .before .before .before .before .next .ensures) (c .before .before .before .before .wait .ensures (L (now (a .job))) (lent .plates-held)) (c .before .wait2 .ensures (L (now (a .job))) (lent .plates-held)),
       (spend .ensures, boards-fall (now (a .job)) (now (a .plates)) (now (a .cuts)) (a .k .0) lent (now (a .counts)) (a .c .0) (pieceOf (a .p)) able (cut .result) (cut .ensures) (spend .ensures)),
     )
 
@@ -53,9 +56,11 @@ cut-spec =
     cut-at-requires
     position-at-requires
     next-requires
-    add-wait
+    (λ c. omega (arith, across c))
+    (λ c. omega (arith, across c))
     wait-requires
-    add-wait-2
+    (λ c. omega (arith, up c))
+    (λ c. omega (arith, up c))
     wait-requires-2
     (λ c. c .before .before .before .before .before .before .before .before .before .before .before .before .before .before .before .spend .kept .0)
     returns)

@@ -25,7 +25,7 @@ returns c =
 find-cut-requires : tie.Need-find-cut-requires
 find-cut-requires c κs =
     let s = c .before .before .before .before .before .before .before .before .before .before .before .before .before .before .before in
-    (cuts-there _ _ _ _ (s .pre .0), omega (arith, s .pre .0 .cuts-number, s .pre .1 .counted))
+    (cuts-there _ _ _ _ (s .pre .0), omega (arith, s .pre .0 .cuts-number, s .pre .1 .0 .counted))
 
 returns-2 : tie.Need-returns-2
 returns-2 c =
@@ -51,7 +51,7 @@ cut-requires c κs =
     let took = picked-rest (a .self .waiting) (p .0 .0) (p .0 .1 .0) (c .before .before .before .before .before .before .before .before .before .before .next-of .ensures) (p .1) (c .before .before .before .before .before .before .without .ensures) in
     let t = taken (pieceOf (p .0 .1 .0)) (p .0 .0) (waitingOf (c .before .before .before .before .before .before .without .result)) in (
       lent,
-      (rest-ready job l (lent .model) st t took (s .pre .1), found-cuttable job l (lent .model) st t took _ (sym (c .before .before .before .before .find-cut .ensures (l .cuts) (lent .cuts-number) (lent .cuts-held)) ∙ ap foundMeans (c .before .before .c .given .1)) (s .pre .1)),
+      (rest-ready job l (lent .model) st t took (s .pre .1 .0), (found-cuttable job l (lent .model) st t took _ (sym (c .before .before .before .before .find-cut .ensures (l .cuts) (lent .cuts-number) (lent .cuts-held)) ∙ ap foundMeans (c .before .before .c .given .1)) (s .pre .1 .0), s .pre .1 .1)),
     )
 
 returns-3 : tie.Need-returns-3
