@@ -1,5 +1,6 @@
 /* A host of the engine: job A of document 01, listed, its plan and prices tested, its plan unfolded, with the offcuts for the
- * storeman's shelf, and folded again; then the job with a blade of 1 mm; then five refusals; then job A as texts.
+ * storeman's shelf, and folded again; then the job with a blade of 1 mm; then five refusals; then job A as texts, one of them
+ * of a solver that numbers plates otherwise.
  * Build and run: tools/test-hosts. */
 #include <stdio.h>
 #include <string.h>
@@ -31,10 +32,14 @@ static const char job_text[] =
     "        2        1        5        4        2        0\n"
     "        2        2        3        3        3        0\n";
 static const char plan_text[] =
-    "        3        0        1        2        0\n"
-    "        3        1        2        1        0\n"
-    "        3        2        2        1        0\n"
-    "        3        4        2        1        0\n";
+    "        3        0        1        2        9        7        1        0\n"
+    "        3        1        2        1        9        3        1        0\n"
+    "        3        2        2        1        4        4        2        0\n"
+    "        3        4        2        1        6        3        2        0\n";
+/* Two lines of a solver that numbers a cut's right before its top: it takes plate 1 for the one that is plate 2. */
+static const char other_plate_text[] =
+    "        3        0        1        2        9        7        1        0\n"
+    "        3        1        2        1        4        4        2        0\n";
 static const char layout_text[] =
     "        7        1        1        1        1        1        0        0        0\n"
     "        7        1        1        2        1        2        5        0        0\n"
@@ -135,6 +140,8 @@ static void print_texts(void)
     print_text("saw text", saw_text(text, length, out, LENGTH(out)));
     print_text("saw text, its last byte missing", saw_text(text, length - 1, out, LENGTH(out)));
     print_text("saw text, too little room", saw_text(text, length, out, LENGTH(out) - 1));
+    length = joined(text, job_text, other_plate_text, "");
+    print_text("saw text, another plate shown on its line 5", saw_text(text, length, out, LENGTH(out)));
     length = joined(text, job_text, layout_text, second_board);
     print_text("fold text", saw_fold_text(text, length, out, SAW_FOLD_TEXT_OUT));
     length = joined(text, job_text, layout_text, "");

@@ -1,4 +1,4 @@
-/* The beam saw plan engine as a static library: the calls of document 01 with requests One to Four of document 02, for a host in C.
+/* The beam saw plan engine as a static library: the calls of document 01 with requests One to Five of document 02, for a host in C.
  *
  * Link target/staticlib/libengine.a, which `rt staticlib engine` writes for x86-64 Linux. Each function is proved to meet its contract in
  * crates/engine/src/calls.rt or, of the two texts, text_calls.rt. It allocates nothing, keeps no state between calls and always returns; of the C library it uses memcpy and memset alone.
@@ -13,7 +13,7 @@
  * Nothing else is asked: the words may be any, and the lengths too. Old contents of a lent buffer have no influence.
  *
  * What a call leaves:
- *   answer[0]   the refusal number, 1 to 19; 0 where the call is accepted
+ *   answer[0]   the refusal number, 1 to 19; 0 where the call is accepted (20 is the saw text's alone, and stands on its line 9)
  *   answer[1]   the first value; of a refusal the place that it names, or 4294967295 where that is above it
  *   answer[2]   the second value; 0 where there is none
  *   answer[3]   at the unfolding alone, the third value; 0 of a refusal
@@ -43,7 +43,7 @@ extern "C" {
 
 /* The longest answer to a text, in bytes: to a saw text and to a fold text. */
 #define SAW_TEXT_OUT 328046
-#define SAW_FOLD_TEXT_OUT 184000
+#define SAW_FOLD_TEXT_OUT 292000
 
 /* Words. A job: six head words, stages, exact, W, H, n and b, the width of the blade, 0 to 20, then width, height, demand, leave of each item type, so 6 + 4n in
  * all; leave is 1 if the type may be turned by 90 degrees, else 0. A plate: width, height, stage. A cut: plate, item, top, right, where item is twice the type plus
@@ -98,13 +98,15 @@ void saw_fold(const uint16_t *job, size_t job_len,
               uint16_t *counts, size_t counts_len,
               uint32_t answer[3]);
 
-/* The saw text, from bytes to bytes: `out` ends with lines 7 and line 8, or one line 9, at its start. The number of bytes written is handed back; the bytes
- * behind them stay. Where `out` is shorter than SAW_TEXT_OUT nothing is written, and 0 is handed back; any other answer has at least one line. The text
+/* The saw text, from bytes to bytes: `out` ends with lines 7 and line 8, or one line 9, at its start. A line 3 shows its plate: width, height and stage stand
+ * after the count, any numbers of nine columns; one that shows other numbers than the model has is 20, after 8 of every line and before 9 of any, and line 9 names it.
+ * The number of bytes written is handed back; the bytes behind them stay. Where `out` is shorter than SAW_TEXT_OUT nothing is written, and 0 is handed back; any other answer has at least one line. The text
  * may have any bytes; the rest of it is not looked at once a line is refused. */
 size_t saw_text(const uint8_t *text, size_t text_len,
                 uint8_t *out, size_t out_len);
 
-/* The fold text, from bytes to bytes: lines 3, or one line 9; as above, with SAW_FOLD_TEXT_OUT. */
+/* The fold text, from bytes to bytes: lines 3, which show their plates, or one line 9; as above, with SAW_FOLD_TEXT_OUT. Behind the job's lines 1 and 2 its
+ * lines 3 are a saw text that is accepted. */
 size_t saw_fold_text(const uint8_t *text, size_t text_len,
                      uint8_t *out, size_t out_len);
 

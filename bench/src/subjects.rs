@@ -40,7 +40,7 @@ const WITH_BLADE: &str = ", a blade of ";
 pub const LINES: &str = "99,999 lines";
 /// The longest price list.
 pub const PRICES: &str = "2,087 prices";
-/// Texts of 4,000 lines of kind 3.
+/// Texts with 4,000 lines of kind 3, each of which shows its plate.
 pub const CUTS: &str = "4,000 cuts counted";
 
 /// The input of a call, by the input's name.

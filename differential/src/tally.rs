@@ -3,7 +3,7 @@
 use crate::table::{Answer, Call};
 use std::fmt;
 
-/// One past the largest refusal number.
+/// One past the largest refusal number of a call; 20 is the saw text's alone.
 const NUMBERS: usize = 20;
 
 pub struct Tally {

@@ -3,17 +3,27 @@
 use crate::random::Random;
 use reference::job::{HEAD_NUMBERS, ITEM_NUMBERS};
 use reference::layout::PLACEMENT_NUMBERS;
+use std::ops::Range;
 
 /// The greatest number of nine columns.
 const GREATEST: u32 = 999_999_999;
 
 /// The lowest and the highest value of each number of a line after its kind, by kind; a job of
-/// four item types is meant.
+/// four item types is meant. The plate's width, height and stage on line 3 have no limits of their
+/// own, and those of plates stand for them.
 const LIMITS: [&[(u32, u32)]; 8] = [
     &[],
     &[(2, 3), (0, 1), (1, 10_000), (1, 10_000), (1, 40), (0, 20)],
     &[(1, 4), (1, 10_000), (1, 10_000), (1, 4_000), (0, 1)],
-    &[(0, 2_047), (1, 4), (1, 4_000), (0, 1)],
+    &[
+        (0, 2_047),
+        (1, 4),
+        (1, 4_000),
+        (1, 10_000),
+        (1, 10_000),
+        (1, 3),
+        (0, 1),
+    ],
     &[(1, 9_999), (1, 40), (0, 2_047)],
     &[(1, 4), (0, 9_999)],
     &[(1, 2_047), (0, 9_999)],
@@ -115,6 +125,64 @@ pub fn damage_blade(random: &mut Random, lines: &mut [Vec<u32>]) {
         0 => {}
         1 => head.extend([blade, blade]),
         _ => head.push(other_blade(random, blade)),
+    }
+}
+
+/// The groups of a line of kind 3 that show its plate: width, height and stage.
+const SHOWN: Range<usize> = 4..7;
+
+/// Changes what a line of kind 3 shows of its plate; or exchanges with another line the plate number
+/// or what is shown, as a solver does that numbers otherwise; or doubles the line and changes what
+/// the second shows; or leaves the three numbers out, or writes them after the turn.
+pub fn damage_shown(random: &mut Random, lines: &mut Vec<Vec<u32>>) {
+    let is_plan = |line: &Vec<u32>| line[0] == 3 && line.len() > SHOWN.end;
+    let plan: Vec<usize> = (0..lines.len()).filter(|&at| is_plan(&lines[at])).collect();
+    if plan.is_empty() {
+        return;
+    }
+    let [one, other] = [0; 2].map(|_| random.pick(&plan));
+    match random.below(10) {
+        0..=4 => show_another(random, &mut lines[one]),
+        5 => exchange(lines, [one, other], 1..2),
+        6 => exchange(lines, [one, other], SHOWN),
+        7 => lines[one][1] = random.between(0, 9).into(),
+        8 => {
+            lines.insert(one + 1, lines[one].clone());
+            show_another(random, &mut lines[one + 1]);
+        }
+        _ => drop_shown(random, &mut lines[one]),
+    }
+}
+
+/// Changes a number that a line of kind 3 shows: by one, into one that 16 bits take for the same, into
+/// the least or the greatest; or exchanges the sides.
+fn show_another(random: &mut Random, line: &mut [u32]) {
+    let number = &mut line[SHOWN.start + random.below(SHOWN.len())];
+    let wrapped = *number % 65_536 + 65_536 * random.pick(&[1, 1, 2, 15_257]);
+    *number = match random.below(7) {
+        0 | 1 => GREATEST.min(*number + 1),
+        2 => number.saturating_sub(1),
+        3 => wrapped,
+        4 => random.pick(&[0, 65_535, 65_536, GREATEST]),
+        5 => random.between(1, 30).into(),
+        _ => return line.swap(SHOWN.start, SHOWN.start + 1),
+    };
+}
+
+/// Exchanges numbers of two lines.
+fn exchange(lines: &mut [Vec<u32>], [one, other]: [usize; 2], numbers: Range<usize>) {
+    for at in numbers {
+        let number = lines[one][at];
+        lines[one][at] = lines[other][at];
+        lines[other][at] = number;
+    }
+}
+
+/// Leaves out what a line of kind 3 shows, or writes it after the turn.
+fn drop_shown(random: &mut Random, line: &mut Vec<u32>) {
+    let shown: Vec<u32> = line.drain(SHOWN).collect();
+    if random.once_in(2) {
+        line.extend(shown);
     }
 }
 

@@ -1,6 +1,8 @@
 //! Lines: those of a small job with a plan and prices, or with layouts, and the text that damage makes of them.
 
-use crate::damage::{damage_blade, damage_bytes, damage_line, damage_order, move_number};
+use crate::damage::{
+    damage_blade, damage_bytes, damage_line, damage_order, damage_shown, move_number,
+};
 use crate::layouts::random_layouts;
 use crate::model::Model;
 use crate::plans::random_plan;
@@ -9,17 +11,21 @@ use crate::random::Random;
 use reference::columns::write_line;
 use reference::job::{HEAD_NUMBERS, ITEM_NUMBERS};
 use reference::layout::PLACEMENT_NUMBERS;
+use reference::plan_lines;
 
 /// The numbers of a line, its kind first.
 pub type Line = Vec<u32>;
 
-/// The lines as bytes, damaged so many times: in numbers, in the blade, in the order of all lines or
-/// of those after the job's, or in bytes.
+/// The lines as bytes, damaged so many times: in numbers, in the blade, in the plates that lines of
+/// kind 3 show, if there are any, in the order of all lines or of those after the job's, or in bytes.
 pub fn text_of(random: &mut Random, mut lines: Vec<Line>, types: usize, damages: usize) -> Vec<u8> {
     let mut in_bytes = 0;
+    let shows_plates = lines.iter().any(|line| line[0] == 3);
+    let ways = if shows_plates { 14 } else { 11 };
     for _ in 0..damages {
-        match random.below(11) {
+        match random.below(ways) {
             10 => damage_blade(random, &mut lines),
+            11.. => damage_shown(random, &mut lines),
             0..=3 => move_number(random, &mut lines),
             4 => damage_line(random, &mut lines),
             5 => damage_order(random, &mut lines),
@@ -62,9 +68,7 @@ pub fn saw_lines(random: &mut Random, model: &Model) -> Vec<Line> {
     let plan = random_plan(random, model);
     for (cut, &count) in model.listing.cuts.iter().zip(&plan) {
         if count > 0 {
-            let item = cut.position;
-            let numbers = [3, cut.plate, item.item, count, item.turn()];
-            lines.push(numbers.map(u32::from).to_vec());
+            lines.push(plan_lines::line(&model.listing, cut, count).to_vec());
         }
     }
     if random.once_in(2) {

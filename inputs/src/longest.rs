@@ -26,6 +26,7 @@ const WIDEST_BLADE: [u16; 10] = [3, 0, 10_000, 10_000, 1, 20, 480, 480, 4_000, 0
 pub fn long_texts(kind: Text) -> Vec<Long> {
     let mut all = of_most_lines(kind);
     if kind == Text::Saw {
+        all.extend(plans_of_most_lines());
         all.push(of_most_prices());
     }
     let jobs = [
@@ -65,17 +66,13 @@ fn of_most_lines(kind: Text) -> Vec<Long> {
         text: [&full, more].concat(),
     };
     let body = line_of(kind);
-    let cut_short = full.len() - body.len();
-    let instead = |name: &str, last: &[u8]| Long {
-        name: name.to_string(),
-        text: [&full[..cut_short], last].concat(),
-    };
+    let instead = |name: &str, last: &[u8]| ending_with(kind, name, last);
     let past_limit = match kind {
-        Text::Saw => line(&[3, 0, 1, 4_001, 0]),
+        Text::Saw => line(&[3, 0, 1, 4_001, 2, 1, 1, 0]),
         Text::Fold => line(&[7, 1, 1, 1, 1, 1, 0, 10_001, 0]),
     };
     let turned = match kind {
-        Text::Saw => line(&[3, 0, 1, 1, 1]),
+        Text::Saw => line(&[3, 0, 1, 1, 2, 1, 1, 1]),
         Text::Fold => line(&[7, 1, 1, 1, 1, 1, 0, 0, 1]),
     };
     vec![
@@ -89,12 +86,47 @@ fn of_most_lines(kind: Text) -> Vec<Long> {
     ]
 }
 
-/// The longest text that no line refuses: 4,600,332 bytes of a saw text, 8,199,873 of a fold text.
-pub fn longest(kind: Text) -> Vec<u8> {
-    let types = match kind {
-        Text::Saw => 40,
-        Text::Fold => 1,
+/// Saw texts of 99,999 lines whose last is such as is refused after all are read, though every line from
+/// the second of kind 3 on has a cut that does not rise; and one of 40 types.
+fn plans_of_most_lines() -> Vec<Long> {
+    let [other_plate, no_cut] =
+        [[3, 0, 1, 1, 2, 1, 2, 0], [3, 2, 1, 1, 2, 1, 2, 0]].map(|numbers| line(&numbers));
+    let both = [other_plate.clone(), no_cut].concat();
+    let forty = Long {
+        name: "99,999 lines, 40 of them of kind 2".to_string(),
+        text: of_types(Text::Saw, 40),
     };
+    vec![
+        ending_with(Text::Saw, "line 99,999 shows another plate", &other_plate),
+        ending_with(
+            Text::Saw,
+            "line 99,999 names no cut, and the one before it shows another plate",
+            &both,
+        ),
+        forty,
+    ]
+}
+
+/// The longest text with this in place of its last line, or of as many as it has bytes for.
+fn ending_with(kind: Text, name: &str, last: &[u8]) -> Long {
+    let mut text = longest(kind);
+    let lines = last.len().div_ceil(line_of(kind).len());
+    text.truncate(text.len() - lines * line_of(kind).len());
+    text.extend(last);
+    Long {
+        name: name.to_string(),
+        text,
+    }
+}
+
+/// The longest text that no line refuses: 7,299,900 bytes of a saw text, 8,199,873 of a fold text.
+/// Lines of kinds 3 and 7 are longer than those of kind 2, so there is one type.
+pub fn longest(kind: Text) -> Vec<u8> {
+    of_types(kind, 1)
+}
+
+/// A text of 99,999 lines, so many of them of kind 2, and of kind 3 or 7 the same line to the end.
+fn of_types(kind: Text, types: u32) -> Vec<u8> {
     let mut text = line(&[1, 2, 0, 2, 1, types, 0]);
     for number in 1..=types {
         text.extend(line(&[2, number, 1, 1, 1, 0]));
@@ -120,7 +152,7 @@ fn of_most_prices() -> Long {
 /// A line of kind 3 or of kind 7.
 pub fn line_of(kind: Text) -> Vec<u8> {
     match kind {
-        Text::Saw => line(&[3, 0, 1, 1, 0]),
+        Text::Saw => line(&[3, 0, 1, 1, 2, 1, 1, 0]),
         Text::Fold => line(&[7, 1, 1, 1, 1, 1, 0, 0, 0]),
     }
 }

@@ -28,15 +28,15 @@ impl Text {
     pub fn longest(self) -> usize {
         match self {
             Text::Saw => 4_000 * 82 + 46,
-            Text::Fold => 4_000 * 46,
+            Text::Fold => 4_000 * 73,
         }
     }
 
     /// The refusal numbers that a text of this kind can be given (document 01, "Where each number is
-    /// given"; document 02, One). 5 is none of them: a text is lent nothing.
+    /// given"; document 02, One and Five). 5 is none of them: a text is lent nothing.
     pub fn refusals(self) -> &'static [u32] {
         match self {
-            Text::Saw => &[1, 2, 3, 4, 6, 7, 8, 9, 10, 11, 12, 13, 14, 19],
+            Text::Saw => &[1, 2, 3, 4, 6, 7, 8, 9, 10, 11, 12, 13, 14, 19, 20],
             Text::Fold => &[1, 2, 3, 4, 6, 7, 10, 11, 15, 16, 17, 18, 19],
         }
     }

@@ -66,11 +66,12 @@ impl Text {
     /// The lines of a job whose listing is refused, and up to two more.
     fn refused_lines(self, random: &mut Random, words: &[u16]) -> Vec<Line> {
         let mut lines = job_lines(words);
-        let line: &[u32] = match self {
-            Text::Saw => &[3, 0, 1, 1, 0],
-            Text::Fold => &[7, 1, 1, 1, 1, 1, 0, 0, 0],
+        let [width, height] = [words[2], words[3]].map(u32::from);
+        let line = match self {
+            Text::Saw => vec![3, 0, 1, 1, width, height, 1, 0],
+            Text::Fold => vec![7, 1, 1, 1, 1, 1, 0, 0, 0],
         };
-        lines.resize(lines.len() + random.below(3), line.to_vec());
+        lines.resize(lines.len() + random.below(3), line);
         lines
     }
 
@@ -112,7 +113,7 @@ fn move_to_own_limit(random: &mut Random, lines: &mut [Line]) {
             let demand = (4_000 + line[4]).saturating_sub(demands);
             random.pick(&[(2, width), (3, height), (4, demand)])
         }
-        3 => (2, types),
+        3 => random.pick(&[(2, types), (2, types), (4, width), (5, height)]),
         4 => (2, types),
         7 => random.pick(&[(5, types), (6, width), (7, height)]),
         _ => return,

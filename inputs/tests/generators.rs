@@ -1,7 +1,7 @@
 //! What is generated: the same for the same seed, accepted by the reference where it is valid, and
 //! changed where it is damaged.
 
-use inputs::damage::{damage_blade, damage_job, damage_words, Words};
+use inputs::damage::{damage_blade, damage_job, damage_shown, damage_words, Words};
 use inputs::layouts::random_layouts;
 use inputs::lengths::{any_lengths, valid_lengths};
 use inputs::lines::{fold_lines, saw_lines, text_of};
@@ -52,7 +52,7 @@ fn a_seed_gives_these_texts() {
         let texts = (0..500).flat_map(|number| text(&mut random, kind, number % 4));
         checksum(&texts.collect::<Vec<u8>>())
     });
-    assert_eq!(sums, [0xBA55_8ADF_18A4_2D9B, 0xF498_6E32_C979_988B]);
+    assert_eq!(sums, [0xEE64_D8D8_1DA8_C5BB, 0xF498_6E32_C979_988B]);
 }
 
 #[test]
@@ -166,6 +166,56 @@ fn a_damaged_blade_is_another_one_past_its_limit_or_no_seventh_group() {
     assert!(words.contains(&20) && words.contains(&21), "{words:?}");
 }
 
+/// Job A with its plan, as lines of numbers.
+fn plan_of_job_a() -> Vec<Vec<u32>> {
+    vec![
+        vec![1, 2, 0, 9, 7, 2, 0],
+        vec![2, 1, 5, 4, 2, 0],
+        vec![2, 2, 3, 3, 3, 0],
+        vec![3, 0, 1, 2, 9, 7, 1, 0],
+        vec![3, 1, 2, 1, 9, 3, 1, 0],
+        vec![3, 2, 2, 1, 4, 4, 2, 0],
+        vec![3, 4, 2, 1, 6, 3, 2, 0],
+    ]
+}
+
+/// Which of the three numbers differ from those of the plate that a line of job A names.
+fn others_shown(line: &[u32]) -> [bool; 3] {
+    let plates = [[9, 7, 1], [9, 3, 1], [4, 4, 2], [9, 4, 1], [6, 3, 2]];
+    let plate = plates.get(line[1] as usize).copied().unwrap_or_default();
+    [0, 1, 2].map(|number| line[4 + number] != plate[number])
+}
+
+#[test]
+fn damaged_plates_differ_in_each_number_alone_and_lie_beside_8_and_9() {
+    let mut random = Random::new(10);
+    let mut met = BTreeSet::new();
+    let [mut width, mut height, mut stage, mut wrapped, mut greatest] = [0; 5];
+    for number in 0..4_000 {
+        let mut lines = plan_of_job_a();
+        for _ in 0..1 + number % 3 {
+            damage_shown(&mut random, &mut lines);
+        }
+        for line in lines.iter().filter(|line| line[0] == 3 && line.len() == 8) {
+            match others_shown(line) {
+                [true, false, false] => width += 1,
+                [false, true, false] => height += 1,
+                [false, false, true] => stage += 1,
+                _ => {}
+            }
+            let mut shown = line[4..7].iter();
+            wrapped += usize::from(shown.any(|shown| (65_537..65_546).contains(shown)));
+            greatest += usize::from(line[4..7].contains(&999_999_999));
+        }
+        let text = text_of(&mut random, lines, 2, 0);
+        met.extend(refusal_in(&Text::Saw.answer(&text)));
+    }
+    let found = [width, height, stage, wrapped, greatest];
+    assert!(found.iter().all(|&found| found > 100), "{found:?}");
+    let missing = [1, 8, 9, 20].iter().find(|number| !met.contains(number));
+    assert_eq!(missing, None, "{met:?}");
+}
+
 #[test]
 fn damaged_texts_are_refused_with_every_number_but_5_and_the_models() {
     let mut random = Random::new(6);
@@ -231,7 +281,7 @@ fn damaged_words_differ() {
 
 #[test]
 fn no_line_of_the_longest_texts_is_refused_and_the_next_one_is() {
-    for (kind, length) in Text::BOTH.into_iter().zip([4_600_332, 8_199_873]) {
+    for (kind, length) in Text::BOTH.into_iter().zip([7_299_900, 8_199_873]) {
         let mut text = longest(kind);
         assert_eq!(text.len(), length);
         let refusal = refusal_in(&kind.answer(&text)).expect("the lines are all the same");
@@ -246,6 +296,29 @@ fn no_line_of_the_longest_price_list_is_refused() {
     let mut long = long_texts(Text::Saw).into_iter();
     let prices = long.find(|long| long.name == "2,087 prices").unwrap();
     assert_eq!(refusal_in(&Text::Saw.answer(&prices.text)), Some(11));
+}
+
+#[test]
+fn the_last_of_99_999_lines_decides_where_it_shows_another_plate_or_names_no_cut() {
+    let mut long = long_texts(Text::Saw).into_iter();
+    let mut answer = |name: &str| {
+        let text = long.find(|long| long.name.starts_with(name)).unwrap().text;
+        assert_eq!(text.iter().filter(|&&byte| byte == b'\n').count(), 99_999);
+        String::from_utf8(Text::Saw.answer(&text)).unwrap()
+    };
+    // The types' lines come first: line 4 is the second of kind 3, or line 43.
+    for (name, refused) in [
+        ("99,999 lines", [9, 9, 4]),
+        ("line 99,999 shows another plate", [9, 20, 99_999]),
+        ("line 99,999 names no cut", [9, 8, 99_999]),
+        ("99,999 lines, 40", [9, 9, 43]),
+    ] {
+        let expected: String = refused
+            .iter()
+            .map(|number| format!("{number:>9}"))
+            .collect();
+        assert_eq!(answer(name), expected + "\n", "{name}");
+    }
 }
 
 #[test]

@@ -48,8 +48,8 @@ mod tests {
     #[test]
     fn a_line_has_nine_columns_for_each_number() {
         assert_eq!(
-            line(&[3, 0, 1, 4000]),
-            "        3        0        1     4000\n"
+            line(&[3, 0, 1, 4000, 999_999_999]),
+            "        3        0        1     4000999999999\n"
         );
     }
 

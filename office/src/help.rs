@@ -36,7 +36,7 @@ office model JOB
 
 Writes the one-cut model of a job in CPLEX LP format, which GLPK, CBC, HiGHS, SCIP, Gurobi and CPLEX
 read. Column x_P_I_T counts the cut of item type I from plate type P, turned if T is 1; rows are item_I,
-plate_P, pieces.
+plate_P, pieces. Comments list the plate types: number, width, height, stage.
 
   office model job.txt > job.lp
   glpsol --lp job.lp -o job.sol          or: cbc job.lp solve solution job.sol
@@ -45,7 +45,8 @@ plate_P, pieces.
 const PLAN: &str = "\
 office plan JOB SOLUTION
 
-Writes the job and the plan of a solution as the saw's text. The plan is tested first. SOLUTION is
+Writes the job and the plan of a solution as the saw's text; each line of the plan shows its plate's
+width, height and stage, as the model lists them. The plan is tested first. SOLUTION is
 GLPK's (glpsol -o or -w), CBC's (solution), CPLEX's, or lines of a name and a value (HiGHS, SCIP,
 Gurobi).
 

@@ -291,7 +291,7 @@ pub mod tests {
 
     #[test]
     fn blanks_and_what_follows_do_not_matter() {
-        let text = "1 2 0 9 7 2 0\r\n2 1 5 4 2 0\r\n2 2 3 3 3 0\r\n3 0 1 2 0\n";
+        let text = "1 2 0 9 7 2 0\r\n2 1 5 4 2 0\r\n2 2 3 3 3 0\r\n3 0 1 2 9 7 1 0\n";
         assert_eq!(Job::read(text), Ok(job_a()));
     }
 

@@ -65,9 +65,13 @@ pub fn lp(job: &Job, listing: &Listing) -> String {
     text
 }
 
-/// Comments that say what the columns and rows are.
+/// Comments that say what the columns and rows are, and which plate each number P is.
 fn head(job: &Job, listing: &Listing) -> String {
-    format!(
+    let plates = (0..).zip(&listing.plates);
+    let plates: String = plates
+        .map(|(number, plate): (usize, _)| format!("\\ Plate {number}: {}.\n", plate.words()))
+        .collect();
+    let said = format!(
         "\\ One-cut model of a job in mode {}: board {} by {}, blade {}, {} item types.\n\
          \\ {} residual types, {} cuts.\n\
          \\ Column x_P_I_T: how often item type I is cut from plate type P, turned if T is 1.\n\
@@ -81,7 +85,8 @@ fn head(job: &Job, listing: &Listing) -> String {
         job.items.len(),
         listing.residual_types(),
         listing.cuts.len()
-    )
+    );
+    said + &plates
 }
 
 /// For each residual type the cuts that leave it (1) and the cuts on it (-1).
@@ -160,6 +165,16 @@ End
         assert!(text.ends_with(model), "{text}");
         let head = "\\ One-cut model of a job in mode 2N: board 9 by 7, blade 0, 2 item types.\n";
         assert!(text.starts_with(head), "{text}");
+        let plates = "\
+\\ Plate 0: 9 by 7, stage 1.
+\\ Plate 1: 9 by 3, stage 1.
+\\ Plate 2: 4 by 4, stage 2.
+\\ Plate 3: 9 by 4, stage 1.
+\\ Plate 4: 6 by 3, stage 2.
+\\ Plate 5: 3 by 3, stage 2.
+Minimize
+";
+        assert!(text.contains(plates), "{text}");
     }
 
     #[test]

@@ -1,8 +1,8 @@
-//! Plans: counts of cuts, their test, and their lines of kind 3.
+//! Plans: counts of cuts, their test, and their lines of kind 3, which show the plates of the model.
 
 use crate::columns::{line, numbers, thousands};
 use crate::job::{Job, MOST_PIECES};
-use crate::listing::Listing;
+use crate::listing::{Listing, Plate};
 use crate::model::column;
 use crate::solution::Solution;
 
@@ -88,17 +88,23 @@ pub fn of_text(text: &str, job: &Job, listing: &Listing) -> Result<Vec<usize>, S
             "line {number}: something in it is not a whole number"
         ))?;
         match all[..] {
-            [3, plate, item, count, turn] => {
+            [3, plate, item, count, width, height, stage, turn] => {
                 let cut = listing.cut_of(plate, item, turn == 1);
                 let turned = if turn == 1 { " turned" } else { "" };
                 let cut = cut.ok_or(format!(
                     "line {number}: item type {item}{turned} cannot be cut from plate type {plate}"
                 ))?;
+                if let Some(other) = other_shown(&listing.plates[plate], [width, height, stage]) {
+                    let there = listing.plates[plate].words();
+                    return Err(format!(
+                        "line {number}: plate type {plate} is {there}; the line shows {other}"
+                    ));
+                }
                 counts[cut - 1] = count;
             }
             [3, ..] => {
                 return Err(format!(
-                    "line {number}: must be: 3, plate, item, count, turn"
+                    "line {number}: must be: 3, plate, item, count, width, height, stage, turn"
                 ))
             }
             _ => {}
@@ -107,20 +113,43 @@ pub fn of_text(text: &str, job: &Job, listing: &Listing) -> Result<Vec<usize>, S
     Ok(counts)
 }
 
+/// In which of width, height and stage what a line shows differs from a plate, as "width 8 for 9";
+/// nothing if it shows the plate.
+pub fn other_shown(plate: &Plate, shown: [usize; 3]) -> Option<String> {
+    let of_plate = [plate.width, plate.height, plate.stage];
+    let numbers = ["width", "height", "stage"].iter().zip(shown).zip(of_plate);
+    let others = numbers.filter(|((_, shown), there)| shown != there);
+    let others: Vec<String> = others
+        .map(|((name, shown), there)| {
+            format!("{name} {} for {}", thousands(shown), thousands(there))
+        })
+        .collect();
+    (!others.is_empty()).then(|| others.join(", "))
+}
+
 /// The boards that a plan opens.
 pub fn boards(listing: &Listing, counts: &[usize]) -> usize {
     balance(listing, counts, 0)[0]
 }
 
-/// The lines of kind 3 of a plan, cuts rising; a cut that counts 0 has none.
+/// The lines of kind 3 of a plan, cuts rising; a cut that counts 0 has none. Each shows its plate's
+/// width, height and stage as the model has them under the number that its column carries.
 pub fn lines(listing: &Listing, counts: &[usize]) -> String {
     let done = listing
         .cuts
         .iter()
         .zip(counts)
         .filter(|(_, &count)| count > 0);
-    done.map(|(cut, &count)| line(&[3, cut.plate, cut.item, count, cut.turn()]))
-        .collect()
+    done.map(|(cut, &count)| {
+        let [plate, item, turn] = [cut.plate, cut.item, cut.turn()];
+        let Plate {
+            width,
+            height,
+            stage,
+        } = listing.plates[plate];
+        line(&[3, plate, item, count, width, height, stage, turn])
+    })
+    .collect()
 }
 
 #[cfg(test)]
@@ -163,11 +192,31 @@ mod tests {
         let counts = counts(&listing, &solution).unwrap();
         assert_eq!(accepted(&turning, &listing, &counts), Ok(()));
         let lines = lines(&listing, &counts);
-        assert_eq!(lines, line(&[3, 0, 1, 1, 0]) + &line(&[3, 0, 1, 2, 1]));
+        let expected = [[3, 0, 1, 1, 5, 4, 1, 0], [3, 0, 1, 2, 5, 4, 1, 1]];
+        assert_eq!(lines, expected.map(|numbers| line(&numbers)).concat());
         let text = turning.text() + &lines;
         assert_eq!(of_text(&text, &turning, &listing), Ok(counts));
         let answer = reference::saw_text(text.as_bytes());
         assert!(answer.ends_with(b"        8        3        0        1        0\n"));
+    }
+
+    #[test]
+    fn what_is_shown_otherwise_is_told() {
+        let plate = Listing::of(&job_a()).unwrap().plates[4];
+        assert_eq!(other_shown(&plate, [6, 3, 2]), None);
+        for (shown, told) in [
+            ([5, 3, 2], "width 5 for 6"),
+            ([6, 4, 2], "height 4 for 3"),
+            ([6, 3, 3], "stage 3 for 2"),
+            ([3, 6, 2], "width 3 for 6, height 6 for 3"),
+            ([65_542, 3, 1], "width 65,542 for 6, stage 1 for 2"),
+            (
+                [0, 0, 999_999_999],
+                "width 0 for 6, height 0 for 3, stage 999,999,999 for 2",
+            ),
+        ] {
+            assert_eq!(other_shown(&plate, shown).as_deref(), Some(told));
+        }
     }
 
     #[test]
@@ -183,11 +232,23 @@ mod tests {
         let text = job_a().text() + &lines(&listing, &counts);
         assert_eq!(text.lines().count(), 7);
         assert_eq!(of_text(&text, &job_a(), &listing), Ok(counts));
-        let fault = of_text(&(text + "3 1 1 1 0\n"), &job_a(), &listing).unwrap_err();
-        assert!(
-            fault.contains("line 8: item type 1 cannot be cut from plate type 1"),
-            "{fault}"
-        );
+        for (line, told) in [
+            (
+                "3 1 1 1 9 3 1 0\n",
+                "line 8: item type 1 cannot be cut from plate type 1",
+            ),
+            (
+                "3 5 2 1 3 65539 2 0\n",
+                "line 8: plate type 5 is 3 by 3, stage 2; the line shows height 65,539 for 3",
+            ),
+            (
+                "3 5 2 1 0\n",
+                "line 8: must be: 3, plate, item, count, width",
+            ),
+        ] {
+            let fault = of_text(&(text.clone() + line), &job_a(), &listing).unwrap_err();
+            assert!(fault.contains(told), "{fault}");
+        }
         solution.values.insert("x_0_1_0".into(), 1.5);
         assert!(super::counts(&listing, &solution)
             .unwrap_err()

@@ -107,8 +107,8 @@ fn a_refusal_is_explained() {
     let folder = Folder::new("explain");
     let text = good(&["plan", "-", &folder.file("solution.txt", SOLUTION)], JOB);
     let text = text.replace(
-        "        3        2        2        1        0\n",
-        "        3        2        2        3        0\n",
+        "        3        2        2        1        4        4        2        0\n",
+        "        3        2        2        3        4        4        2        0\n",
     );
     let sent = folder.file("text.txt", &text);
     let output = folder.file("output.txt", reference::saw_text(text.as_bytes()));
@@ -118,6 +118,36 @@ fn a_refusal_is_explained() {
         "{told}"
     );
     assert_eq!(told, good(&["explain", &sent, "12", "2"], ""));
+}
+
+/// A plan that was found without a blade, sent with a job that has one: the plates of that job are
+/// numbered otherwise, which the first line that differs tells. Its last line names a plate type that
+/// the other job has not, so that it is left out here.
+#[test]
+fn a_plan_for_another_blade_is_found_out_by_its_plates() {
+    let folder = Folder::new("other-blade");
+    let text = good(&["plan", "-", &folder.file("solution.txt", SOLUTION)], JOB);
+    let plan: Vec<&str> = text.lines().skip(3).collect();
+    let expected = [
+        "        3        0        1        2        9        7        1        0",
+        "        3        1        2        1        9        3        1        0",
+        "        3        2        2        1        4        4        2        0",
+        "        3        4        2        1        6        3        2        0",
+    ];
+    assert_eq!(plan, expected);
+    let with_blade = text.replacen("        2        0\n", "        2        1\n", 1);
+    let with_blade = with_blade.replace(&format!("{}\n", expected[3]), "");
+    let sent = folder.file("text.txt", &with_blade);
+    let output = folder.file("output.txt", reference::saw_text(with_blade.as_bytes()));
+    let told = good(&["explain", &sent, &output], "");
+    assert_eq!(
+        told,
+        "Refusal 20, line 5: in the model plate type 1 is 3 by 4, stage 2; the line shows \
+         width 9 for 3, height 3 for 4, stage 1 for 2. Number plate types as docs/FORMAT.md says: \
+         what the line shows is plate type 2 there.\n"
+    );
+    let said = wrong(&["prices", &sent], "");
+    assert!(said.contains("line 5: plate type 1 is 3 by 4"), "{said}");
 }
 
 #[test]

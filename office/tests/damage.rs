@@ -22,10 +22,28 @@ const SAW: [&[usize]; 15] = [
     &[1, 2, 0, 9, 7, 2, 0],
     &[2, 1, 5, 4, 2, 0],
     &[2, 2, 3, 3, 3, 0],
-    &[3, 0, 1, 2, 0],
-    &[3, 1, 2, 1, 0],
-    &[3, 2, 2, 1, 0],
-    &[3, 4, 2, 1, 0],
+    &[3, 0, 1, 2, 9, 7, 1, 0],
+    &[3, 1, 2, 1, 9, 3, 1, 0],
+    &[3, 2, 2, 1, 4, 4, 2, 0],
+    &[3, 4, 2, 1, 6, 3, 2, 0],
+    &[4, 1, 2, 5],
+    &[5, 1, 1],
+    &[5, 2, 0],
+    &[6, 1, 0],
+    &[6, 2, 0],
+    &[6, 3, 1],
+    &[6, 4, 0],
+    &[6, 5, 0],
+];
+
+/// Job A with each item on a board of its own: its lines show plate type 0 alone, so that a job that
+/// differs in its items may still be the plan's, with other prices.
+const SAW_BOARDS: [&[usize]; 13] = [
+    &[1, 2, 0, 9, 7, 2, 0],
+    &[2, 1, 5, 4, 2, 0],
+    &[2, 2, 3, 3, 3, 0],
+    &[3, 0, 1, 2, 9, 7, 1, 0],
+    &[3, 0, 2, 3, 9, 7, 1, 0],
     &[4, 1, 2, 5],
     &[5, 1, 1],
     &[5, 2, 0],
@@ -113,9 +131,9 @@ fn bytes_damaged(random: &mut Random, text: &mut Vec<u8>) {
 }
 
 /// Damages a text in many ways and explains each refusal; gives how often each number was refused.
-fn explained(base: &[&[usize]], answer: fn(&[u8]) -> Vec<u8>, seed: u64) -> [usize; 20] {
+fn explained(base: &[&[usize]], answer: fn(&[u8]) -> Vec<u8>, seed: u64) -> [usize; 21] {
     let mut random = Random(seed);
-    let mut refused = [0; 20];
+    let mut refused = [0; 21];
     for _ in 0..4_000 {
         let mut lines: Vec<Vec<usize>> = base.iter().map(|line| line.to_vec()).collect();
         for _ in 0..=random.below(2) {
@@ -136,8 +154,14 @@ fn explained(base: &[&[usize]], answer: fn(&[u8]) -> Vec<u8>, seed: u64) -> [usi
 
 #[test]
 fn every_refusal_of_a_saw_text_is_explained() {
-    let refused = explained(&SAW, reference::saw_text, 5);
-    for number in [1, 2, 3, 6, 8, 9, 10, 11, 12, 13, 14, 19] {
+    let bases: [(&[&[usize]], u64); 2] = [(&SAW, 5), (&SAW_BOARDS, 8)];
+    let mut refused = [0; 21];
+    for (base, seed) in bases {
+        assert!(!reference::saw_text(&text_of(base)).starts_with(b"        9"));
+        let more = explained(base, reference::saw_text, seed);
+        refused = std::array::from_fn(|number| refused[number] + more[number]);
+    }
+    for number in [1, 2, 3, 6, 8, 9, 10, 11, 12, 13, 14, 19, 20] {
         assert!(refused[number] > 0, "{number} was never met: {refused:?}");
     }
 }

@@ -1,12 +1,13 @@
 //! The fold text: job and layouts as lines, answered by the lines of a plan (document 01,
-//! "Texts"; document 02, One).
+//! "Texts"; document 02, One and Five).
 
-use crate::columns::{refusal_text, write_line};
+use crate::columns::refusal_text;
 use crate::folding::fold;
 use crate::job::Job;
 use crate::layout::Placement;
 use crate::layout_lines;
 use crate::listing::{Listing, FULL};
+use crate::plan_lines;
 use crate::refusal::Refusal;
 use crate::text_lines::Lines;
 
@@ -25,7 +26,8 @@ fn answer(text: &[u8]) -> Result<Vec<u8>, Refusal> {
     let listing = Listing::walk(&job, FULL)?;
     let first = job.items.len() + 2;
     let set = layout_lines::test(&job, &lines, first)?;
-    Ok(output(&listing, &fold(&job, &listing, &set)))
+    let counts = fold(&job, &listing, &set);
+    Ok(plan_lines::written(&listing, &counts))
 }
 
 /// The line row: kinds 1 and 2, and then any number of kind 7.
@@ -41,17 +43,4 @@ fn read(text: &[u8]) -> Result<(Job, Vec<Placement>), Refusal> {
         layouts.push(placement);
     }
     Ok((job, layouts))
-}
-
-/// Lines of kind 3 for the cuts that are counted.
-fn output(listing: &Listing, counts: &[u16]) -> Vec<u8> {
-    let mut out = Vec::new();
-    for (cut, &count) in listing.cuts.iter().zip(counts) {
-        if count > 0 {
-            let item = cut.position;
-            let line = [3, cut.plate, item.item, count, item.turn()];
-            write_line(&mut out, &line.map(u32::from));
-        }
-    }
-    out
 }

@@ -1,5 +1,5 @@
 //! Reference implementation of the beam saw plan engine, written from document 01 and requests One to
-//! Four of document 02.
+//! Five of document 02.
 //!
 //! Layers, bottom up: the job and its limits; plates, cuts and their listing; plans, prices,
 //! layouts, unfolding with its offcuts and their balance, and folding as structures; the five calls
@@ -21,6 +21,7 @@ pub mod listing;
 pub mod mode;
 pub mod offcut;
 pub mod plan;
+pub mod plan_lines;
 pub mod plate;
 pub mod position;
 pub mod prices;

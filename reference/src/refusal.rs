@@ -1,5 +1,5 @@
-//! Refusals: the numbers and places of the table "Where each number is given", and 19 of document
-//! 02, One.
+//! Refusals: the numbers and places of the table "Where each number is given", and 19 and
+//! 20 of document 02, One and Five.
 
 /// A refusal number with the place that it names.
 #[derive(Debug, Clone, Copy, PartialEq, Eq)]
@@ -46,6 +46,9 @@ pub const PAST_THE_BOARD: u32 = 17;
 pub const POSITION_WRONG: u32 = 18;
 /// A turn of 1 for a square type or one without leave (document 02, One).
 pub const TURNED_WITHOUT_LEAVE: u32 = 19;
+/// A line of the plan that shows another width, height or stage than its plate has (document 02,
+/// Five).
+pub const OTHER_PLATE_SHOWN: u32 = 20;
 
 impl Refusal {
     /// The refusal with this number, naming this place.

@@ -1,14 +1,14 @@
 //! The saw text: job, plan and prices as lines, answered by placements and a bound (document 01,
-//! "Texts").
+//! "Texts"; document 02, Five).
 
 use crate::columns::{refusal_text, write_line};
 use crate::job::Job;
-use crate::limits::{COUNT, DENOMINATOR, ITEM_TYPES, PLATE_NUMBER, PRICE, RESIDUAL_TYPES, TURN};
+use crate::limits::{DENOMINATOR, ITEM_TYPES, PRICE, RESIDUAL_TYPES};
 use crate::listing::{Listing, FULL};
 use crate::plan;
-use crate::position::Position;
+use crate::plan_lines::{self, PlanLine};
 use crate::prices::{Bound, Prices};
-use crate::refusal::{ensure, Refusal, CUT_NOT_RISING, NO_SUCH_CUT};
+use crate::refusal::Refusal;
 use crate::text_lines::{Line, Lines};
 use crate::unfolding::{unfold, Unfolding};
 
@@ -20,18 +20,10 @@ pub fn saw_text(text: &[u8]) -> Vec<u8> {
     }
 }
 
-/// A line of kind 3 whose values are within their limits.
-struct CountLine {
-    number: usize,
-    plate: u16,
-    position: Position,
-    count: u16,
-}
-
 /// What a saw text says: kinds 1 and 2, kind 3, and kinds 4 to 6 if they are there.
 struct SawText {
     job: Job,
-    plan: Vec<CountLine>,
+    plan: Vec<PlanLine>,
     prices: Option<Prices>,
 }
 
@@ -40,7 +32,7 @@ fn answer(text: &[u8]) -> Result<Vec<u8>, Refusal> {
     let SawText { job, plan, prices } = read(text)?;
     job.admit()?;
     let listing = Listing::walk(&job, FULL)?;
-    let counts = counts_of_lines(&listing, &plan)?;
+    let counts = plan_lines::counts(&listing, &plan)?;
     plan::test(&job, &listing, &counts)?;
     let bound = match prices {
         Some(prices) => prices.test(&job, &listing)?,
@@ -59,36 +51,12 @@ fn read(text: &[u8]) -> Result<SawText, Refusal> {
     while !lines.is_at_end() {
         let line = lines.line()?;
         match line.kind {
-            3 if prices.is_none() => plan.push(count_line(line, &job)?),
+            3 if prices.is_none() => plan.push(PlanLine::read(line, &job)?),
             4 if prices.is_none() => prices = Some(read_prices(&mut lines, line)?),
             _ => return Err(line.out_of_order()),
         }
     }
     Ok(SawText { job, plan, prices })
-}
-
-/// A line of kind 3, if its plate, item, count and turn are within their limits, else 2; a type
-/// turned without leave, or a square one turned, is 19.
-fn count_line(line: Line, job: &Job) -> Result<CountLine, Refusal> {
-    let [plate, item, count, turn, ..] = line.values;
-    let within = PLATE_NUMBER.contains(&plate)
-        && (1..=job.items.len() as u32).contains(&item)
-        && COUNT.contains(&count)
-        && TURN.contains(&turn);
-    if !within {
-        return Err(line.outside_limits());
-    }
-    let position = Position {
-        item: item as u16,
-        turned: turn == 1,
-    };
-    job.ensure_permitted(position, line.number)?;
-    Ok(CountLine {
-        number: line.number,
-        plate: plate as u16,
-        position,
-        count: count as u16,
-    })
 }
 
 /// The prices that a line of kind 4 announces: as many lines of kinds 5 and 6 as it says,
@@ -120,24 +88,6 @@ fn read_price_lines(lines: &mut Lines, kind: u32, last: u32) -> Result<Vec<u16>,
         prices.push(price as u16);
     }
     Ok(prices)
-}
-
-/// The counts of the lines of kind 3. A line that names no cut is 8, over all lines first; a
-/// line whose cut does not come after the last line's is 9.
-fn counts_of_lines(listing: &Listing, plan: &[CountLine]) -> Result<Vec<u16>, Refusal> {
-    let mut cuts = Vec::with_capacity(plan.len());
-    for line in plan {
-        let cut = listing.cut_of(line.plate, line.position);
-        cuts.push(cut.ok_or(Refusal::new(NO_SUCH_CUT, line.number))?);
-    }
-    for (pair, line) in cuts.windows(2).zip(plan.iter().skip(1)) {
-        ensure(pair[0] < pair[1], CUT_NOT_RISING, line.number)?;
-    }
-    let mut counts = vec![0; listing.cuts.len()];
-    for (cut, line) in cuts.into_iter().zip(plan) {
-        counts[cut] = line.count;
-    }
-    Ok(counts)
 }
 
 /// Lines of kind 7, one for each item, and the line of kind 8.

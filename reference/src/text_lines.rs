@@ -1,9 +1,10 @@
 //! Lines of a text: their form, their numbering, and the kinds that both texts begin with
-//! (document 01, "Texts"; document 02, One and Four).
+//! (document 01, "Texts"; document 02, One, Four and Five).
 
 use crate::columns::{read_group, COLUMNS};
 use crate::job::{Head, Item, Job, HEAD_NUMBERS, ITEM_NUMBERS};
 use crate::limits::FORBIDDEN_LINE;
+use crate::plan_lines::PLAN_NUMBERS;
 use crate::refusal::{Refusal, NOT_OF_THE_FORM, OUTSIDE_LIMITS};
 
 /// The most numbers after the kind on a line.
@@ -35,7 +36,7 @@ fn values_of_kind(kind: u32) -> Option<usize> {
     match kind {
         1 => Some(HEAD_NUMBERS),
         2 => Some(1 + ITEM_NUMBERS),
-        3 => Some(4),
+        3 => Some(PLAN_NUMBERS),
         4 => Some(3),
         5 | 6 => Some(2),
         7 => Some(8),

@@ -23,3 +23,4 @@ pub mod Offcuts
 pub mod Blade
 pub mod Swath
 pub mod BladeTexts
+pub mod ShownPlates

@@ -31,9 +31,9 @@ use Rattle.columns.specs.Line.{groups, lineOf, numbersOf, readLine}
 use Rattle.texts.specs.Shape.{begins, formed, eachWithin, values, numbersRow, lineRow}
 use Rattle.texts.specs.Reader.{lineRead, byteTaken, byteRead, fed, textRow, written}
 use Rattle.texts.specs.JobLines.{afterType}
-use Rattle.texts.specs.SawText.{sawAdmits, afterItemPrice, afterPlatePrice, bodyRead, sawAfter, sawComplete, namedCut, cutsNamed, cutsRising, countFor, countsFrom, planCounts, priceLinesRow, sawRows, placementLine, resultLine, sawLines, sawWritten, sawText}
+use Rattle.texts.specs.SawText.{sawAdmits, afterItemPrice, afterPlatePrice, bodyRead, sawAfter, sawComplete, namedCut, cutsNamed, misshown, platesShown, cutsRising, countFor, countsFrom, planCounts, priceLinesRow, sawRows, placementLine, resultLine, sawLines, sawWritten, sawText}
 use Rattle.texts.specs.FoldText.{foldAdmits, foldAfter, foldComplete, foldRows, countLines, foldLines, foldWritten, foldText}
 
 unfoldable pub computed : ℕ
-unfolding flatMap any all sumOf gapSum maxOf occurs tally lowest filled sized three exact modeOf itemAt unturned turned typeOf turnOf positionsOf positions positionAt itemsOf jobOf boardRight itemRight jobWords fits larger demanded admission same exactFit mayCut leaves kept unkept trim wasteOf swath swathOf plateAt cutAt numberIn entered cutDone limited pair overItems overPlates walkWithin walk modelRow listingOf residualTypes plateWords cutWords listVerdict listAnswer platesEnd cutsEnd countOf ofItem ofPosition onPlate leavesPlate boards total short overdrawn countsRow planRow pricesOf priceWords itemPrice residualPrice priceLimit worth overLimit modelSized pricesSized pricesRow priced priceSum fewest planVerdict planAnswer priceVerdict priceAnswer widthOf heightOf stackWidth stackHeight stripHeight stripWidth boardHeight single fullStack sameHeights sameWidths stageRule boardRules layoutRules placementWords stackLines stripLines boardLines setLines linesOf itemsOfStrip itemsOfBoard itemsOfSet typesOfSet meetsFrom meetsDemands endX endY inside apart clear allApart spent search highest waitAt wait nextTurn done step openBoard placing run stepsFor unfolded chosen events eventsOf placedIn cutsIn cutsOn typesOver offcut offcutsIn offcutsOf usable offcutWords itemsOn offcutsOn wasteBy swathBy linesIn rowsOf rowRight layoutWords sameTurn follows inTurn turns levelOf begun inStrip inBoard inSet beside before grouped setOf laidBoard laidSet lowestStrip breaksStage pastBoard positioned lacks layoutsRow insertBy falling firstOf without toFront ordered cutFrom cutOf stackCuts stripCuts boardCuts setCuts folded lengthsRight lengthsRow unfoldVerdict unfoldingOf offcutsFrom unfoldAnswer placementsEnd offcutsEnd foldVerdict foldAnswer countsEnd mark lead group digitsAfter same·columns numberOf put groups lineOf numbersOf readLine begins formed eachWithin values numbersRow lineRow lineRead byteTaken byteRead fed textRow written afterType sawAdmits afterItemPrice afterPlatePrice bodyRead sawAfter sawComplete namedCut cutsNamed cutsRising countFor countsFrom planCounts priceLinesRow sawRows placementLine resultLine sawLines sawWritten sawText foldAdmits foldAfter foldComplete foldRows countLines foldLines foldWritten foldText
+unfolding flatMap any all sumOf gapSum maxOf occurs tally lowest filled sized three exact modeOf itemAt unturned turned typeOf turnOf positionsOf positions positionAt itemsOf jobOf boardRight itemRight jobWords fits larger demanded admission same exactFit mayCut leaves kept unkept trim wasteOf swath swathOf plateAt cutAt numberIn entered cutDone limited pair overItems overPlates walkWithin walk modelRow listingOf residualTypes plateWords cutWords listVerdict listAnswer platesEnd cutsEnd countOf ofItem ofPosition onPlate leavesPlate boards total short overdrawn countsRow planRow pricesOf priceWords itemPrice residualPrice priceLimit worth overLimit modelSized pricesSized pricesRow priced priceSum fewest planVerdict planAnswer priceVerdict priceAnswer widthOf heightOf stackWidth stackHeight stripHeight stripWidth boardHeight single fullStack sameHeights sameWidths stageRule boardRules layoutRules placementWords stackLines stripLines boardLines setLines linesOf itemsOfStrip itemsOfBoard itemsOfSet typesOfSet meetsFrom meetsDemands endX endY inside apart clear allApart spent search highest waitAt wait nextTurn done step openBoard placing run stepsFor unfolded chosen events eventsOf placedIn cutsIn cutsOn typesOver offcut offcutsIn offcutsOf usable offcutWords itemsOn offcutsOn wasteBy swathBy linesIn rowsOf rowRight layoutWords sameTurn follows inTurn turns levelOf begun inStrip inBoard inSet beside before grouped setOf laidBoard laidSet lowestStrip breaksStage pastBoard positioned lacks layoutsRow insertBy falling firstOf without toFront ordered cutFrom cutOf stackCuts stripCuts boardCuts setCuts folded lengthsRight lengthsRow unfoldVerdict unfoldingOf offcutsFrom unfoldAnswer placementsEnd offcutsEnd foldVerdict foldAnswer countsEnd mark lead group digitsAfter same·columns numberOf put groups lineOf numbersOf readLine begins formed eachWithin values numbersRow lineRow lineRead byteTaken byteRead fed textRow written afterType sawAdmits afterItemPrice afterPlatePrice bodyRead sawAfter sawComplete namedCut cutsNamed misshown platesShown cutsRising countFor countsFrom planCounts priceLinesRow sawRows placementLine resultLine sawLines sawWritten sawText foldAdmits foldAfter foldComplete foldRows countLines foldLines foldWritten foldText
 computed = 0

@@ -37,6 +37,7 @@ unfolding computed bytes jobLinesA afterJob afterFour afterFive
 sawLines =
     record {
       plan-greatest = refl;
+      plan-least = refl;
       plan-item-zero = refl;
       plan-turn-high = refl;
       prices-greatest = refl;

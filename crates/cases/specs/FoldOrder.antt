@@ -35,8 +35,8 @@ pub record FoldOrder : Type 0 where
       (jobLinesK
       ++ lineOf (7 ∷ 1 ∷ 1 ∷ 1 ∷ 1 ∷ 2 ∷ 0 ∷ 0 ∷ 0 ∷ [])
       ++ lineOf (7 ∷ 1 ∷ 1 ∷ 2 ∷ 1 ∷ 1 ∷ 3 ∷ 0 ∷ 0 ∷ []))
-      ≡ lineOf (3 ∷ 0 ∷ 1 ∷ 1 ∷ 0 ∷ [])
-      ++ lineOf (3 ∷ 1 ∷ 2 ∷ 1 ∷ 0 ∷ [])
+      ≡ lineOf (3 ∷ 0 ∷ 1 ∷ 1 ∷ 6 ∷ 4 ∷ 1 ∷ 0 ∷ [])
+      ++ lineOf (3 ∷ 1 ∷ 2 ∷ 1 ∷ 5 ∷ 4 ∷ 2 ∷ 0 ∷ [])
   -- the rightmost stack of the strip's height moved to the front, or the widest, or the low stack left there: 1 by 2, then 1 by 4, then 2 by 4
   pub leftmost-to-front :
       foldText
@@ -44,9 +44,9 @@ pub record FoldOrder : Type 0 where
       ++ lineOf (7 ∷ 1 ∷ 1 ∷ 1 ∷ 1 ∷ 3 ∷ 0 ∷ 0 ∷ 0 ∷ [])
       ++ lineOf (7 ∷ 1 ∷ 1 ∷ 2 ∷ 1 ∷ 2 ∷ 1 ∷ 0 ∷ 0 ∷ [])
       ++ lineOf (7 ∷ 1 ∷ 1 ∷ 3 ∷ 1 ∷ 1 ∷ 2 ∷ 0 ∷ 0 ∷ []))
-      ≡ lineOf (3 ∷ 0 ∷ 2 ∷ 1 ∷ 0 ∷ [])
-      ++ lineOf (3 ∷ 1 ∷ 1 ∷ 1 ∷ 0 ∷ [])
-      ++ lineOf (3 ∷ 2 ∷ 3 ∷ 1 ∷ 0 ∷ [])
+      ≡ lineOf (3 ∷ 0 ∷ 2 ∷ 1 ∷ 6 ∷ 4 ∷ 1 ∷ 0 ∷ [])
+      ++ lineOf (3 ∷ 1 ∷ 1 ∷ 1 ∷ 4 ∷ 4 ∷ 2 ∷ 0 ∷ [])
+      ++ lineOf (3 ∷ 2 ∷ 3 ∷ 1 ∷ 5 ∷ 4 ∷ 2 ∷ 0 ∷ [])
   -- a stack of two items of the strip's height moved to the front: 1 by 2 twice, then 1 by 4, then 2 by 4
   pub single-to-front :
       foldText
@@ -55,10 +55,10 @@ pub record FoldOrder : Type 0 where
       ++ lineOf (7 ∷ 1 ∷ 1 ∷ 1 ∷ 2 ∷ 3 ∷ 0 ∷ 2 ∷ 0 ∷ [])
       ++ lineOf (7 ∷ 1 ∷ 1 ∷ 2 ∷ 1 ∷ 2 ∷ 1 ∷ 0 ∷ 0 ∷ [])
       ++ lineOf (7 ∷ 1 ∷ 1 ∷ 3 ∷ 1 ∷ 1 ∷ 2 ∷ 0 ∷ 0 ∷ []))
-      ≡ lineOf (3 ∷ 0 ∷ 2 ∷ 1 ∷ 0 ∷ [])
-      ++ lineOf (3 ∷ 1 ∷ 1 ∷ 1 ∷ 0 ∷ [])
-      ++ lineOf (3 ∷ 2 ∷ 3 ∷ 1 ∷ 0 ∷ [])
-      ++ lineOf (3 ∷ 7 ∷ 3 ∷ 1 ∷ 0 ∷ [])
+      ≡ lineOf (3 ∷ 0 ∷ 2 ∷ 1 ∷ 6 ∷ 4 ∷ 1 ∷ 0 ∷ [])
+      ++ lineOf (3 ∷ 1 ∷ 1 ∷ 1 ∷ 4 ∷ 4 ∷ 2 ∷ 0 ∷ [])
+      ++ lineOf (3 ∷ 2 ∷ 3 ∷ 1 ∷ 5 ∷ 4 ∷ 2 ∷ 0 ∷ [])
+      ++ lineOf (3 ∷ 7 ∷ 3 ∷ 1 ∷ 1 ∷ 2 ∷ 3 ∷ 0 ∷ [])
   -- a stack ordered by height, or equally wide items exchanged: 2 by 1, and above it 2 by 2
   pub equally-wide :
       foldText
@@ -66,6 +66,6 @@ pub record FoldOrder : Type 0 where
       ++ lineOf (7 ∷ 1 ∷ 1 ∷ 1 ∷ 1 ∷ 1 ∷ 0 ∷ 0 ∷ 0 ∷ [])
       ++ lineOf (7 ∷ 1 ∷ 1 ∷ 2 ∷ 1 ∷ 2 ∷ 2 ∷ 0 ∷ 0 ∷ [])
       ++ lineOf (7 ∷ 1 ∷ 1 ∷ 2 ∷ 2 ∷ 3 ∷ 2 ∷ 1 ∷ 0 ∷ []))
-      ≡ lineOf (3 ∷ 0 ∷ 1 ∷ 1 ∷ 0 ∷ [])
-      ++ lineOf (3 ∷ 1 ∷ 2 ∷ 1 ∷ 0 ∷ [])
-      ++ lineOf (3 ∷ 6 ∷ 3 ∷ 1 ∷ 0 ∷ [])
+      ≡ lineOf (3 ∷ 0 ∷ 1 ∷ 1 ∷ 5 ∷ 4 ∷ 1 ∷ 0 ∷ [])
+      ++ lineOf (3 ∷ 1 ∷ 2 ∷ 1 ∷ 3 ∷ 4 ∷ 2 ∷ 0 ∷ [])
+      ++ lineOf (3 ∷ 6 ∷ 3 ∷ 1 ∷ 2 ∷ 3 ∷ 3 ∷ 0 ∷ [])

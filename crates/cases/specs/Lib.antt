@@ -26,3 +26,4 @@ pub mod Offcuts
 pub mod Blade
 pub mod Swath
 pub mod BladeTexts
+pub mod ShownPlates

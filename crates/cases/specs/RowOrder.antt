@@ -23,7 +23,7 @@ use Rattle.layouts.specs.UnfoldCall.{lengthsRow, unfoldVerdict}
 use Rattle.layouts.specs.FoldCall.{foldVerdict}
 use Rattle.texts.specs.Shape.{Shape, formed, eachWithin, values, numbersRow}
 use Rattle.texts.specs.Reader.{started, fed, textRow, written}
-use Rattle.texts.specs.SawText.{Saw, PriceLines, sawGrammar, cutsNamed, cutsRising, planCounts, priceLinesRow, sawRows, sawLines, sawText}
+use Rattle.texts.specs.SawText.{Saw, PriceLines, sawGrammar, cutsNamed, platesShown, cutsRising, planCounts, priceLinesRow, sawRows, sawLines, sawText}
 use Rattle.texts.specs.FoldText.{Fold, foldGrammar, foldRows, foldLines, foldText}
 
 -- what some rows say: the first refusal from the top, or that all pass
@@ -81,7 +81,7 @@ pub record WithinRows : Type 0 where
   -- the model: 6 or 7, as the walk has met it, at place 0
   pub model-refused : (job : Job) (number : ℕ) → walk job ≡ stopped number → modelRow job ≡ refuse number 0
   pub model-passed : (job : Job) (l : Listing) → walk job ≡ going l → modelRow job ≡ pass
-  -- the plan after 8 and 9: 10, 11, 12
+  -- the plan after 8, 20 and 9: 10, 11, 12
   pub plan :
       (job : Job) (l : Listing) (ns : List ℕ)
       → planRow job l ns
@@ -191,7 +191,7 @@ pub record RowsOfTexts : Type 0 where
       (bs : List ℕ)
       → let r = fed sawGrammar (started sawGrammar) bs in
       sawText bs ≡ written (fromTheTop (textRow sawGrammar r ∷ sawRows (r .state) ∷ [])) (sawLines (r .state))
-  -- job, model, plan: 8, 9, and from 10 on; prices
+  -- job, model, plan: 8, request Five's 20, 9, and from 10 on; prices
   pub saw :
       (s : Saw)
       → let job = jobOf (s .job) in
@@ -202,6 +202,7 @@ pub record RowsOfTexts : Type 0 where
       (admission job
       ∷ modelRow job
       ∷ cutsNamed l line (s .plan)
+      ∷ platesShown l line (s .plan)
       ∷ cutsRising l 0 line (s .plan)
       ∷ planRow job l (planCounts l (s .plan))
       ∷ priceLinesRow job l (s .prices)

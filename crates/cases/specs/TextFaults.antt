@@ -45,16 +45,16 @@ pricesOneSix =
 
 pub record TextFaults : Type 0 where
   -- the plan or the layouts before the job
-  pub size-before-cut : sawText (largeLines ++ lineOf (3 ∷ 0 ∷ 1 ∷ 1 ∷ 0 ∷ [])) ≡ nine 3 1
+  pub size-before-cut : sawText (largeLines ++ lineOf (3 ∷ 0 ∷ 1 ∷ 1 ∷ 9 ∷ 7 ∷ 1 ∷ 0 ∷ [])) ≡ nine 3 1
   pub size-before-turn : foldText (largeLines ++ lineOf (7 ∷ 1 ∷ 1 ∷ 2 ∷ 1 ∷ 1 ∷ 0 ∷ 0 ∷ 0 ∷ [])) ≡ nine 3 1
-  pub demands-before-cut : sawText (manyLines ++ lineOf (3 ∷ 5 ∷ 1 ∷ 1 ∷ 0 ∷ [])) ≡ nine 4 0
+  pub demands-before-cut : sawText (manyLines ++ lineOf (3 ∷ 5 ∷ 1 ∷ 1 ∷ 3 ∷ 3 ∷ 2 ∷ 0 ∷ [])) ≡ nine 4 0
   pub demands-before-turn : foldText (manyLines ++ lineOf (7 ∷ 1 ∷ 1 ∷ 2 ∷ 1 ∷ 1 ∷ 0 ∷ 0 ∷ 0 ∷ [])) ≡ nine 4 0
   -- 10 before 9
-  pub rising-before-total : sawText (jobLinesA ++ lineOf (3 ∷ 0 ∷ 1 ∷ 4000 ∷ 0 ∷ []) ++ lineOf (3 ∷ 0 ∷ 1 ∷ 1 ∷ 0 ∷ [])) ≡ nine 9 5
+  pub rising-before-total : sawText (jobLinesA ++ lineOf (3 ∷ 0 ∷ 1 ∷ 4000 ∷ 9 ∷ 7 ∷ 1 ∷ 0 ∷ []) ++ lineOf (3 ∷ 0 ∷ 1 ∷ 1 ∷ 9 ∷ 7 ∷ 1 ∷ 0 ∷ [])) ≡ nine 9 5
   -- 8 or 9 that names the last line
-  pub lowest-no-cut : sawText (jobLinesA ++ lineOf (3 ∷ 5 ∷ 1 ∷ 1 ∷ 0 ∷ []) ++ lineOf (3 ∷ 5 ∷ 1 ∷ 1 ∷ 0 ∷ [])) ≡ nine 8 4
+  pub lowest-no-cut : sawText (jobLinesA ++ lineOf (3 ∷ 5 ∷ 1 ∷ 1 ∷ 3 ∷ 3 ∷ 2 ∷ 0 ∷ []) ++ lineOf (3 ∷ 5 ∷ 1 ∷ 1 ∷ 3 ∷ 3 ∷ 2 ∷ 0 ∷ [])) ≡ nine 8 4
   pub lowest-not-rising :
-      sawText (jobLinesA ++ lineOf (3 ∷ 0 ∷ 1 ∷ 1 ∷ 0 ∷ []) ++ lineOf (3 ∷ 0 ∷ 1 ∷ 1 ∷ 0 ∷ []) ++ lineOf (3 ∷ 0 ∷ 1 ∷ 1 ∷ 0 ∷ [])) ≡ nine 9 5
+      sawText (jobLinesA ++ lineOf (3 ∷ 0 ∷ 1 ∷ 1 ∷ 9 ∷ 7 ∷ 1 ∷ 0 ∷ []) ++ lineOf (3 ∷ 0 ∷ 1 ∷ 1 ∷ 9 ∷ 7 ∷ 1 ∷ 0 ∷ []) ++ lineOf (3 ∷ 0 ∷ 1 ∷ 1 ∷ 9 ∷ 7 ∷ 1 ∷ 0 ∷ [])) ≡ nine 9 5
   -- prices before the plan: no line 3, and cut 5 over its limit
   pub plan-before-prices : sawText (jobLinesA ++ pricesAt 1 1 0) ≡ nine 11 1
   -- 13 by n and m together: 1 and 6 are as many as 2 and 5

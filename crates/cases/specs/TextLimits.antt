@@ -74,14 +74,16 @@ pub record JobLines : Type 0 where
   -- a leave of 2
   pub leave-high : sawText (afterOne (2 ∷ 1 ∷ 3 ∷ 3 ∷ 1 ∷ 2 ∷ [])) ≡ nine 2 2
 
--- "3 plate, item, count (1 to 4,000)", and the turn, "plate 0 to 2,047; type 1 to n"; "4 D, n, m", "on line 4 n 1 to 40 and m 0 to 2,047"; the price of lines 5 and 6
+-- "3 plate, item, count (1 to 4,000)", the plate's width, height and stage, which "have no limits of their own" (request Five), and the turn, "plate 0 to 2,047; type 1 to n"; "4 D, n, m", "on line 4 n 1 to 40 and m 0 to 2,047"; the price of lines 5 and 6
 pub record SawLines : Type 0 where
-  -- a greatest plate of 2,046, a greatest item of n - 1, a greatest count of 3,999: there is no such cut
-  pub plan-greatest : sawText (afterJob (3 ∷ 2047 ∷ 2 ∷ 4000 ∷ 0 ∷ [])) ≡ nine 8 4
+  -- a greatest plate of 2,046, a greatest item of n - 1, a greatest count of 3,999, any greatest width, height or stage: there is no such cut
+  pub plan-greatest : sawText (afterJob (3 ∷ 2047 ∷ 2 ∷ 4000 ∷ 999999999 ∷ 999999999 ∷ 999999999 ∷ 0 ∷ [])) ≡ nine 8 4
+  -- a least count of 2, any least width, height or stage: there is no such cut
+  pub plan-least : sawText (afterJob (3 ∷ 5 ∷ 1 ∷ 1 ∷ 0 ∷ 0 ∷ 0 ∷ 0 ∷ [])) ≡ nine 8 4
   -- an item 0
-  pub plan-item-zero : sawText (afterJob (3 ∷ 0 ∷ 0 ∷ 1 ∷ 0 ∷ [])) ≡ nine 2 4
+  pub plan-item-zero : sawText (afterJob (3 ∷ 0 ∷ 0 ∷ 1 ∷ 9 ∷ 7 ∷ 1 ∷ 0 ∷ [])) ≡ nine 2 4
   -- a turn of 2
-  pub plan-turn-high : sawText (afterJob (3 ∷ 0 ∷ 1 ∷ 1 ∷ 2 ∷ [])) ≡ nine 2 4
+  pub plan-turn-high : sawText (afterJob (3 ∷ 0 ∷ 1 ∷ 1 ∷ 9 ∷ 7 ∷ 1 ∷ 2 ∷ [])) ≡ nine 2 4
   -- a greatest D of 9,998, n of 39 or m of 2,046: the line of type 1 is missing
   pub prices-greatest : sawText (afterJob (4 ∷ 9999 ∷ 40 ∷ 2047 ∷ [])) ≡ nine 1 5
   -- a least D of 2, n of 2 or m of 1
@@ -134,7 +136,7 @@ pub record Rooms : Type 0 where
   -- another number of columns, or of numbers on a line
   pub job-line : jobLineBytes ≡ 64
   pub type-line : typeLineBytes ≡ 55
-  pub plan-line : planLineBytes ≡ 46
+  pub plan-line : planLineBytes ≡ 73
   pub prices-line : pricesLineBytes ≡ 37
   pub price-line : priceLineBytes ≡ 28
   pub placement-line : placementLineBytes ≡ 82
@@ -142,8 +144,8 @@ pub record Rooms : Type 0 where
   pub refusal-line : refusalLineBytes ≡ 28
   -- a line that is read past the longest kind, 7
   pub longest-line : longestLine ≡ 82
-  -- texts of 99,998 or 100,000 lines
-  pub saw-text : longestSawText ≡ 4600332
+  -- texts of 99,998 or 100,000 lines; lines 2 that are taken for longer than lines 3
+  pub saw-text : longestSawText ≡ 7299900
   pub fold-text : longestFoldText ≡ 8199873
   -- a job of 40 types has 166 words; D, 40 prices and 2,047 are 2,088
   pub job-words : longestJob ≡ 166

@@ -13,10 +13,10 @@ jobLinesA =
 -- its plan, as lines of kind 3
 unfoldable pub planLinesA : List ℕ
 planLinesA =
-    bytes "        3        0        1        2        0\n"
-    ++ bytes "        3        1        2        1        0\n"
-    ++ bytes "        3        2        2        1        0\n"
-    ++ bytes "        3        4        2        1        0\n"
+    bytes "        3        0        1        2        9        7        1        0\n"
+    ++ bytes "        3        1        2        1        9        3        1        0\n"
+    ++ bytes "        3        2        2        1        4        4        2        0\n"
+    ++ bytes "        3        4        2        1        6        3        2        0\n"
 
 -- its prices, as lines of kinds 4, 5 and 6
 unfoldable pub priceLinesA : List ℕ

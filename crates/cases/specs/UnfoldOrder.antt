@@ -13,17 +13,17 @@ twoStacksLines =
     lineOf (1 ∷ 3 ∷ 0 ∷ 7 ∷ 5 ∷ 2 ∷ 0 ∷ [])
     ++ lineOf (2 ∷ 1 ∷ 3 ∷ 5 ∷ 1 ∷ 0 ∷ [])
     ++ lineOf (2 ∷ 2 ∷ 2 ∷ 2 ∷ 4 ∷ 0 ∷ [])
-    ++ lineOf (3 ∷ 0 ∷ 1 ∷ 1 ∷ 0 ∷ [])
-    ++ lineOf (3 ∷ 1 ∷ 2 ∷ 1 ∷ 0 ∷ [])
-    ++ lineOf (3 ∷ 4 ∷ 2 ∷ 2 ∷ 0 ∷ [])
-    ++ lineOf (3 ∷ 5 ∷ 2 ∷ 1 ∷ 0 ∷ [])
+    ++ lineOf (3 ∷ 0 ∷ 1 ∷ 1 ∷ 7 ∷ 5 ∷ 1 ∷ 0 ∷ [])
+    ++ lineOf (3 ∷ 1 ∷ 2 ∷ 1 ∷ 4 ∷ 5 ∷ 2 ∷ 0 ∷ [])
+    ++ lineOf (3 ∷ 4 ∷ 2 ∷ 2 ∷ 2 ∷ 3 ∷ 3 ∷ 0 ∷ [])
+    ++ lineOf (3 ∷ 5 ∷ 2 ∷ 1 ∷ 2 ∷ 5 ∷ 2 ∷ 0 ∷ [])
 
 -- 2N, 9 by 7: 3 by 3 four times; a plan of one item to a board, top and right left over each time
 unfoldable pub leftOverLines : List ℕ
 leftOverLines =
     lineOf (1 ∷ 2 ∷ 0 ∷ 9 ∷ 7 ∷ 1 ∷ 0 ∷ [])
     ++ lineOf (2 ∷ 1 ∷ 3 ∷ 3 ∷ 4 ∷ 0 ∷ [])
-    ++ lineOf (3 ∷ 0 ∷ 1 ∷ 4 ∷ 0 ∷ [])
+    ++ lineOf (3 ∷ 0 ∷ 1 ∷ 4 ∷ 9 ∷ 7 ∷ 1 ∷ 0 ∷ [])
 
 pub record UnfoldOrder : Type 0 where
   -- "always the piece of the highest stage is taken": stage 2 before stage 3, where both wait

@@ -13,8 +13,11 @@ use Rattle.job.specs.declared.counters.PlateTypes.{PlateTypes}
 use Rattle.job.specs.declared.counters.CutNumber.{CutNumber}
 use Rattle.job.proofs.Verdicts.{then-assoc, then-first, then-second, then-passed, then-refused}
 use Rattle.job.proofs.CodeEnds.{given-pass, refused-refuse}
-use Rattle.listing.specs.Listing.{modelRow}
+use Rattle.listing.specs.Listing.{Cut, modelRow}
 use Rattle.listing.specs.Holds.{Holds}
+use Rattle.listing.specs.CutRead.{cutRead}
+use Rattle.listing.specs.CutRead.{Lent as CutsSound}
+use Rattle.listing.proofs.CodeCuts.{length-cutsFrom, cut-read}
 use Rattle.listing.specs.ListCall.{listVerdict, listAnswer, platesEnd, cutsEnd}
 use Rattle.listing_call.specs.declared.call.Listed.{Listed}
 use Rattle.listing_call.specs.declared.call.Listed.the-variants.{Done, Refused}
@@ -31,6 +34,10 @@ use Rattle.fold_text_reader.specs.FoldKept.{layoutsSize}
 use Rattle.texts_reading.specs.TextEnd.{jobModelRow}
 use Rattle.texts_reading.proofs.JobKept.{held-take, words-kept, list-refused}
 use Rattle.fold_text_ending.specs.FoldEnd.{lastRows, ListedLent, WholeKept, Answered}
+
+-- each of k cuts that are lent is on one of m plate types
+on-plate : (ws cuts : List ℕ) (n m k : ℕ) → CutsSound ws cuts n m k → (c : ℕ) → c < k → cutRead cuts c .plate < m
+on-plate ws cuts n m k lent c h = omega (arith, ap (λ (x : Cut). x .plate) (cut-read k c cuts h), lent .sound .each c (rw length-cutsFrom h) .on-plate)
 
 -- what the listing call says and leaves, lent buffers of full size
 module _ (ws plates cuts plates′ cuts′ : List ℕ) (np : length plates′ ≡ length plates) (nc : length cuts′ ≡ length cuts) (ps : platesSize ≤ length plates) (cs : cutsSize ≤ length cuts) (a : Listed) (some : SomePlate a) (says : saysOf a ≡ listAnswer ws plates cuts) (pe : plates′ ≡ platesEnd (listVerdict ws plates cuts) ws plates) (ce : cuts′ ≡ cutsEnd (listVerdict ws plates cuts) ws cuts) where
@@ -55,6 +62,7 @@ module _ (ws plates cuts plates′ cuts′ : List ℕ) (np : length plates′ �
         cuts-hold = record { words = rw nc (rw v at ce) };
         lent = listed-cuts ws w a′ p r;
         few-cuts = r .lent .few-cuts;
+        plates-there = λ c h. omega (arith, on-plate ws cuts′ (typesOf ws) (m .0) (k .0) (r .lent) c h, r .lent .few-plates, np, ps);
       }
 
   pub rows-refused : (number place : ℕ) → a ≡ Refused number place → jobWords ws ≡ pass → jobModelRow ws ≡ refuse number place

@@ -1,17 +1,18 @@
 -- Document 01, "Texts": what is kept of a fold text that ends, and what is then written and left in the lent plates, cuts and counts.
-use Prim.Native.Nat.{ℕ, _*_, _≤_}
+use Prim.Native.Nat.{ℕ, _*_, _≤_, _<_}
 use mathlib.Core.Path.{_≡_}
 use mathlib.Core.Bool.{Bool, _&&_}
 use mathlib.Core.List.{List}
 use lib.Dec.{leb}
 use lib.ListN.{length, take, replicate}
-use Rattle.job.specs.Sizes.{wordsOfPlacement, longestJob}
+use Rattle.job.specs.Sizes.{wordsOfPlate, wordsOfPlacement, longestJob, RecordIn}
 use Rattle.job.specs.Verdict.{Verdict, pass, refuse, _then_}
 use Rattle.job.specs.Buffers.{filled, platesSize, cutsSize, countsSize, placementsSize}
 use Rattle.job.specs.Job.{jobOf, jobWords, admission}
 use Rattle.listing.specs.Listing.{modelRow, listingOf, maxCuts}
 use Rattle.listing.specs.Records.{plateWords, cutWords}
 use Rattle.listing.specs.Holds.{Holds}
+use Rattle.listing.specs.CutRead.{cutRead}
 use Rattle.layouts.specs.Lines.{rowsOf, layoutWords, setOf}
 use Rattle.layouts.specs.LayoutsRow.{layoutsRow}
 use Rattle.layouts.specs.Fold.{folded}
@@ -38,6 +39,8 @@ pub record ListedLent (ws plates cuts : List ℕ) (k : ℕ) : Type 0 where
   pub cuts-hold : Holds cuts (cutWords (listingOf (jobOf ws) .cuts))
   pub lent : CutsLent (listingOf (jobOf ws)) cuts k
   pub few-cuts : k ≤ maxCuts
+  -- request Five: each cut is on a plate type whose words are in the buffer
+  pub plates-there : (c : ℕ) → c < k → RecordIn wordsOfPlate (cutRead cuts c .plate) plates
 
 -- what is kept of a fold text that passes the line row: the job's words, the number of its lines 7, and the words of the first 4,000 of them
 pub record WholeKept (ws ls : List ℕ) (rows : ℕ) (job layouts : List ℕ) : Type 0 where

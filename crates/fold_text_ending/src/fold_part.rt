@@ -68,7 +68,7 @@ pub fn write_fold(
     let lines = layouts.len() / PLACEMENT_WORDS;
     let head = head_of(job);
     fold_into(job, layouts, lines, head.mode, cuts, k, counts);
-    write_counts(out, cuts, k, counts)
+    write_counts(out, plates, cuts, k, counts)
 }
 
 // The layouts row of layout words, at most 4,000 lines, and their fold. The words have passed the line row: where they have not, line 9 says so.

@@ -8,14 +8,14 @@ use mathlib.Core.Option.{none, some}
 use lib.ListN.{length, getD, drop}
 use borrow.Author.Tests.{eq-eqb, ne-eqb}
 use Rattle.job.specs.Verdict.{Verdict, refuse, _then_, refuseIf}
-use Rattle.job.specs.Sizes.{maxTypes, maxResiduals, maxPieces, maxPrice}
+use Rattle.job.specs.Sizes.{maxTypes, maxResiduals, maxPrice}
 use Rattle.texts.specs.Shape.{Shape, jobLine, itemLine, planLine, pricesLine, itemPriceLine, platePriceLine, begins, formed, eachWithin, values, numbersRow}
 use Rattle.texts.specs.Admitted.{InLimits, OfShape}
 use Rattle.texts.specs.JobLines.{Place, first, types, body, itemPrices, platePrices, done, typesOf, afterType}
-use Rattle.texts.specs.SawText.{PriceLines, Saw, sawAdmits, sawAfter, bodyRead, priceRead, withPrice, afterItemPrice, afterPlatePrice}
+use Rattle.texts.specs.SawText.{PriceLines, Saw, countedIn, sawAdmits, sawAfter, bodyRead, priceRead, withPrice, afterItemPrice, afterPlatePrice}
 use Rattle.texts_reading.specs.Judged.{lineVerdict}
 use Rattle.texts_reading.proofs.CodeJobLines.{passed, of-shape}
-use Rattle.saw_text_body.specs.PlanRead.{counted}
+use Rattle.saw_text_body.specs.PlanRead.{PlanNumbers}
 
 -- ---- which lines are admitted
 
@@ -103,7 +103,7 @@ module _ (s : Saw) (ns : List ℕ) where
   pub after-plan :
       s .place ≡ body
       → getD ns 0 0 ≡ 3
-      → sawAfter s ns ≡ record { place = body; job = s .job; plan = s .plan ++ counted (getD ns 1 0) (getD ns 2 0) (getD ns 4 0) (getD ns 3 0) ∷ []; prices = none }
+      → sawAfter s ns ≡ record { place = body; job = s .job; plan = s .plan ++ countedIn ns ∷ []; prices = none }
   unfolding sawAfter bodyRead
   after-plan e h = rw (e, sawAfter, eq-eqb (getD ns 0 0) 3 h, bodyRead)
 
@@ -138,25 +138,24 @@ module _ (s : Saw) (ns : List ℕ) where
 -- ---- the numbers of a line that passes
 
 -- a line 3 of the job of the words ws
-pub record PlanNumbers (ws ns : List ℕ) : Type 0 where
-  pub size : length ns ≡ 5
-  pub kind : getD ns 0 0 ≡ 3
-  pub plate : getD ns 1 0 ≤ maxResiduals
-  pub type : getD ns 2 0 ≤ typesOf ws
-  pub count : getD ns 3 0 ≤ maxPieces
-  pub turn : getD ns 4 0 ≤ 1
-
-pub plan-numbers : (ws ns : List ℕ) → OfShape (planLine ws) ns → PlanNumbers ws ns
+pub plan-numbers : (ws ns : List ℕ) → OfShape (planLine ws) ns → PlanNumbers (typesOf ws) ns
 plan-numbers ws ns o = go (o .others) (o .numbers) (o .limits)
   where
-    go : (vs : List ℕ) → ns ≡ 3 ∷ vs → InLimits (planLine ws .limits) vs → PlanNumbers ws ns
+    go : (vs : List ℕ) → ns ≡ 3 ∷ vs → InLimits (planLine ws .limits) vs → PlanNumbers (typesOf ws) ns
     go [] e h = absurd h
     go (a ∷ []) e h = absurd (h .2)
     go (a ∷ b ∷ []) e h = absurd (h .2 .2)
     go (a ∷ b ∷ c ∷ []) e h = absurd (h .2 .2 .2)
-    go (a ∷ b ∷ c ∷ d ∷ []) e h =
-        rw e (record { size = refl; kind = refl; plate = h .1; type = h .2 .1; count = h .2 .2 .1; turn = h .2 .2 .2 .1 })
-    go (a ∷ b ∷ c ∷ d ∷ f ∷ vs) e h = absurd (h .2 .2 .2 .2)
+    go (a ∷ b ∷ c ∷ w ∷ []) e h = absurd (h .2 .2 .2 .2)
+    go (a ∷ b ∷ c ∷ w ∷ v ∷ []) e h = absurd (h .2 .2 .2 .2 .2)
+    go (a ∷ b ∷ c ∷ w ∷ v ∷ s ∷ []) e h = absurd (h .2 .2 .2 .2 .2 .2)
+    go (a ∷ b ∷ c ∷ w ∷ v ∷ s ∷ t ∷ []) e h =
+        rw e (record { size = refl; kind = refl; plate = h .1; type = h .2 .1; count = h .2 .2 .1; turn = h .2 .2 .2 .2 .2 .2 .1 })
+    go (a ∷ b ∷ c ∷ w ∷ v ∷ s ∷ t ∷ u ∷ vs) e h = absurd (h .2 .2 .2 .2 .2 .2 .2)
+
+-- of a job of more types
+pub more-types : {m n : ℕ} {ns : List ℕ} → m ≤ n → PlanNumbers m ns → PlanNumbers n ns
+more-types h p = record { size = p .size; kind = p .kind; plate = p .plate; type = omega (arith, h, p .type); count = p .count; turn = p .turn }
 
 -- a line 4
 pub record PricesNumbers (ns : List ℕ) : Type 0 where
@@ -198,7 +197,7 @@ module _ (r : ℕ) (ns : List ℕ) (none : r ≡ 0) where
   of : (s : Shape) → ((line : ℕ) → lineVerdict r line ≡ numbersRow line (s ∷ []) ns) → OfShape s ns
   of s judged = of-shape 1 s ns (passed 1 none (judged 1))
 
-  pub plan-judged : (ws : List ℕ) → ((line : ℕ) → lineVerdict r line ≡ numbersRow line (planLine ws ∷ []) ns) → PlanNumbers ws ns
+  pub plan-judged : (ws : List ℕ) → ((line : ℕ) → lineVerdict r line ≡ numbersRow line (planLine ws ∷ []) ns) → PlanNumbers (typesOf ws) ns
   plan-judged ws judged = plan-numbers ws ns (of (planLine ws) judged)
 
   pub prices-judged : ((line : ℕ) → lineVerdict r line ≡ numbersRow line (pricesLine ∷ []) ns) → PricesNumbers ns

@@ -12,6 +12,8 @@ use Rattle.job.proofs.Verdicts.{then-first, then-second, then-both}
 use Rattle.job.proofs.Admission.{admitted-words, admitted-job, admitted-sided}
 use Rattle.listing.specs.Listing.{modelRow, listingOf}
 use Rattle.listing.specs.Model.{Model}
+use Rattle.listing.specs.Records.{plateWords}
+use Rattle.listing.specs.Holds.{Holds}
 use Rattle.listing.specs.ListCall.{listVerdict, listAnswer, platesEnd, cutsEnd}
 use Rattle.listing.proofs.WalkModel.{row-model}
 use Rattle.job.specs.declared.counters.PlateTypes.{PlateTypes}
@@ -91,3 +93,10 @@ modelled ws plates cuts m k room some says e =
 -- the same of a kept model that is not refused
 pub kept-modelled : (ws plates cuts : List ℕ) (a : Listed) (m : PlateTypes) (k : CutNumber) → a ≡ Done m k → cutsSize ≤ length cuts → ModelKept ws a plates cuts → Modelled ws cuts (m .0) (k .0)
 kept-modelled ws plates cuts a m k e room kept = modelled ws plates cuts (m .0) (k .0) room (some-types e (kept .some-plate)) (sym (ap saysOf e) ∙ kept .says) (kept .cuts-are)
+
+-- and the plates that it leaves
+pub kept-plates : (ws plates cuts : List ℕ) (a : Listed) (m : PlateTypes) (k : CutNumber) → a ≡ Done m k → ModelKept ws a plates cuts → Holds plates (plateWords (listingOf (jobOf ws) .plates))
+unfolding listAnswer platesEnd
+kept-plates ws plates cuts a m k e kept =
+    let v : listVerdict ws plates cuts ≡ pass = given-pass (listVerdict ws plates cuts) _ (sym (ap saysOf e) ∙ kept .says) in
+    record { words = rw v at (kept .plates-are) }

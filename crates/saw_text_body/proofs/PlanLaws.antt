@@ -1,33 +1,39 @@
--- Lines 3 with one line more: the first refused by 8, the first refused by 9, and those that rise.
+-- Lines 3 with one line more: the first that a test refuses, as 8 and 20 do, the first refused by 9, and those that rise.
 use Prim.Native.Nat.{ℕ, suc, _+_, _≤_}
 use native.Mathlib.Omega.{arith}
 use mathlib.Core.Path.{_≡_, refl, ap, _∙_}
 use mathlib.Core.Bool.{Bool, true, false}
 use mathlib.Core.List.{List, [], _∷_, _++_}
-use lib.Dec.{leb, eqb}
+use lib.Dec.{leb}
 use lib.ListN.{length}
 use borrow.Author.Tests.{leb-false}
 use Rattle.job.specs.Verdict.{pass, refuse, refuseIf, lowest}
 use Rattle.job.proofs.Verdicts.{pass-not-refuse, lowest-append}
 use Rattle.listing.specs.Listing.{Listing}
-use Rattle.texts.specs.SawText.{Counted, namedCut, cutsNamed, cutsRising}
+use Rattle.texts.specs.SawText.{Counted, namedCut, cutsRising}
 use Rattle.saw_text_body.specs.PlanRead.{risen, lastCut}
 
-module _ (l : Listing) where
-  -- ---- 8
+-- ---- 8 and 20: a test of each line by itself, with its number
 
-  pub named-next : (k : ℕ) (rs : List Counted) (r : Counted) → cutsNamed l k rs ≡ pass → cutsNamed l k (rs ++ r ∷ []) ≡ refuseIf (eqb (namedCut l r) 0) 8 (k + length rs)
-  unfolding cutsNamed lowest
-  named-next k rs r h = lowest-append 8 (λ _ s. eqb (namedCut l s) 0) k rs (r ∷ []) ∙ rw h (go (eqb (namedCut l r) 0))
+module _ (number : ℕ) (bad : Counted → Bool) where
+  pub first-next :
+      (k : ℕ) (rs : List Counted) (r : Counted)
+      → lowest number (λ _ s. bad s) k rs ≡ pass
+      → lowest number (λ _ s. bad s) k (rs ++ r ∷ []) ≡ refuseIf (bad r) number (k + length rs)
+  unfolding lowest
+  first-next k rs r h = lowest-append number (λ _ s. bad s) k rs (r ∷ []) ∙ rw h (go (bad r))
     where
-      go : (t : Bool) → elim t [ true ↦ refuse 8 (k + length rs) | false ↦ pass ] ≡ refuseIf t 8 (k + length rs)
+      go : (t : Bool) → elim t [ true ↦ refuse number (k + length rs) | false ↦ pass ] ≡ refuseIf t number (k + length rs)
       go true = refl
       go false = refl
 
-  pub named-stays : (k : ℕ) (rs ss : List Counted) {m p : ℕ} → cutsNamed l k rs ≡ refuse m p → cutsNamed l k (rs ++ ss) ≡ refuse m p
-  unfolding cutsNamed
-  named-stays k rs ss h = lowest-append 8 (λ _ s. eqb (namedCut l s) 0) k rs ss ∙ rw h
+  pub first-stays :
+      (k : ℕ) (rs ss : List Counted) {m p : ℕ}
+      → lowest number (λ _ s. bad s) k rs ≡ refuse m p
+      → lowest number (λ _ s. bad s) k (rs ++ ss) ≡ refuse m p
+  first-stays k rs ss h = lowest-append number (λ _ s. bad s) k rs ss ∙ rw h
 
+module _ (l : Listing) where
   -- ---- 9
 
   -- the first line rises, and the rest after it

@@ -2,19 +2,24 @@
 use Prim.Native.Nat.{ℕ, zero, suc, _+_, _-_, _≤_, _<_}
 use native.Mathlib.Omega.{arith}
 use mathlib.Core.Path.{_≡_, refl, sym, _∙_}
-use mathlib.Core.Bool.{Bool, true, false, cond}
+use mathlib.Core.Bool.{Bool, true, false, cond, not}
 use mathlib.Core.List.{List, [], _∷_, _++_}
 use lib.Dec.{leb, eqb}
 use lib.ListN.{length, set}
-use borrow.Author.Tests.{le-leb, lt-leb, ne-eqb}
+use borrow.Author.Tests.{le-leb, lt-leb, eq-eqb, ne-eqb}
 use Rattle.job.specs.Verdict.{pass, refuse, refuseIf, lowest}
-use Rattle.listing.specs.Listing.{Listing}
-use Rattle.listing.specs.Holds.{Holds}
-use Rattle.texts.specs.SawText.{Counted, namedCut, cutsNamed, cutsRising, planCounts}
+use Rattle.listing.specs.declared.plate.Plate.{Plate}
+use Rattle.listing.specs.Plate.{same}
+use Rattle.listing.specs.Listing.{Listing, plateAt}
+use Rattle.listing.specs.Records.{plateWords}
+use Rattle.listing.specs.Holds.{Holds, plateRead}
+use Rattle.listing.proofs.CodeHolds.{held-plate}
+use Rattle.texts.specs.SawText.{Counted, namedCut, cutsNamed, misshown, platesShown, cutsRising, planCounts}
 use Rattle.texts.proofs.CallRows.{counts-length}
+use Rattle.saw_text_body.specs.declared.plan_lines.PlanLine.{PlanLine}
 use Rattle.saw_text_body.specs.declared.plan_lines.PlanLines.{PlanLines}
-use Rattle.saw_text_body.specs.PlanRead.{atLine, firstLine, risen, lastCut, PlanKept}
-use Rattle.saw_text_body.proofs.PlanLaws.{named-next, named-stays, rising-next, rising-stays, risen-all, risen-falls, risen-stays, last-next}
+use Rattle.saw_text_body.specs.PlanRead.{plateShown, LineOf, atLine, firstLine, risen, lastCut, PlanKept}
+use Rattle.saw_text_body.proofs.PlanLaws.{first-next, first-stays, rising-next, rising-stays, risen-all, risen-falls, risen-stays, last-next}
 use Rattle.saw_text_body.proofs.CountLaws.{counts-next, counts-zero, held-set, held-zeros}
 
 -- a line refused is not line 0
@@ -22,30 +27,59 @@ refused-line : (number line : ℕ) → 0 < line → refuse number line ≡ atLin
 refused-line number zero h = absurd (omega arith)
 refused-line number (suc line) h = refl
 
--- the first line refused by 8, with one line more
-named-more :
-    (l : Listing) (first : ℕ) (rs : List Counted) (r : Counted) (u line : ℕ)
+-- the first line that a test refuses, with one line more
+first-more :
+    (number : ℕ) (bad : Counted → Bool) (first : ℕ) (rs : List Counted) (r : Counted) (u line : ℕ)
     → first + length rs ≡ line
     → 0 < line
-    → cutsNamed l first rs ≡ atLine 8 u
-    → cutsNamed l first (rs ++ r ∷ []) ≡ atLine 8 (firstLine u (eqb (namedCut l r) 0) line)
+    → lowest number (λ _ s. bad s) first rs ≡ atLine number u
+    → lowest number (λ _ s. bad s) first (rs ++ r ∷ []) ≡ atLine number (firstLine u (bad r) line)
 unfolding firstLine
-named-more l first rs r zero line e h p = named-next l first rs r p ∙ rw e (go (eqb (namedCut l r) 0))
+first-more number bad first rs r zero line e h p = first-next number bad first rs r p ∙ rw e (go (bad r))
   where
-    go : (t : Bool) → refuseIf t 8 line ≡ atLine 8 (cond t line 0)
-    go true = refused-line 8 line h
+    go : (t : Bool) → refuseIf t number line ≡ atLine number (cond t line 0)
+    go true = refused-line number line h
     go false = refl
-named-more l first rs r (suc u) line e h p = rw (ne-eqb (suc u) 0 (λ q. omega arith)) (named-stays l first rs (r ∷ []) p)
+first-more number bad first rs r (suc u) line e h p = rw (ne-eqb (suc u) 0 (λ q. omega arith)) (first-stays number bad first rs (r ∷ []) p)
 
 -- the number of a refused line stands
 pub at-refused : (number line : ℕ) → (line ≡ 0 → ⊥) → atLine number line ≡ refuse number line
 at-refused number zero h = absurd (h refl)
 at-refused number (suc line) h = refl
 
--- `c` is the cut that line r names, `p′` what is kept after it
-module _ (l : Listing) (first line c : ℕ) (rs : List Counted) (r : Counted) (p p′ : PlanLines) (counts : List ℕ) (here : first + length rs ≡ line) (from : 0 < line) (cut : c ≡ namedCut l r) (unnamed : p′ .unnamed ≡ firstLine (p .unnamed) (eqb c 0) line) (kept : PlanKept l first rs p counts) where
+-- a plate s that is shown beside a plate p that is read as q, number by number
+module _ (s p q : Plate) (read : p ≡ q) where
+  pub other-width : (s .width ≡ p .width → ⊥) → true ≡ not (same s q)
+  unfolding same
+  other-width w = rw (← read, ne-eqb (s .width) (p .width) w)
+
+  pub other-height : s .width ≡ p .width → (s .height ≡ p .height → ⊥) → true ≡ not (same s q)
+  unfolding same
+  other-height w h = rw (← read, eq-eqb (s .width) (p .width) w, ne-eqb (s .height) (p .height) h)
+
+  pub other-stage : s .width ≡ p .width → s .height ≡ p .height → not (eqb (s .stage) (p .stage)) ≡ not (same s q)
+  unfolding same
+  other-stage w h = rw (← read, eq-eqb (s .width) (p .width) w, eq-eqb (s .height) (p .height) h)
+
+-- the plate that a line shows is another than the model's, by the words of the plate
+pub shown-other :
+    (l : Listing) {plates : List ℕ} (here : PlanLine) (r : Counted) {o : Bool}
+    → Holds plates (plateWords (l .plates))
+    → LineOf here r
+    → o ≡ not (same (plateShown (here .shown)) (plateRead plates (here .plate .0)))
+    → o ≡ misshown l r
+unfolding misshown plateAt
+shown-other l here r h line e = e ∙ rw (line .shown-is, line .plate-is, held-plate (l .plates) h (here .plate .0))
+
+-- `c` is the cut that line r names, `o` whether it shows another plate, `p′` what is kept after it
+module _ (l : Listing) (first line c : ℕ) (o : Bool) (rs : List Counted) (r : Counted) (p p′ : PlanLines) (counts : List ℕ) (here : first + length rs ≡ line) (from : 0 < line) (cut : c ≡ namedCut l r) (other : o ≡ misshown l r) (unnamed : p′ .unnamed ≡ firstLine (p .unnamed) (eqb c 0) line) (shows : p′ .misshown ≡ firstLine (p .misshown) o line) (kept : PlanKept l first rs p counts) where
   named : cutsNamed l first (rs ++ r ∷ []) ≡ atLine 8 (p′ .unnamed)
-  named = rw (unnamed, cut) (named-more l first rs r (p .unnamed) line here from (kept .unnamed-is))
+  unfolding cutsNamed
+  named = rw (unnamed, cut) (first-more 8 (λ s. eqb (namedCut l s) 0) first rs r (p .unnamed) line here from (kept .unnamed-is))
+
+  shown : platesShown l first (rs ++ r ∷ []) ≡ atLine 20 (p′ .misshown)
+  unfolding platesShown
+  shown = rw (shows, other) (first-more 20 (misshown l) first rs r (p .misshown) line here from (kept .misshown-is))
 
   -- a line has fallen before
   pub line-stays : (p .fallen ≡ 0 → ⊥) → p′ .fallen ≡ p .fallen → p′ .last .0 ≡ p .last .0 → PlanKept l first (rs ++ r ∷ []) p′ counts
@@ -54,6 +88,7 @@ module _ (l : Listing) (first line c : ℕ) (rs : List Counted) (r : Counted) (p
       let e = risen-stays l 0 first rs (r ∷ []) v in
       record {
         unnamed-is = named;
+        misshown-is = shown;
         fallen-is = rw f (rising-stays l 0 first rs (r ∷ []) v ∙ sym (at-refused 9 (p .fallen) h));
         last-is = rw (e, k) (kept .last-is);
         counts-are = rw e (kept .counts-are);
@@ -76,6 +111,7 @@ module _ (l : Listing) (first line c : ℕ) (rs : List Counted) (r : Counted) (p
         let e : risen l 0 (rs ++ r ∷ []) ≡ risen l 0 rs = risen-falls l 0 first rs r rises t ∙ sym all in
         record {
           unnamed-is = named;
+          misshown-is = shown;
           fallen-is = rising-next l 0 first rs r rises ∙ rw (t, here, f) (refused-line 9 line from);
           last-is = rw (e, k) (kept .last-is);
           counts-are = rw e (kept .counts-are);
@@ -90,13 +126,28 @@ module _ (l : Listing) (first line c : ℕ) (rs : List Counted) (r : Counted) (p
         let held : Holds counts (planCounts l rs) = rw all at (kept .counts-are) in
         record {
           unnamed-is = named;
+          misshown-is = shown;
           fallen-is = rw f v;
           last-is = rw (e, last-next, k) cut;
           counts-are = rw (e, counts-next l first c rs r rises (omega (arith, last)) (sym cut) m, q) (held-set (c - 1) n (omega (arith, counts-length l rs)) held);
         }
 
 -- no line yet: what is kept of none, over a buffer of zeros
-pub no-lines : (l : Listing) (first : ℕ) (p : PlanLines) {counts : List ℕ} → length (l .cuts) ≤ length counts → p .unnamed ≡ 0 → p .fallen ≡ 0 → p .last .0 ≡ 0 → Holds counts [] → PlanKept l first [] p counts
-unfolding cutsNamed lowest cutsRising risen lastCut
-no-lines l first p {counts} m u f k h =
-    record { unnamed-is = rw u refl; fallen-is = rw f refl; last-is = k; counts-are = held-zeros (length (l .cuts)) (planCounts l []) (counts-zero l) m h }
+pub no-lines :
+    (l : Listing) (first : ℕ) (p : PlanLines) {counts : List ℕ}
+    → length (l .cuts) ≤ length counts
+    → p .unnamed ≡ 0
+    → p .misshown ≡ 0
+    → p .fallen ≡ 0
+    → p .last .0 ≡ 0
+    → Holds counts []
+    → PlanKept l first [] p counts
+unfolding cutsNamed platesShown lowest cutsRising risen lastCut
+no-lines l first p {counts} m u s f k h =
+    record {
+      unnamed-is = rw u refl;
+      misshown-is = rw s refl;
+      fallen-is = rw f refl;
+      last-is = k;
+      counts-are = held-zeros (length (l .cuts)) (planCounts l []) (counts-zero l) m h;
+    }

@@ -18,7 +18,7 @@ use Rattle.layouts.specs.Unfold.{unfolded}
 use Rattle.layouts.specs.UnfoldCall.{unfoldingOf}
 use Rattle.columns.specs.Line.{lineOf}
 use Rattle.texts.specs.JobLines.{Place, bodyLine}
-use Rattle.texts.specs.SawText.{Counted, PriceLines, Saw, sawOf, cutsNamed, cutsRising, planCounts, priceLinesRow, placementLine, sawLines}
+use Rattle.texts.specs.SawText.{Counted, PriceLines, Saw, sawOf, cutsNamed, platesShown, cutsRising, planCounts, priceLinesRow, placementLine, sawLines}
 use Rattle.texts.specs.Printed.{sawRun}
 use Rattle.texts.proofs.CallRows.{counts-length}
 use Rattle.texts_writing.specs.Wrote.{Wrote, summaryLine, sumGiven, denominatorGiven}
@@ -82,10 +82,13 @@ rows-parts s =
     let job = jobOf (s .job) in
     let l = listingOf job in
     let named = cutsNamed l (bodyLine (s .job)) (s .plan) in
+    let shown = platesShown l (bodyLine (s .job)) (s .plan) in
     let rising = cutsRising l 0 (bodyLine (s .job)) (s .plan) in
     let plan = planRow job l (planCounts l (s .plan)) in
     let prices = priceLinesRow job l (s .prices) in
-    sym (then-assoc named (rising then plan) prices ∙ ap (λ (v : Verdict). named then v) (then-assoc rising plan prices))
+    sym
+    (then-assoc named (shown then rising then plan) prices
+    ∙ ap (λ (v : Verdict). named then v) (then-assoc shown (rising then plan) prices ∙ ap (λ (v : Verdict). shown then v) (then-assoc rising plan prices)))
 
 module _ (place : Place) (ws : List ℕ) (rs : List Counted) (o : Option PriceLines) where
   abbrev s : Saw

@@ -18,7 +18,7 @@ use Rattle.listing_call.specs.declared.call.Listed.the-variants.{Done, Refused}
 use Rattle.listing.proofs.CodeCuts.{length-cutsFrom}
 use Rattle.texts.specs.Shape.{jobLine, itemLine, planLine, numbersRow}
 use Rattle.texts.specs.JobLines.{first, types, body, typesOf, bodyLine}
-use Rattle.texts.specs.SawText.{Counted, PriceLines, Saw, sawAdmits, sawAfter}
+use Rattle.texts.specs.SawText.{Counted, PriceLines, Saw, countedIn, sawAdmits, sawAfter}
 use Rattle.texts.proofs.ShapeLaws.{shape-groups}
 use Rattle.texts_reading.specs.declared.text.Place.{Place}
 use Rattle.texts_reading.specs.declared.text.Place.the-variants.{Types, Body}
@@ -29,11 +29,10 @@ use Rattle.texts_reading.proofs.CodeJobLines.{passed, of-shape}
 use Rattle.texts_reading.proofs.JobKept.{held-take}
 use Rattle.saw_text_body.specs.declared.plan_lines.PlanLines.{PlanLines}
 use Rattle.saw_text_body.specs.declared.price_lines.PriceLines.{PriceLines as CodePrices}
-use Rattle.saw_text_body.specs.PlanRead.{counted}
 use Rattle.saw_text_body.specs.ModelRead.{ModelKept}
 use Rattle.saw_text_body.proofs.PlanSteps.{no-lines}
 use Rattle.saw_text_body.proofs.ModelLaws.{modelled}
-use Rattle.saw_text_body.proofs.BodyRows.{admits-first, admits-item, row-plan, after-first, after-some, after-all, after-plan, PlanNumbers}
+use Rattle.saw_text_body.proofs.BodyRows.{admits-first, admits-item, row-plan, after-first, after-some, after-all, after-plan}
 use Rattle.saw_text_lines.specs.declared.held.SawHeld.{SawHeld}
 use Rattle.saw_text_lines.specs.SawKept.{Lent, lent, WholeJob, JobTo, NoPlan, Unlisted, PlanHeld, ListedJob, NoPrices, HeldAs, TakenAs}
 
@@ -103,7 +102,7 @@ plan-none :
 plan-none ws plates cuts counts (Done m k) p c n kept without held =
     let ready = modelled ws plates cuts (m .0) (k .0) c (kept .some-plate) (kept .says) (kept .cuts-are) .is-ready in
     let size : length (listingOf (jobOf ws) .cuts) ≡ k .0 = ap length (ready .listed) ∙ length-cutsFrom (k .0) 0 cuts in
-    no-lines (listingOf (jobOf ws)) (bodyLine ws) p (omega (arith, size, ready .lent .few-cuts)) (without .unnamed) (without .fallen) (without .last) held
+    no-lines (listingOf (jobOf ws)) (bodyLine ws) p (omega (arith, size, ready .lent .few-cuts)) (without .unnamed) (without .misshown) (without .fallen) (without .last) held
 plan-none ws plates cuts counts (Refused number place) p c n kept without held = (without, held)
 
 module _ (s : Saw) (lines r : ℕ) (i : ItemType) (ns job job′ plates cuts counts prices : List ℕ) (h : SawHeld) (e : s .place ≡ types (i .0)) (read : ItemRead (i .0) ns job job′ r) (kept : HeldAs s lines h (lent job plates cuts counts prices)) where
@@ -221,19 +220,19 @@ module _ (s : Saw) (lines r : ℕ) (ws ns job plates cuts counts prices : List �
   pub plan-taken :
       (p : PlanLines) (counts′ : List ℕ)
       → r ≡ 0
-      → PlanNumbers ws ns
-      → ((ws plates : List ℕ) (rs : List Counted) → ModelKept ws (h .model) plates cuts → bodyLine ws + length rs ≡ suc lines → PlanHeld ws (h .model) rs (h .plan) counts → PlanHeld ws (h .model) (rs ++ counted (getD ns 1 0) (getD ns 2 0) (getD ns 4 0) (getD ns 3 0) ∷ []) p counts′)
+      → getD ns 0 0 ≡ 3
+      → ((ws : List ℕ) (rs : List Counted) → ModelKept ws (h .model) plates cuts → bodyLine ws + length rs ≡ suc lines → PlanHeld ws (h .model) rs (h .plan) counts → PlanHeld ws (h .model) (rs ++ countedIn ns ∷ []) p counts′)
       → TakenAs s lines ns (record { refusal = 0; place = Body; held = record { model = h .model; plan = p; prices = h .prices } }) (lent job plates cuts counts′ prices)
-  plan-taken p counts′ z numbers more =
+  plan-taken p counts′ z kind more =
       let h′ : SawHeld = record { model = h .model; plan = p; prices = h .prices } in
       let listed : ListedJob h (s .job) (s .plan) (lent job plates cuts counts prices) = rw e at (kept .of-job) in
       let here : bodyLine (s .job) + length (s .plan) ≡ suc lines = rw e at (kept .of-lines) in
-      let after = after-plan s ns e (numbers .kind) in
+      let after = after-plan s ns e kind in
       taken-admitted s lines r ns Body h′ (lent job plates cuts counts′ prices) plan-row z (rw after)
       (rw after
       (record {
         words = kept .words;
-        of-job = record { whole = listed .whole; model = listed .model; plan = more (s .job) plates (s .plan) (listed .model) here (listed .plan) };
+        of-job = record { whole = listed .whole; model = listed .model; plan = more (s .job) (s .plan) (listed .model) here (listed .plan) };
         of-prices = no-prices-again (rw e at (kept .of-prices));
         of-lines = rw length-append (omega (arith, here));
       }))

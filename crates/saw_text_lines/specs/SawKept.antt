@@ -63,6 +63,7 @@ pub record JobTo (i : ℕ) (ws : List ℕ) : Type 0 where
 -- no line 3 yet
 pub record NoPlan (p : PlanLines) : Type 0 where
   pub unnamed : p .unnamed ≡ 0
+  pub misshown : p .misshown ≡ 0
   pub fallen : p .fallen ≡ 0
   pub last : p .last .0 ≡ 0
 

@@ -1,11 +1,12 @@
 // What is kept of a saw text beside where it stands, and what each line makes of it.
 ghost use mathlib.Core.Path.{_≡_};
 ghost use mathlib.Core.List.{List, [], _∷_, _++_};
-ghost use Prim.Native.Nat.{ℕ, suc, _+_, _*_, _≤_, _<_};
+ghost use Prim.Native.Nat.{ℕ, suc, _+_, _≤_, _<_};
 ghost use lib.ListN.{length, getD};
-ghost use Rattle.job.specs.Sizes.{maxTypes, maxResiduals, wordsOfHead, jobSize, cutsSize, countsSize, pricesSize};
+ghost use Rattle.job.specs.Sizes.{maxTypes, maxResiduals, wordsOfHead, jobSize, platesSize, cutsSize, countsSize, pricesSize};
 ghost use Rattle.texts.specs.JobLines.{first, types, body, itemPrices, platePrices, typesOf, bodyLine};
-ghost use Rattle.texts.specs.SawText.{Counted, Saw, positionOn};
+ghost use Rattle.texts.specs.SawText.{Counted, Saw, countedIn};
+ghost use Rattle.saw_text_body.specs.PlanRead.{PlanNumbers, LineOf};
 ghost use Rattle.saw_text_body.specs.ModelRead.{ModelKept};
 ghost use Rattle.saw_text_lines.specs.SawKept.{lent, Room, PlanHeld, HeldAs, TakenAs};
 use job::counters::ItemPosition;
@@ -15,7 +16,9 @@ use job::head::head_of;
 use job::sizes::MAX_CUTS;
 use listing_call::call::Listed;
 use saw_text_body::model::list_job;
+use saw_text_body::plan_lines::PlanLine;
 use saw_text_body::plan_lines::PlanLines;
+use saw_text_body::plan_lines::Shown;
 use saw_text_body::price_lines::PriceLines;
 use saw_text_body::price_lines::after_item_price;
 use saw_text_body::price_lines::after_plate_price;
@@ -97,19 +100,19 @@ pub fn take_item(
     }
 }
 
-// A line 3 of plate type j, position q and a count, by the model: passed over where the job is refused.
+// A line 3, by the model: passed over where the job is refused.
 fn count_line(
     model: Listed,
     plan: PlanLines,
     line: u32,
-    j: PlateType,
-    q: ItemPosition,
-    count: u16,
+    here: PlanLine,
+    plates: &[u16],
     cuts: &[u16],
     counts: &mut [u16],
 ) -> PlanLines
-    requires { ⌜ (0 < line) × ((cutsSize ≤ length (now cuts)) × (countsSize ≤ length (now counts))) ⌝ }
-    ensures { λ p. ⌜ ((ws plates : List ℕ) (rs : List Counted) (r : Counted) → ModelKept ws model plates (now (cuts .entry)) → bodyLine ws + length rs ≡ line → r .plate ≡ j .0 → positionOn r ≡ q .0 → r .count ≡ count → PlanHeld ws model rs plan (now (counts .entry)) → PlanHeld ws model (rs ++ r ∷ []) p (now (counts .exit))) ⌝ }
+    requires { ⌜ (0 < line) × ((platesSize ≤ length (now plates)) × ((cutsSize ≤ length (now cuts)) × (countsSize ≤ length (now counts)))) ⌝ }
+    requires { ⌜ here .plate .0 ≤ maxResiduals ⌝ }
+    ensures { λ p. ⌜ ((ws : List ℕ) (rs : List Counted) (r : Counted) → ModelKept ws model (now (plates .entry)) (now (cuts .entry)) → bodyLine ws + length rs ≡ line → LineOf here r → PlanHeld ws model rs plan (now (counts .entry)) → PlanHeld ws model (rs ++ r ∷ []) p (now (counts .exit))) ⌝ }
 {
     match model {
         Listed::Refused(_, _) => plan,
@@ -117,18 +120,26 @@ fn count_line(
             if MAX_CUTS < k.0 {
                 return plan;
             }
-            plan.more(line, j, q, count, cuts, k, counts)
+            plan.more(line, here, plates, cuts, k, counts)
         }
     }
 }
 
-// The position that a line 3 names: twice the type plus the turn, its last number.
-fn position_on(numbers: &[u32]) -> ItemPosition
-    requires { ⌜ length (now numbers) ≡ 5 ⌝ }
-    requires { ⌜ (getD (now numbers) 2 0 ≤ maxTypes) × (getD (now numbers) 4 0 ≤ 1) ⌝ }
-    ensures { λ q. ⌜ q .0 ≡ 2 * getD (now (numbers .entry)) 2 0 + getD (now (numbers .entry)) 4 0 ⌝ }
+// The numbers of a line 3: its position is twice the type plus the turn, its last number; the plate is shown after the count.
+fn plan_numbers(numbers: &[u32]) -> PlanLine
+    requires { ⌜ PlanNumbers maxTypes (now numbers) ⌝ }
+    ensures { λ r. ⌜ LineOf r (countedIn (now (numbers .entry))) ⌝ }
 {
-    ItemPosition((2 * numbers[2] + numbers[4]) as u16)
+    PlanLine {
+        plate: PlateType(numbers[1] as u16),
+        item: ItemPosition((2 * numbers[2] + numbers[7]) as u16),
+        count: numbers[3] as u16,
+        shown: Shown {
+            width: numbers[4],
+            height: numbers[5],
+            stage: numbers[6],
+        },
+    }
 }
 
 // A line of the body that is not of kind 4: a line 3, of the job of these words.
@@ -137,12 +148,13 @@ pub fn take_plan(
     line: u32,
     numbers: &[u32],
     job: &[u16],
+    plates: &[u16],
     cuts: &[u16],
     counts: &mut [u16],
 ) -> Taken
-    requires { ⌜ (0 < line) × ((cutsSize ≤ length (now cuts)) × (countsSize ≤ length (now counts))) ⌝ }
+    requires { ⌜ (0 < line) × ((platesSize ≤ length (now plates)) × ((cutsSize ≤ length (now cuts)) × (countsSize ≤ length (now counts)))) ⌝ }
     requires { ⌜ (wordsOfHead ≤ length (now job)) × (typesOf (now job) ≤ maxTypes) ⌝ }
-    ensures { λ t. ⌜ ((s : Saw) (lines : ℕ) (buffer plates prices : List ℕ) → s .place ≡ body → (getD (now (numbers .entry)) 0 0 ≡ 4 → ⊥) → suc lines ≡ line → now (job .entry) ≡ s .job → HeldAs s lines held (lent buffer plates (now (cuts .entry)) (now (counts .entry)) prices) → TakenAs s lines (now (numbers .entry)) t (lent buffer plates (now (cuts .entry)) (now (counts .exit)) prices)) ⌝ }
+    ensures { λ t. ⌜ ((s : Saw) (lines : ℕ) (buffer prices : List ℕ) → s .place ≡ body → (getD (now (numbers .entry)) 0 0 ≡ 4 → ⊥) → suc lines ≡ line → now (job .entry) ≡ s .job → HeldAs s lines held (lent buffer (now (plates .entry)) (now (cuts .entry)) (now (counts .entry)) prices) → TakenAs s lines (now (numbers .entry)) t (lent buffer (now (plates .entry)) (now (cuts .entry)) (now (counts .exit)) prices)) ⌝ }
 {
     let refusal = plan_line(numbers, job);
     if refusal != 0 {
@@ -155,10 +167,8 @@ pub fn take_plan(
     let model = held.model;
     let before = held.plan;
     let prices = held.prices;
-    let j = PlateType(numbers[1] as u16);
-    let q = position_on(numbers);
-    let count = numbers[3] as u16;
-    let plan = count_line(model, before, line, j, q, count, cuts, counts);
+    let here = plan_numbers(numbers);
+    let plan = count_line(model, before, line, here, plates, cuts, counts);
     Taken {
         refusal: 0,
         place: Place::Body,

@@ -1,11 +1,9 @@
 // The numbers of a line of a saw text, by what comes next.
 ghost use mathlib.Core.Path.{_≡_};
 ghost use mathlib.Core.Bool.{true};
-ghost use mathlib.Core.List.{List};
-ghost use Prim.Native.Nat.{ℕ, suc, _≤_, _<_};
+ghost use Prim.Native.Nat.{ℕ, suc, _<_};
 ghost use lib.Dec.{eqb};
-ghost use lib.ListN.{length, getD};
-ghost use Rattle.job.specs.Sizes.{longestJob, cutsSize, countsSize, pricesSize};
+ghost use lib.ListN.{getD};
 ghost use Rattle.texts.specs.JobLines.{body};
 ghost use Rattle.texts.specs.SawText.{Saw};
 ghost use Rattle.texts_reading.specs.Standing.{placeOf};
@@ -44,13 +42,13 @@ fn take_body(
     line: u32,
     numbers: &[u32],
     job: &[u16],
+    plates: &[u16],
     cuts: &[u16],
     counts: &mut [u16],
     prices: &mut [u16],
 ) -> Taken
-    requires { ⌜ (0 < line) × ((cutsSize ≤ length (now cuts)) × ((countsSize ≤ length (now counts)) × (pricesSize ≤ length (now prices)))) ⌝ }
-    requires { ⌜ longestJob ≤ length (now job) ⌝ }
-    ensures { λ t. ⌜ ((s : Saw) (lines : ℕ) (plates : List ℕ) → s .place ≡ body → suc lines ≡ line → HeldAs s lines held (lent (now (job .entry)) plates (now (cuts .entry)) (now (counts .entry)) (now (prices .entry))) → TakenAs s lines (now (numbers .entry)) t (lent (now (job .entry)) plates (now (cuts .entry)) (now (counts .exit)) (now (prices .exit)))) ⌝ }
+    requires { ⌜ (0 < line) × Room (lent (now job) (now plates) (now cuts) (now counts) (now prices)) ⌝ }
+    ensures { λ t. ⌜ ((s : Saw) (lines : ℕ) → s .place ≡ body → suc lines ≡ line → HeldAs s lines held (lent (now (job .entry)) (now (plates .entry)) (now (cuts .entry)) (now (counts .entry)) (now (prices .entry))) → TakenAs s lines (now (numbers .entry)) t (lent (now (job .entry)) (now (plates .entry)) (now (cuts .entry)) (now (counts .exit)) (now (prices .exit)))) ⌝ }
 {
     if begins_prices(numbers) {
         return take_prices(held, numbers, prices);
@@ -65,7 +63,7 @@ fn take_body(
         };
     }
     let words = HEAD_WORDS + ITEM_WORDS * (n.0 as usize);
-    take_plan(held, line, numbers, &job[..words], cuts, counts)
+    take_plan(held, line, numbers, &job[..words], plates, cuts, counts)
 }
 
 // Whether the running number of what comes next is within its limits, where line 4's n is `types`.
@@ -101,7 +99,7 @@ pub fn take_numbers(
     match place {
         Place::First => take_first(held, numbers, job),
         Place::Types(i) => take_item(held, i, numbers, job, plates, cuts),
-        Place::Body => take_body(held, line, numbers, job, cuts, counts, prices),
+        Place::Body => take_body(held, line, numbers, job, plates, cuts, counts, prices),
         Place::ItemPrices(i) => take_item_price(held, i, numbers, prices),
         Place::PlatePrices(j) => take_plate_price(held, j, numbers, prices),
         Place::Done => Taken {

@@ -87,11 +87,11 @@ line-of number (suc line) = refl
 first-same : (number m n : ℕ) {v : Verdict} → v ≡ atLine number m → v ≡ atLine number n → m ≡ n
 first-same number m n e f = sym (line-of number m) ∙ ap lineOf (sym e ∙ f) ∙ line-of number n
 
-plan-is : (p p′ : PlanLines) → p .unnamed ≡ p′ .unnamed → p .fallen ≡ p′ .fallen → p .last .0 ≡ p′ .last .0 → p ≡ p′
-plan-is p p′ u f l = λ i. record { unnamed = u i; fallen = f i; last = record { 0 = l i } }
+plan-is : (p p′ : PlanLines) → p .unnamed ≡ p′ .unnamed → p .misshown ≡ p′ .misshown → p .fallen ≡ p′ .fallen → p .last .0 ≡ p′ .last .0 → p ≡ p′
+plan-is p p′ u s f l = λ i. record { unnamed = u i; misshown = s i; fallen = f i; last = record { 0 = l i } }
 
 no-plan-same : (p p′ : PlanLines) → NoPlan p → NoPlan p′ → p ≡ p′
-no-plan-same p p′ n n′ = plan-is p p′ (n .unnamed ∙ sym (n′ .unnamed)) (n .fallen ∙ sym (n′ .fallen)) (n .last ∙ sym (n′ .last))
+no-plan-same p p′ n n′ = plan-is p p′ (n .unnamed ∙ sym (n′ .unnamed)) (n .misshown ∙ sym (n′ .misshown)) (n .fallen ∙ sym (n′ .fallen)) (n .last ∙ sym (n′ .last))
 
 plan-same :
     (ws : List ℕ) (a : Listed) (rs : List Counted) (p p′ : PlanLines) (counts counts′ : List ℕ)
@@ -100,7 +100,7 @@ plan-same :
     → length counts ≡ length counts′
     → (p ≡ p′) × (counts ≡ counts′)
 plan-same ws (Done m k) rs p p′ counts counts′ h h′ l =
-    (plan-is p p′ (first-same 8 _ _ (h .unnamed-is) (h′ .unnamed-is)) (first-same 9 _ _ (h .fallen-is) (h′ .fallen-is)) (h .last-is ∙ sym (h′ .last-is)), held-same counts counts′ _ (h .counts-are) (h′ .counts-are) l)
+    (plan-is p p′ (first-same 8 _ _ (h .unnamed-is) (h′ .unnamed-is)) (first-same 20 _ _ (h .misshown-is) (h′ .misshown-is)) (first-same 9 _ _ (h .fallen-is) (h′ .fallen-is)) (h .last-is ∙ sym (h′ .last-is)), held-same counts counts′ _ (h .counts-are) (h′ .counts-are) l)
 plan-same ws (Refused number place) rs p p′ counts counts′ h h′ l = (no-plan-same p p′ (h .0) (h′ .0), held-same counts counts′ [] (h .1) (h′ .1) l)
 
 -- ---- the prices

@@ -16,7 +16,7 @@ use Rattle.plan_test.specs.declared.plan_row.PlanAnswer.the-variants.{Accepted,
 use Rattle.plan_test.specs.PlanSays.{saysOf}
 use Rattle.unfold_call.proofs.CodeEnding.{given-one}
 use Rattle.texts.specs.Widths.{placeLimit}
-use Rattle.texts.specs.SawText.{Counted, cutsNamed, cutsRising, planCounts}
+use Rattle.texts.specs.SawText.{Counted, cutsNamed, platesShown, cutsRising, planCounts}
 use Rattle.texts.proofs.Places.{Near, near-place, near-plan}
 use Rattle.texts.proofs.CallRows.{counts-length, plan-filled, counts-filled}
 use Rattle.saw_text_body.specs.declared.plan_lines.PlanLines.{PlanLines}
@@ -43,7 +43,8 @@ pub counts-whole :
     → counts ≡ filled (length counts) (planCounts l rs)
 unfolding linesRow
 counts-whole job l first rs {counts = counts} kept h =
-    let rest = then-second (cutsNamed l first rs) (cutsRising l 0 first rs then planRow job l (planCounts l rs)) h in
+    let shown = then-second (cutsNamed l first rs) (platesShown l first rs then cutsRising l 0 first rs then planRow job l (planCounts l rs)) h in
+    let rest = then-second (platesShown l first rs) (cutsRising l 0 first rs then planRow job l (planCounts l rs)) shown in
     let rise = then-first (cutsRising l 0 first rs) (planRow job l (planCounts l rs)) rest in
     kept .counts-are .words ∙ ap (λ (ss : List Counted). filled (length counts) (planCounts l ss)) (risen-all l 0 first rs rise)
 
@@ -69,21 +70,34 @@ module _ (l : Listing) (ws counts : List ℕ) (p : PlanLines) where
         tested = tt;
       }
 
-  -- 9
-  pub told-fallen : p .unnamed ≡ 0 → (p .fallen ≡ 0 → ⊥) → p .fallen < placeLimit → PlanTold l ws counts p (Refused 9 (p .fallen))
+  -- 20
+  pub told-misshown : p .unnamed ≡ 0 → (p .misshown ≡ 0 → ⊥) → p .misshown < placeLimit → PlanTold l ws counts p (Refused 20 (p .misshown))
   unfolding linesRow
-  told-fallen z h s =
+  told-misshown z h s =
       record {
-        says = λ first rs kept. rw (kept .unnamed-is, no-line 8 (p .unnamed) z, kept .fallen-is, at-refused 9 (p .fallen) h);
+        says = λ first rs kept. rw (kept .unnamed-is, no-line 8 (p .unnamed) z, kept .misshown-is, at-refused 20 (p .misshown) h);
         fits = λ first rs kept. s;
         tested = tt;
       }
 
-  module _ (unnamed : p .unnamed ≡ 0) (fallen : p .fallen ≡ 0) where
-    -- every line names a cut after the last, and the counts are those of all lines
+  -- 9
+  pub told-fallen : p .unnamed ≡ 0 → p .misshown ≡ 0 → (p .fallen ≡ 0 → ⊥) → p .fallen < placeLimit → PlanTold l ws counts p (Refused 9 (p .fallen))
+  unfolding linesRow
+  told-fallen z y h s =
+      record {
+        says = λ first rs kept. rw (kept .unnamed-is, no-line 8 (p .unnamed) z, kept .misshown-is, no-line 20 (p .misshown) y, kept .fallen-is, at-refused 9 (p .fallen) h);
+        fits = λ first rs kept. s;
+        tested = tt;
+      }
+
+  module _ (unnamed : p .unnamed ≡ 0) (misshown : p .misshown ≡ 0) (fallen : p .fallen ≡ 0) where
+    -- every line names a cut after the last and shows its plate, and the counts are those of all lines
     module _ (first : ℕ) (rs : List Counted) (kept : PlanKept l first rs p counts) where
       all-named : cutsNamed l first rs ≡ pass
       all-named = kept .unnamed-is ∙ no-line 8 (p .unnamed) unnamed
+
+      all-shown : platesShown l first rs ≡ pass
+      all-shown = kept .misshown-is ∙ no-line 20 (p .misshown) misshown
 
       all-rise : cutsRising l 0 first rs ≡ pass
       all-rise = kept .fallen-is ∙ no-line 9 (p .fallen) fallen
@@ -98,7 +112,7 @@ module _ (l : Listing) (ws counts : List ℕ) (p : PlanLines) where
           let c : countsRow l counts ≡ pass = ap (countsRow l) counts-kept ∙ counts-filled (length counts) l (planCounts l rs) z in
           let r : planRow (jobOf ws) l counts ≡ planRow (jobOf ws) l (planCounts l rs) =
           ap (planRow (jobOf ws) l) counts-kept ∙ plan-filled (length counts) (jobOf ws) l (planCounts l rs) z in
-          rw (all-named, all-rise, c, r)
+          rw (all-named, all-shown, all-rise, c, r)
 
       boards-kept : boards l counts ≡ boards l (planCounts l rs)
       boards-kept = ap (boards l) counts-kept ∙ boards-filled (length counts) (jobOf ws) l (planCounts l rs) (counts-length l rs)

@@ -17,14 +17,18 @@ use Rattle.plan_test.specs.declared.plan_row.PlanAnswer.the-variants.{Accepted,
 use Rattle.plan_test.specs.PlanSays.{saysOf}
 use Rattle.texts.specs.Widths.{placeLimit}
 use Rattle.texts.specs.JobLines.{bodyLine}
-use Rattle.texts.specs.SawText.{Counted, PriceLines, Saw, cutsNamed, cutsRising, planCounts, priceLinesRow}
+use Rattle.texts.specs.SawText.{Counted, PriceLines, Saw, cutsNamed, platesShown, cutsRising, planCounts, priceLinesRow}
 use Rattle.saw_text_body.specs.declared.plan_lines.PlanLines.{PlanLines}
 use Rattle.saw_text_body.specs.declared.price_lines.PriceLines.{PriceLines as CodePrices}
 use Rattle.saw_text_body.specs.PlanRead.{PlanKept}
 
--- the plan row of lines 3, the first of which is line `first`: 8, 9, then 10, 11 and 12 of their counts
+-- the plan row of lines 3, the first of which is line `first`: 8, request Five's 20, 9, then 10, 11 and 12 of their counts
 unfoldable pub linesRow : Job → Listing → ℕ → List Counted → Verdict
-linesRow job l first rs = cutsNamed l first rs then cutsRising l 0 first rs then planRow job l (planCounts l rs)
+linesRow job l first rs =
+    cutsNamed l first rs
+    then platesShown l first rs
+    then cutsRising l 0 first rs
+    then planRow job l (planCounts l rs)
 
 -- the rows of a saw text after the job and the model
 unfoldable pub listedRows : Saw → Verdict
@@ -32,6 +36,7 @@ listedRows s =
     let job = jobOf (s .job) in
     let l = listingOf job in
     cutsNamed l (bodyLine (s .job)) (s .plan)
+    then platesShown l (bodyLine (s .job)) (s .plan)
     then cutsRising l 0 (bodyLine (s .job)) (s .plan)
     then planRow job l (planCounts l (s .plan))
     then priceLinesRow job l (s .prices)

@@ -1,4 +1,4 @@
-// The plan row of a saw text: 8 and 9 of its lines 3, then 10, 11 and 12 of the counts that they give.
+// The plan row of a saw text: 8, 20 and 9 of its lines 3, then 10, 11 and 12 of the counts that they give.
 ghost use mathlib.Core.Path.{_≡_};
 ghost use Prim.Native.Nat.{_≤_};
 ghost use lib.ListN.{length};
@@ -12,7 +12,8 @@ use plan_test::plan_row::PlanAnswer;
 use plan_test::plan_row::plan_rows;
 use saw_text_body::plan_lines::PlanLines;
 
-// The plan row, whole: 8 a line that names no cut, 9 a line whose cut is not after the last, each naming the line; then the test of the counts.
+// The plan row, whole: 8 a line that names no cut, 20 a line that shows another plate, 9 a line whose cut is not after the last, each over all lines and
+// naming the line; then the test of the counts.
 pub fn plan_row_of_text(
     plan: PlanLines,
     job: &[u16],
@@ -28,6 +29,9 @@ pub fn plan_row_of_text(
 {
     if plan.unnamed != 0 {
         return PlanAnswer::Refused(8, plan.unnamed as usize);
+    }
+    if plan.misshown != 0 {
+        return PlanAnswer::Refused(20, plan.misshown as usize);
     }
     if plan.fallen != 0 {
         return PlanAnswer::Refused(9, plan.fallen as usize);

@@ -25,7 +25,7 @@ use Rattle.plan.specs.PriceCall.{priceVerdict}
 use Rattle.layouts.specs.Lines.{rowsOf, layoutWords}
 use Rattle.layouts.specs.LayoutsRow.{layoutsRow}
 use Rattle.layouts.specs.FoldCall.{foldVerdict}
-use Rattle.texts.specs.SawText.{Counted, PriceLines, Saw, countsFrom, planCounts, cutsNamed, cutsRising, priceLinesRow, sawRows}
+use Rattle.texts.specs.SawText.{Counted, PriceLines, Saw, countsFrom, planCounts, cutsNamed, platesShown, cutsRising, priceLinesRow, sawRows}
 use Rattle.texts.specs.JobLines.{bodyLine}
 use Rattle.texts.specs.Held.{PricesHeld, SawWhole}
 
@@ -139,6 +139,7 @@ pub record Accepted (s : Saw) : Type 0 where
   pub admitted : admission (jobOf (s .job)) ≡ pass
   pub listed : modelRow (jobOf (s .job)) ≡ pass
   pub named : cutsNamed (listingOf (jobOf (s .job))) (bodyLine (s .job)) (s .plan) ≡ pass
+  pub shown : platesShown (listingOf (jobOf (s .job))) (bodyLine (s .job)) (s .plan) ≡ pass
   pub rising : cutsRising (listingOf (jobOf (s .job))) 0 (bodyLine (s .job)) (s .plan) ≡ pass
   pub plan : planRow (jobOf (s .job)) (listingOf (jobOf (s .job))) (planCounts (listingOf (jobOf (s .job))) (s .plan)) ≡ pass
   pub prices : priceLinesRow (jobOf (s .job)) (listingOf (jobOf (s .job))) (s .prices) ≡ pass
@@ -151,9 +152,10 @@ accepted-rows s h =
     let a = then-pass (admission (jobOf (s .job))) _ h in
     let b = then-pass (modelRow (jobOf (s .job))) _ (a .1) in
     let c = then-pass (cutsNamed l (bodyLine (s .job)) (s .plan)) _ (b .1) in
-    let d = then-pass (cutsRising l 0 (bodyLine (s .job)) (s .plan)) _ (c .1) in
-    let e = then-pass (planRow (jobOf (s .job)) l (planCounts l (s .plan))) _ (d .1) in
-    record { admitted = a .0; listed = b .0; named = c .0; rising = d .0; plan = e .0; prices = e .1 }
+    let d = then-pass (platesShown l (bodyLine (s .job)) (s .plan)) _ (c .1) in
+    let e = then-pass (cutsRising l 0 (bodyLine (s .job)) (s .plan)) _ (d .1) in
+    let f = then-pass (planRow (jobOf (s .job)) l (planCounts l (s .plan))) _ (e .1) in
+    record { admitted = a .0; listed = b .0; named = c .0; shown = d .0; rising = e .0; plan = f .0; prices = f .1 }
 
 -- a filled buffer has its full size
 pub filled-long : (size : ℕ) (ns : List ℕ) → size ≤ length (filled size ns)

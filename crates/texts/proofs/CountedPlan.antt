@@ -16,14 +16,18 @@ use Rattle.job.specs.Verdict.{pass, refuse, lowest}
 use Rattle.job.specs.Job.{typeOf, turnOf, permitted, jobOf}
 use Rattle.job.proofs.Positions.{type-turn, turn-small, type-of, turn-of}
 use Rattle.job.proofs.Verdicts.{pass-not-refuse}
-use Rattle.listing.specs.Listing.{Cut, Listing, noCut, cutAt}
+use Rattle.listing.specs.declared.plate.Plate.{Plate}
+use Rattle.listing.specs.Listing.{Cut, Listing, noCut, plateAt, cutAt}
 use Rattle.plan.specs.Plan.{onPlate, ofPosition, total}
 use Rattle.layouts.specs.Fold.{cutFrom, cutOf}
+use Rattle.columns.specs.Line.{Fit}
 use Rattle.texts.specs.JobLines.{typesOf}
-use Rattle.texts.specs.SawText.{Counted, positionOn, namedCut, cutsNamed, cutsRising, countFor, countsFrom, planCounts}
+use Rattle.texts.specs.SawText.{Counted, positionOn, namedCut, cutsNamed, platesShown, cutsRising, countFor, countsFrom, planCounts}
 use Rattle.texts.specs.Held.{PlanLimits}
-use Rattle.texts.specs.Printed.{countedOf}
+use Rattle.texts.specs.Printed.{countedCut, countedOf}
+use Rattle.texts.specs.Shown.{Shows}
 use Rattle.texts.proofs.Basics.{and-parts}
+use Rattle.texts.proofs.ShownPlates.{shows-pass, pass-shows}
 
 -- what holds of each of some cuts with its number, numbered from k
 abbrev pub Each : (ℕ → Cut → Type 0) → ℕ → List Cut → Type 0
@@ -45,51 +49,52 @@ each-cut P l f = from 0 (l .cuts) refl
         let rest : drop (suc d) (l .cuts) ≡ cs = cc in
         (subst (P (suc d)) here (f d inside), from (suc d) cs rest)
 
--- line 3 of a cut
-abbrev counted : Cut → ℕ → Counted
-counted c n = record { plate = c .plate; type = typeOf (c .item); turn = turnOf (c .item); count = n }
+-- line 3 of a cut, which shows its plate; `plates` gives the plate type of a number
+abbrev counted : (ℕ → Plate) → Cut → ℕ → Counted
+counted plates c n = countedCut (plates (c .plate)) c n
 
 -- a cut that is counted has a line, one that is not has none
 counted-by :
-    (P : List Counted → Type 0) (c : Cut) (cs : List Cut) (n : ℕ) (ns : List ℕ)
-    → (n ≡ 0 → P (countedOf cs ns))
-    → ((n ≡ 0 → ⊥) → P (counted c n ∷ countedOf cs ns))
-    → P (countedOf (c ∷ cs) (n ∷ ns))
+    (plates : ℕ → Plate) (P : List Counted → Type 0) (c : Cut) (cs : List Cut) (n : ℕ) (ns : List ℕ)
+    → (n ≡ 0 → P (countedOf plates cs ns))
+    → ((n ≡ 0 → ⊥) → P (counted plates c n ∷ countedOf plates cs ns))
+    → P (countedOf plates (c ∷ cs) (n ∷ ns))
 unfolding countedOf
-counted-by P c cs n ns f g = go (eqb n 0) refl
+counted-by plates P c cs n ns f g = go (eqb n 0) refl
   where
-    go : (t : Bool) → eqb n 0 ≡ t → P (elim t [ true ↦ countedOf cs ns | false ↦ counted c n ∷ countedOf cs ns ])
+    go : (t : Bool) → eqb n 0 ≡ t → P (elim t [ true ↦ countedOf plates cs ns | false ↦ counted plates c n ∷ countedOf plates cs ns ])
     go true e = f (eqb-true n 0 e)
     go false e = g (eqb-false n 0 e)
 
 -- at most a line for each cut
-pub counted-length : (cs : List Cut) (ns : List ℕ) → length (countedOf cs ns) ≤ length cs
+pub counted-length : (plates : ℕ → Plate) (cs : List Cut) (ns : List ℕ) → length (countedOf plates cs ns) ≤ length cs
 unfolding countedOf
-counted-length [] ns = omega arith
-counted-length (c ∷ cs) [] = omega arith
-counted-length (c ∷ cs) (n ∷ ns) =
-    let h = counted-length cs ns in
-    counted-by (λ rs. length rs ≤ suc (length cs)) c cs n ns (λ e. omega arith) (λ e. omega arith)
+counted-length plates [] ns = omega arith
+counted-length plates (c ∷ cs) [] = omega arith
+counted-length plates (c ∷ cs) (n ∷ ns) =
+    let h = counted-length plates cs ns in
+    counted-by plates (λ rs. length rs ≤ suc (length cs)) c cs n ns (λ e. omega arith) (λ e. omega arith)
 
--- a cut within the limits of lines 3, of the job words ws
-pub record CutLimits (ws : List ℕ) (c : Cut) : Type 0 where
+-- a cut within the limits of lines 3, of the job words ws, and a plate that fits the columns of a line
+pub record CutLimits (ws : List ℕ) (plates : ℕ → Plate) (c : Cut) : Type 0 where
   pub plate : c .plate ≤ maxResiduals
   pub low : 1 ≤ typeOf (c .item)
   pub high : typeOf (c .item) ≤ typesOf ws
   pub lies : permitted (jobOf ws) (c .item) ≡ true
+  pub shown : let p = plates (c .plate) in Fit (p .width ∷ p .height ∷ p .stage ∷ [])
 
 -- lines 3 of such cuts, with at most 4,000 pieces, are within their limits
 pub counted-limits :
-    (ws : List ℕ) (k : ℕ) (cs : List Cut) (ns : List ℕ)
-    → Each (λ _ c. CutLimits ws c) k cs
+    (ws : List ℕ) (plates : ℕ → Plate) (k : ℕ) (cs : List Cut) (ns : List ℕ)
+    → Each (λ _ c. CutLimits ws plates c) k cs
     → total ns ≤ maxPieces
-    → PlanLimits ws (countedOf cs ns)
+    → PlanLimits ws (countedOf plates cs ns)
 unfolding countedOf total sumOf
-counted-limits ws k [] ns h t = tt
-counted-limits ws k (c ∷ cs) [] h t = tt
-counted-limits ws k (c ∷ cs) (m ∷ ns) h t =
-    let rest = counted-limits ws (suc k) cs ns (h .1) (omega arith) in
-    counted-by (PlanLimits ws) c cs m ns (λ e. rest)
+counted-limits ws plates k [] ns h t = tt
+counted-limits ws plates k (c ∷ cs) [] h t = tt
+counted-limits ws plates k (c ∷ cs) (m ∷ ns) h t =
+    let rest = counted-limits ws plates (suc k) cs ns (h .1) (omega arith) in
+    counted-by plates (PlanLimits ws) c cs m ns (λ e. rest)
     (λ e. (
       record {
         plate = h .0 .plate;
@@ -97,6 +102,7 @@ counted-limits ws k (c ∷ cs) (m ∷ ns) h t =
         high = h .0 .high;
         counted = omega arith;
         few = omega arith;
+        shown = h .0 .shown;
         turned = turn-small (c .item);
         lies = rw (type-turn (c .item)) (h .0 .lies);
       },
@@ -173,44 +179,56 @@ module _ (l : Listing) where
   InRow k cs = Each (λ i c. cutOf l (c .plate) (c .item) ≡ i) k cs
 
   -- the line of a cut names it
-  counted-cut : (c : Cut) (n : ℕ) → namedCut l (counted c n) ≡ cutOf l (c .plate) (c .item)
+  counted-cut : (c : Cut) (n : ℕ) → namedCut l (counted (plateAt l) c n) ≡ cutOf l (c .plate) (c .item)
   unfolding namedCut
   counted-cut c n = ap (cutOf l (c .plate)) (type-turn (c .item))
 
   -- their lines rise
-  counted-rises : (k : ℕ) (cs : List Cut) (ns : List ℕ) → InRow k cs → Rises k (countedOf cs ns)
+  counted-rises : (k : ℕ) (cs : List Cut) (ns : List ℕ) → InRow k cs → Rises k (countedOf (plateAt l) cs ns)
   unfolding countedOf
   counted-rises k [] ns h = tt
   counted-rises k (c ∷ cs) [] h = tt
   counted-rises k (c ∷ cs) (n ∷ ns) h =
       let rest = counted-rises (suc k) cs ns (h .1) in
-      counted-by (Rises k) c cs n ns
-      (λ e. rises-lower k (suc k) (countedOf cs ns) (omega arith) rest)
-      (λ e. (omega (arith, counted-cut c n), rises-lower (suc (namedCut l (counted c n))) (suc k) (countedOf cs ns) (omega (arith, counted-cut c n)) rest))
+      counted-by (plateAt l) (Rises k) c cs n ns
+      (λ e. rises-lower k (suc k) (countedOf (plateAt l) cs ns) (omega arith) rest)
+      (λ e. (omega (arith, counted-cut c n), rises-lower (suc (namedCut l (counted (plateAt l) c n))) (suc k) (countedOf (plateAt l) cs ns) (omega (arith, counted-cut c n)) rest))
 
-  -- so they pass 8 and 9
-  pub counted-named : (line : ℕ) (cs : List Cut) (ns : List ℕ) → InRow 1 cs → cutsNamed l line (countedOf cs ns) ≡ pass
-  counted-named line cs ns h = rises-named 0 line (countedOf cs ns) (counted-rises 1 cs ns h)
+  -- and show their plates
+  pub counted-shows : (cs : List Cut) (ns : List ℕ) → Shows (plateAt l) (countedOf (plateAt l) cs ns)
+  unfolding countedOf
+  counted-shows [] ns = tt
+  counted-shows (c ∷ cs) [] = tt
+  counted-shows (c ∷ cs) (n ∷ ns) =
+      let rest = counted-shows cs ns in
+      counted-by (plateAt l) (Shows (plateAt l)) c cs n ns (λ e. rest) (λ e. (refl, rest))
 
-  pub counted-rising : (line : ℕ) (cs : List Cut) (ns : List ℕ) → InRow 1 cs → cutsRising l 0 line (countedOf cs ns) ≡ pass
-  counted-rising line cs ns h = rises-rising 0 line (countedOf cs ns) (counted-rises 1 cs ns h)
+  -- so they pass 8, 20 and 9
+  pub counted-named : (line : ℕ) (cs : List Cut) (ns : List ℕ) → InRow 1 cs → cutsNamed l line (countedOf (plateAt l) cs ns) ≡ pass
+  counted-named line cs ns h = rises-named 0 line (countedOf (plateAt l) cs ns) (counted-rises 1 cs ns h)
+
+  pub counted-shown : (line : ℕ) (cs : List Cut) (ns : List ℕ) → platesShown l line (countedOf (plateAt l) cs ns) ≡ pass
+  counted-shown line cs ns = shows-pass l line (countedOf (plateAt l) cs ns) (counted-shows cs ns)
+
+  pub counted-rising : (line : ℕ) (cs : List Cut) (ns : List ℕ) → InRow 1 cs → cutsRising l 0 line (countedOf (plateAt l) cs ns) ≡ pass
+  counted-rising line cs ns h = rises-rising 0 line (countedOf (plateAt l) cs ns) (counted-rises 1 cs ns h)
 
   -- and count what was counted
-  from-counted : (k : ℕ) (cs : List Cut) (ns : List ℕ) → InRow k cs → length ns ≡ length cs → countsFrom l (countedOf cs ns) k (length cs) ≡ ns
+  from-counted : (k : ℕ) (cs : List Cut) (ns : List ℕ) → InRow k cs → length ns ≡ length cs → countsFrom l (countedOf (plateAt l) cs ns) k (length cs) ≡ ns
   unfolding countedOf countsFrom
   from-counted k [] [] h e = refl
   from-counted k [] (n ∷ ns) h e = absurd (omega arith)
   from-counted k (c ∷ cs) [] h e = absurd (omega arith)
   from-counted k (c ∷ cs) (n ∷ ns) h e =
       let rest = from-counted (suc k) cs ns (h .1) (omega arith) in
-      let none = rises-none k (suc k) (countedOf cs ns) (omega arith) (counted-rises (suc k) cs ns (h .1)) in
-      counted-by (λ rs. countFor l rs k ∷ countsFrom l rs (suc k) (length cs) ≡ n ∷ ns) c cs n ns
+      let none = rises-none k (suc k) (countedOf (plateAt l) cs ns) (omega arith) (counted-rises (suc k) cs ns (h .1)) in
+      counted-by (plateAt l) (λ rs. countFor l rs k ∷ countsFrom l rs (suc k) (length cs) ≡ n ∷ ns) c cs n ns
       (λ z. ap₂ (λ (m : ℕ) (ms : List ℕ). m ∷ ms) (none ∙ sym z) rest)
       (λ z.
-      let own : countFor l (counted c n ∷ countedOf cs ns) k ≡ n = count-own k (counted c n) (countedOf cs ns) (counted-cut c n ∙ h .0) ∙ omega arith in
-      ap₂ (λ (m : ℕ) (ms : List ℕ). m ∷ ms) own (from-other (counted c n) (countedOf cs ns) (suc k) (length cs) (omega (arith, counted-cut c n)) ∙ rest))
+      let own : countFor l (counted (plateAt l) c n ∷ countedOf (plateAt l) cs ns) k ≡ n = count-own k (counted (plateAt l) c n) (countedOf (plateAt l) cs ns) (counted-cut c n ∙ h .0) ∙ omega arith in
+      ap₂ (λ (m : ℕ) (ms : List ℕ). m ∷ ms) own (from-other (counted (plateAt l) c n) (countedOf (plateAt l) cs ns) (suc k) (length cs) (omega (arith, counted-cut c n)) ∙ rest))
 
-  pub counted-counts : (ns : List ℕ) → InRow 1 (l .cuts) → length ns ≡ length (l .cuts) → planCounts l (countedOf (l .cuts) ns) ≡ ns
+  pub counted-counts : (ns : List ℕ) → InRow 1 (l .cuts) → length ns ≡ length (l .cuts) → planCounts l (countedOf (plateAt l) (l .cuts) ns) ≡ ns
   unfolding planCounts
   counted-counts ns h e = from-counted 1 (l .cuts) ns h e
 
@@ -274,15 +292,17 @@ module _ (l : Listing) where
       → Found k (c ∷ cs) (r ∷ rs)
       → 1 ≤ r .count
       → r .turn ≤ 1
+      → r .shown ≡ plateAt l (r .plate)
       → rest ≡ rs
-      → counted c (countFor l (r ∷ rs) k) ∷ rest ≡ r ∷ rs
-  line-own k c cs r rs rest low e h f some turned q =
+      → counted (plateAt l) c (countFor l (r ∷ rs) k) ∷ rest ≡ r ∷ rs
+  line-own k c cs r rs rest low e h f some turned shown q =
       let none = rises-none k (suc (namedCut l r)) rs (omega arith) (h .1) in
       let m : countFor l (r ∷ rs) k ≡ r .count = count-own k r rs e ∙ omega arith in
       let pair = found-here (r .plate) (positionOn r) k c cs low (f .0 ∙ e) in
       let i : typeOf (c .item) ≡ r .type = ap typeOf (pair .1) ∙ type-of (r .type) (r .turn) turned in
       let t : turnOf (c .item) ≡ r .turn = ap turnOf (pair .1) ∙ turn-of (r .type) (r .turn) turned in
-      ap₂ (λ (a : Counted) (as′ : List Counted). a ∷ as′) (λ d. record { plate = pair .0 d; type = i d; turn = t d; count = m d }) q
+      let p : plateAt l (c .plate) ≡ r .shown = ap (plateAt l) (pair .0) ∙ sym shown in
+      ap₂ (λ (a : Counted) (as′ : List Counted). a ∷ as′) (λ d. record { plate = pair .0 d; type = i d; turn = t d; count = m d; shown = p d }) q
 
   -- a line for each cut that lines count is the lines themselves
   counts-counted :
@@ -291,15 +311,16 @@ module _ (l : Listing) where
       → Rises k rs
       → Found k cs rs
       → PlanLimits ws rs
-      → countedOf cs (countsFrom l rs k (length cs)) ≡ rs
+      → Shows (plateAt l) rs
+      → countedOf (plateAt l) cs (countsFrom l rs k (length cs)) ≡ rs
   unfolding countedOf countsFrom cutFrom
-  counts-counted k ws [] [] low h f p = refl
-  counts-counted k ws [] (r ∷ rs) low h f p = absurd (omega arith)
-  counts-counted k ws (c ∷ cs) [] low h f p =
-      counted-by (λ qs. qs ≡ []) c cs (countFor l [] k) (countsFrom l [] (suc k) (length cs))
-      (λ z. counts-counted (suc k) ws cs [] (omega arith) tt tt tt)
+  counts-counted k ws [] [] low h f p v = refl
+  counts-counted k ws [] (r ∷ rs) low h f p v = absurd (omega arith)
+  counts-counted k ws (c ∷ cs) [] low h f p v =
+      counted-by (plateAt l) (λ qs. qs ≡ []) c cs (countFor l [] k) (countsFrom l [] (suc k) (length cs))
+      (λ z. counts-counted (suc k) ws cs [] (omega arith) tt tt tt tt)
       (λ z. absurd (z (rises-none k (suc k) [] (omega arith) tt)))
-  counts-counted k ws (c ∷ cs) (r ∷ rs) low h f p = go (ℕ-discrete (namedCut l r) k) (λ qs. counts-counted (suc k) ws cs qs (omega arith))
+  counts-counted k ws (c ∷ cs) (r ∷ rs) low h f p v = go (ℕ-discrete (namedCut l r) k) (λ qs. counts-counted (suc k) ws cs qs (omega arith))
     where
       m : ℕ
       m = countFor l (r ∷ rs) k
@@ -309,19 +330,19 @@ module _ (l : Listing) where
 
       go :
           Dec (namedCut l r ≡ k)
-          → ((qs : List Counted) → Rises (suc k) qs → Found (suc k) cs qs → PlanLimits ws qs → countedOf cs (countsFrom l qs (suc k) (length cs)) ≡ qs)
-          → countedOf (c ∷ cs) (m ∷ ms) ≡ r ∷ rs
+          → ((qs : List Counted) → Rises (suc k) qs → Found (suc k) cs qs → PlanLimits ws qs → Shows (plateAt l) qs → countedOf (plateAt l) cs (countsFrom l qs (suc k) (length cs)) ≡ qs)
+          → countedOf (plateAt l) (c ∷ cs) (m ∷ ms) ≡ r ∷ rs
       go (yes e) ih =
           let up = rises-lower (suc k) (suc (namedCut l r)) rs (omega arith) (h .1) in
           let none = rises-none k (suc k) rs (omega arith) up in
-          let rest = ap (countedOf cs) (from-other r rs (suc k) (length cs) (omega arith)) ∙ ih rs up (found-rest k c cs rs up (f .1)) (p .1) in
-          counted-by (λ qs. qs ≡ r ∷ rs) c cs m ms
+          let rest = ap (countedOf (plateAt l) cs) (from-other r rs (suc k) (length cs) (omega arith)) ∙ ih rs up (found-rest k c cs rs up (f .1)) (p .1) (v .1) in
+          counted-by (plateAt l) (λ qs. qs ≡ r ∷ rs) c cs m ms
           (λ z. absurd (omega (arith, count-own k r rs e)))
-          (λ z. line-own k c cs r rs (countedOf cs ms) low e h f (p .0 .counted) (p .0 .turned) rest)
+          (λ z. line-own k c cs r rs (countedOf (plateAt l) cs ms) low e h f (p .0 .counted) (p .0 .turned) (v .0) rest)
       go (no e) ih =
           let up : Rises (suc k) (r ∷ rs) = (omega arith, h .1) in
-          counted-by (λ qs. qs ≡ r ∷ rs) c cs m ms
-          (λ z. ih (r ∷ rs) up (found-rest k c cs (r ∷ rs) up f) p)
+          counted-by (plateAt l) (λ qs. qs ≡ r ∷ rs) c cs m ms
+          (λ z. ih (r ∷ rs) up (found-rest k c cs (r ∷ rs) up f) p v)
           (λ z. absurd (z (rises-none k (suc k) (r ∷ rs) (omega arith) up)))
 
   found-all : (rs : List Counted) → Found 1 (l .cuts) rs
@@ -329,7 +350,13 @@ module _ (l : Listing) where
   found-all [] = tt
   found-all (r ∷ rs) = (refl, found-all rs)
 
-  -- lines 3 that pass 9 are the lines of the cuts that they count
-  pub plan-counted : (line : ℕ) (ws : List ℕ) (rs : List Counted) → cutsRising l 0 line rs ≡ pass → PlanLimits ws rs → countedOf (l .cuts) (planCounts l rs) ≡ rs
+  -- lines 3 that pass 20 and 9 are the lines of the cuts that they count
+  pub plan-counted :
+      (line : ℕ) (ws : List ℕ) (rs : List Counted)
+      → platesShown l line rs ≡ pass
+      → cutsRising l 0 line rs ≡ pass
+      → PlanLimits ws rs
+      → countedOf (plateAt l) (l .cuts) (planCounts l rs) ≡ rs
   unfolding planCounts
-  plan-counted line ws rs h p = counts-counted 1 ws (l .cuts) rs (omega arith) (rising-rises 0 line rs h) (found-all rs) p
+  plan-counted line ws rs v h p =
+      counts-counted 1 ws (l .cuts) rs (omega arith) (rising-rises 0 line rs h) (found-all rs) p (pass-shows l line rs v)

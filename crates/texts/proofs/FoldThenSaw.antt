@@ -23,7 +23,7 @@ use Rattle.texts.specs.JobLines.{body, typesOf, bodyLine}
 use Rattle.texts.specs.Reader.{Reader, maxLines, started, fed, textRow, written}
 use Rattle.texts.specs.SawText.{Counted, Saw, sawGrammar, planCounts, priceLinesRow, sawRows, sawOf}
 use Rattle.texts.specs.FoldText.{Fold, foldGrammar, foldRows, foldWritten, foldText}
-use Rattle.texts.specs.TextOf.{jobRows, planRows, priceRows, sawRowsOf}
+use Rattle.texts.specs.TextOf.{jobRows, countedRow, planRows, priceRows, sawRowsOf}
 use Rattle.texts.specs.Held.{PlanLimits, SawWhole, FoldWhole}
 use Rattle.texts.specs.Printed.{linesIn, AllFit, sawHolds, foldCounts, foldPlan}
 use Rattle.texts.specs.Refused.{foldHolds, verdictOnFold}
@@ -35,14 +35,15 @@ use Rattle.texts.proofs.JobRows.{jobRows-size}
 use Rattle.texts.proofs.PlanRows.{planRows-size}
 use Rattle.texts.proofs.SawTexts.{saw-both-ways}
 use Rattle.texts.proofs.FoldTexts.{fold-both-ways}
-use Rattle.texts.proofs.Modelled.{sided}
+use Rattle.texts.proofs.Modelled.{admitted, sided}
 use Rattle.texts.proofs.Printed.{printed}
-use Rattle.texts.proofs.CountedPlan.{InRow, CutLimits, each-cut, counted-length, counted-limits, counted-named, counted-rising, counted-counts}
+use Rattle.texts.proofs.CountedPlan.{InRow, CutLimits, each-cut, counted-length, counted-limits, counted-named, counted-shown, counted-rising, counted-counts}
+use Rattle.texts.proofs.ShownPlates.{plate-fits}
 use Rattle.texts.proofs.FoldDemand.{FoldAccepted, fold-accepted, fold-length, fold-plan, fold-few}
 
 -- lines 3 within their limits fit nine columns
 plan-fits : (ws : List ℕ) (rs : List Counted) → typesOf ws ≤ maxTypes → PlanLimits ws rs → AllFit (planRows rs)
-unfolding planRows Fit
+unfolding planRows countedRow Fit
 plan-fits ws [] h p = tt
 plan-fits ws (r ∷ rs) h p = (omega arith, plan-fits ws rs h (p .1))
 
@@ -63,8 +64,8 @@ module _ (f : Fold) (held : FoldWhole f) (a : FoldAccepted f) where
   -- its lines 3 are within their limits
   limits : PlanLimits (f .job) (foldPlan f)
   limits =
-      counted-limits (f .job) 1 (L (f .job) .cuts) (foldCounts f)
-      (each-cut (λ _ c. CutLimits (f .job) c) (L (f .job))
+      counted-limits (f .job) (plateAt (L (f .job))) 1 (L (f .job) .cuts) (foldCounts f)
+      (each-cut (λ _ c. CutLimits (f .job) (plateAt (L (f .job))) c) (L (f .job))
       (λ d h.
       let c : Cut = cutAt (L (f .job)) (suc d) in
       let lies : permitted (J (f .job)) (c .item) ≡ true = may-cut (J (f .job) .mode) (itemOf (J (f .job)) c) (plateAt (L (f .job)) (c .plate)) (m .permitted d h) .allowed in
@@ -74,6 +75,7 @@ module _ (f : Fold) (held : FoldWhole f) (a : FoldAccepted f) where
         low = range .0;
         high = omega (arith, range .1, job-types (f .job) j);
         lies = lies;
+        shown = plate-fits (J (f .job)) (admitted (f .job) (held .job) (a .admitted)) (a .listed) (c .plate) (m .on-plate d h);
       }))
       (fold-few f held a)
 
@@ -90,8 +92,9 @@ module _ (f : Fold) (held : FoldWhole f) (a : FoldAccepted f) where
   rows =
       let first : ℕ = bodyLine (f .job) in
       let named = counted-named (L (f .job)) first (L (f .job) .cuts) (foldCounts f) (cuts-in-row (J (f .job)) (L (f .job)) m) in
+      let shown = counted-shown (L (f .job)) first (L (f .job) .cuts) (foldCounts f) in
       let rising = counted-rising (L (f .job)) first (L (f .job) .cuts) (foldCounts f) (cuts-in-row (J (f .job)) (L (f .job)) m) in
-      rw (a .admitted, a .listed, named, rising, same-counts, fold-plan f held a)
+      rw (a .admitted, a .listed, named, shown, rising, same-counts, fold-plan f held a)
 
   -- its lines are few
   few : length (sawRowsOf s) ≤ maxLines
@@ -105,7 +108,7 @@ module _ (f : Fold) (held : FoldWhole f) (a : FoldAccepted f) where
         jobRows-size (typesOf (f .job)) (f .job) (j .size) .0,
         board-types (f .job) (j .board),
         planRows-size (foldPlan f) .0,
-        counted-length (L (f .job) .cuts) (foldCounts f),
+        counted-length (plateAt (L (f .job))) (L (f .job) .cuts) (foldCounts f),
         m .few-cuts,
       )
 

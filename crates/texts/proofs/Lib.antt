@@ -23,6 +23,7 @@ pub mod LinesIn
 pub mod Modelled
 pub mod SawDemand
 pub mod Printed
+pub mod ShownPlates
 pub mod CountedPlan
 pub mod Places
 pub mod LayoutPlaces
@@ -31,5 +32,6 @@ pub mod FoldDemand
 pub mod FoldThenSaw
 pub mod SawThenFold
 pub mod CallRows
+pub mod ShownLaws
 pub mod FoldRows
 pub mod TextLaws

@@ -1,4 +1,4 @@
--- How much of a text decides: 4,600,333 bytes of a saw text, 8,199,874 bytes of a fold text.
+-- How much of a text decides: 7,299,901 bytes of a saw text, 8,199,874 bytes of a fold text.
 use Prim.Native.Nat.{ℕ, suc, _+_, _*_, _≤_, _<_}
 use native.Mathlib.Omega.{arith}
 use mathlib.Core.Path.{_≡_, ap, _∙_}
@@ -71,7 +71,7 @@ past-size rows s p =
     let b : length (bytesOf (ps ++ qs)) ≡ length (bytesOf ps) + length (bytesOf qs) = bytes-append ps qs in
     sizes (s .job) (ps ++ qs) rows (length (s .plan) + length qs) planLineBytes (p .job) (p .lines) c (omega arith)
 
--- 64 bytes for line 1, 55 for each of 40 lines 2, 46 for each of 99,958 lines 3, and one more
+-- 64 bytes for line 1, 55 for one line 2, 73 for each of 99,997 lines 3, and one more
 abbrev pub sawEnough : ℕ
 sawEnough = suc longestSawText
 
@@ -88,7 +88,7 @@ saw-full (itemPrices i) ws rs o rows h l = let s = past-size rows (sawOf (itemPr
 saw-full (platePrices j) ws rs o rows h l = let s = past-size rows (sawOf (platePrices j) ws rs o) (h .0) in omega arith
 saw-full done ws rs o rows h l = let s = past-size rows (sawOf done ws rs o) (h .0) in omega arith
 
--- where the bytes end within a line of the body or of the prices, more than 46 of its bytes are there
+-- where the bytes end within a line of the body or of the prices, more than 73 of its bytes are there
 past-long : (rows : List (List ℕ)) (s : Saw) (k : ℕ) → Past rows s → length rows < maxLines → length (bytesOf rows) + k ≡ sawEnough → planLineBytes < k
 past-long rows s k p l e = let z = past-size rows s p in omega arith
 
@@ -115,11 +115,11 @@ saw-enough =
       long = λ rows s k r l e u. saw-long (s .place) (s .job) (s .plan) (s .prices) rows k (saw-at rows s r) l e u;
     }
 
--- a saw text that passes has at most 4,600,332 bytes
+-- a saw text that passes has at most 7,299,900 bytes
 pub saw-bytes : (bs : List ℕ) → textRow sawGrammar (fed sawGrammar (started sawGrammar) bs) ≡ pass → length bs ≤ longestSawText
 saw-bytes bs h = omega (arith, text-bytes sawGrammar sawEnough saw-enough bs h)
 
--- the first 4,600,333 bytes of a saw text decide it, and so do any more
+-- the first 7,299,901 bytes of a saw text decide it, and so do any more
 pub saw-prefix : (n : ℕ) (bs : List ℕ) → longestSawText < n → sawText (take n bs) ≡ sawText bs
 unfolding sawText sawWritten
 saw-prefix n bs h = decided sawGrammar sawEnough n bs saw-enough (omega arith) sawRows sawLines

@@ -21,7 +21,7 @@ use Rattle.columns.specs.Line.{Fit}
 use Rattle.texts.specs.Widths.{placeLimit}
 use Rattle.texts.specs.JobLines.{typesOf}
 use Rattle.texts.specs.Reader.{maxLines}
-use Rattle.texts.specs.SawText.{Counted, PriceLines, namedCut, cutsNamed, cutsRising, priceLinesRow}
+use Rattle.texts.specs.SawText.{Counted, PriceLines, namedCut, cutsNamed, misshown, platesShown, cutsRising, priceLinesRow}
 use Rattle.texts.specs.Refused.{Names, line, type, residual, cut, nothing, lastOf, namedBy, InTable}
 use Rattle.texts.proofs.JobLaws.{passes-job, job-types, board-types}
 
@@ -105,11 +105,20 @@ near-job ws h = near-then (admission (jobOf ws)) (modelRow (jobOf ws)) (near-adm
 
 -- ---- the plan and the prices
 
+-- a line 3 of zeros, which stands for one that a plan has not
+abbrev noLine : Counted
+noLine = record { plate = 0; type = 0; turn = 0; count = 0; shown = waste }
+
 -- 8
 pub near-named : (l : Listing) (k : ℕ) (rs : List Counted) → 1 ≤ k → k + length rs ≤ suc (suc maxLines) → Near (cutsNamed l k rs)
 unfolding cutsNamed
 near-named l k rs low h =
-    near-lowest 8 (λ _ r. eqb (namedCut l r) 0) (record { plate = 0; type = 0; turn = 0; count = 0 }) k rs (λ p a b. omega arith)
+    near-lowest 8 (λ _ r. eqb (namedCut l r) 0) noLine k rs (λ p a b. omega arith)
+
+-- 20
+pub near-shown : (l : Listing) (k : ℕ) (rs : List Counted) → 1 ≤ k → k + length rs ≤ suc (suc maxLines) → Near (platesShown l k rs)
+unfolding platesShown
+near-shown l k rs low h = near-lowest 20 (λ _ r. misshown l r) noLine k rs (λ p a b. omega arith)
 
 -- 9
 pub near-rising : (l : Listing) (c k : ℕ) (rs : List Counted) → 1 ≤ k → k + length rs ≤ suc (suc maxLines) → Near (cutsRising l c k rs)

@@ -15,7 +15,7 @@ use Rattle.job.proofs.Verdicts.{then-first, then-second, then-both}
 use Rattle.plan.specs.Prices.{maxPrice, priceWords}
 use Rattle.texts.specs.Widths.{planLineBytes, pricesLineBytes, priceLineBytes}
 use Rattle.texts.specs.SawText.{Counted, PriceLines, withPrice}
-use Rattle.texts.specs.TextOf.{planRows, priceRowsFrom, priceRows}
+use Rattle.texts.specs.TextOf.{countedRow, planRows, priceRowsFrom, priceRows}
 use Rattle.texts.specs.Held.{InPlan, PlanLimits}
 use Rattle.texts.proofs.Basics.{lowest-both, lowest-one}
 use Rattle.texts.proofs.Lists.{bytesOf, bytes-cons}
@@ -23,18 +23,18 @@ use Rattle.texts.proofs.Lists.{bytesOf, bytes-cons}
 -- ---- lines 3
 
 -- one line 3 more
-pub planRows-more : (rs : List Counted) (r : Counted) → planRows (rs ++ (r ∷ [])) ≡ planRows rs ++ ((3 ∷ r .plate ∷ r .type ∷ r .count ∷ r .turn ∷ []) ∷ [])
+pub planRows-more : (rs : List Counted) (r : Counted) → planRows (rs ++ (r ∷ [])) ≡ planRows rs ++ (countedRow r ∷ [])
 unfolding planRows
 planRows-more [] r = refl
-planRows-more (s ∷ rs) r = ap (λ (l : List (List ℕ)). (3 ∷ s .plate ∷ s .type ∷ s .count ∷ s .turn ∷ []) ∷ l) (planRows-more rs r)
+planRows-more (s ∷ rs) r = ap (λ (l : List (List ℕ)). countedRow s ∷ l) (planRows-more rs r)
 
--- a line for each, of 46 bytes
+-- a line for each, of 73 bytes
 pub planRows-size : (rs : List Counted) → (length (planRows rs) ≡ length rs) × (length (bytesOf (planRows rs)) ≡ planLineBytes * length rs)
-unfolding planRows mathlib.Core.List.flatMap
+unfolding planRows countedRow mathlib.Core.List.flatMap
 planRows-size [] = (refl, refl)
 planRows-size (r ∷ rs) =
     let p = planRows-size rs in
-    (ap suc (p .0), bytes-cons (3 ∷ r .plate ∷ r .type ∷ r .count ∷ r .turn ∷ []) (planRows rs) ∙ omega arith)
+    (ap suc (p .0), bytes-cons (countedRow r) (planRows rs) ∙ omega arith)
 
 -- within their limits with one more
 pub plan-limits-more :

@@ -12,7 +12,7 @@ use borrow.Author.Tests.{ltb-false, not-false}
 use Rattle.job.specs.declared.item.Item.{Item}
 use Rattle.job.specs.Lists.{sumOf}
 use Rattle.job.specs.Verdict.{pass, refuseIf, within, lowest}
-use Rattle.job.specs.Job.{Job, maxPieces, typeOf, turnOf, jobOf, jobWords, larger, demanded, admission}
+use Rattle.job.specs.Job.{Job, maxPieces, jobOf, jobWords, larger, demanded, admission}
 use Rattle.job.proofs.Verdicts.{refuseIf-pass}
 use Rattle.job.proofs.CodeEnds.{then-pass}
 use Rattle.job.proofs.Records.{words-append}
@@ -21,18 +21,19 @@ use Rattle.layouts.specs.Placement.{Placement, placementWords}
 use Rattle.layouts.specs.Lines.{layoutWords}
 use Rattle.layouts.specs.Rules.{Every}
 use Rattle.layouts.proofs.row.RowWords.{RowOk}
-use Rattle.listing.specs.Listing.{Cut, listingOf}
+use Rattle.listing.specs.declared.plate.Plate.{Plate}
+use Rattle.listing.specs.Listing.{Cut, plateAt, listingOf}
 use Rattle.columns.specs.Group.{limit}
 use Rattle.columns.specs.Line.{Fit, lineOf}
 use Rattle.texts.specs.Shape.{layoutLine}
 use Rattle.texts.specs.JobLines.{Place, body, typesOf}
 use Rattle.texts.specs.Reader.{started, fed, textRow, written}
-use Rattle.texts.specs.SawText.{Counted, PriceLines, Saw, sawGrammar, sawRows, placementLine, resultLine, sawLines, sawWritten, sawText}
-use Rattle.texts.specs.FoldText.{Fold, foldComplete, foldGrammar, countLines, foldLines, foldOf}
+use Rattle.texts.specs.SawText.{PriceLines, Saw, sawGrammar, sawRows, placementLine, resultLine, sawLines, sawWritten, sawText}
+use Rattle.texts.specs.FoldText.{Fold, foldComplete, foldGrammar, countRow, countLines, foldLines, foldOf}
 use Rattle.texts.specs.Admitted.{Text}
-use Rattle.texts.specs.TextOf.{jobRows, planRows, placementRow}
+use Rattle.texts.specs.TextOf.{jobRows, countedRow, planRows, placementRow}
 use Rattle.texts.specs.Held.{PricesHeld, SawWhole}
-use Rattle.texts.specs.Printed.{linesIn, AllFit, resultRow, sawHolds, sawRun, printedRows, countedOf, foldCounts, foldPlan, PrintedBack}
+use Rattle.texts.specs.Printed.{linesIn, AllFit, resultRow, sawHolds, sawRun, printedRows, countedCut, countedOf, foldCounts, foldPlan, PrintedBack}
 use Rattle.texts.proofs.SawDemand.{saw-placed, saw-boards}
 use Rattle.texts.proofs.Basics.{within-parts, lowest-parts}
 use Rattle.texts.proofs.Lists.{bytesOf, bytes-more}
@@ -72,26 +73,26 @@ printed-lines s =
     ∙ sym (bytes-more rows (resultRow job n (s .prices)))
 
 -- the lines 3 of a fold
-count-lines : (cs : List Cut) (ns : List ℕ) → countLines cs ns ≡ bytesOf (planRows (countedOf cs ns))
-unfolding countLines countedOf planRows flatMap
-count-lines [] ns = refl
-count-lines (c ∷ cs) [] = refl
-count-lines (c ∷ cs) (n ∷ ns) = go (eqb n 0) (count-lines cs ns)
+count-lines : (plates : ℕ → Plate) (cs : List Cut) (ns : List ℕ) → countLines plates cs ns ≡ bytesOf (planRows (countedOf plates cs ns))
+unfolding countLines countedOf planRows countedRow flatMap
+count-lines plates [] ns = refl
+count-lines plates (c ∷ cs) [] = refl
+count-lines plates (c ∷ cs) (n ∷ ns) = go (eqb n 0) (count-lines plates cs ns)
   where
-    row : Counted
-    row = record { plate = c .plate; type = typeOf (c .item); turn = turnOf (c .item); count = n }
+    line : List ℕ
+    line = lineOf (countRow (plates (c .plate)) c n)
 
     go :
         (t : Bool)
-        → countLines cs ns ≡ bytesOf (planRows (countedOf cs ns))
-        → elim t [ true ↦ countLines cs ns | false ↦ lineOf (3 ∷ c .plate ∷ typeOf (c .item) ∷ n ∷ turnOf (c .item) ∷ []) ++ countLines cs ns ]
-        ≡ bytesOf (planRows (elim t [ true ↦ countedOf cs ns | false ↦ row ∷ countedOf cs ns ]))
+        → countLines plates cs ns ≡ bytesOf (planRows (countedOf plates cs ns))
+        → elim t [ true ↦ countLines plates cs ns | false ↦ line ++ countLines plates cs ns ]
+        ≡ bytesOf (planRows (elim t [ true ↦ countedOf plates cs ns | false ↦ countedCut (plates (c .plate)) c n ∷ countedOf plates cs ns ]))
     go true ih = ih
-    go false ih = ap (λ (l : List ℕ). lineOf (3 ∷ c .plate ∷ typeOf (c .item) ∷ n ∷ turnOf (c .item) ∷ []) ++ l) ih
+    go false ih = ap (λ (l : List ℕ). line ++ l) ih
 
 fold-lines : (f : Fold) → foldLines f ≡ bytesOf (planRows (foldPlan f))
 unfolding foldLines
-fold-lines f = count-lines (listingOf (jobOf (f .job)) .cuts) (foldCounts f)
+fold-lines f = let l = listingOf (jobOf (f .job)) in count-lines (plateAt l) (l .cuts) (foldCounts f)
 
 -- ---- the sum
 

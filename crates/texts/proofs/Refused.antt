@@ -18,7 +18,7 @@ use Rattle.layouts.specs.LayoutsRow.{layoutsRow}
 use Rattle.columns.specs.Line.{lineOf}
 use Rattle.texts.specs.JobLines.{typesOf, bodyLine}
 use Rattle.texts.specs.Reader.{Grammar, Reader, maxLines, started, fed, textRow, written}
-use Rattle.texts.specs.SawText.{Saw, sawGrammar, cutsNamed, cutsRising, planCounts, priceLinesRow, sawRows, sawWritten, sawText}
+use Rattle.texts.specs.SawText.{Saw, sawGrammar, cutsNamed, platesShown, cutsRising, planCounts, priceLinesRow, sawRows, sawWritten, sawText}
 use Rattle.texts.specs.FoldText.{Fold, foldGrammar, foldRows, foldWritten, foldText}
 use Rattle.texts.specs.TextOf.{jobRows, planRows, priceRows, sawRowsOf}
 use Rattle.texts.specs.Held.{SawWhole, FoldWhole}
@@ -33,7 +33,7 @@ use Rattle.texts.proofs.PlanRows.{planRows-size}
 use Rattle.texts.proofs.SawTexts.{saw-both-ways}
 use Rattle.texts.proofs.FoldTexts.{fold-both-ways}
 use Rattle.texts.proofs.Modelled.{sided}
-use Rattle.texts.proofs.Places.{Near, table-fits, few-types, near-if, near-then, near-admission, near-model, near-named, near-rising, near-plan, near-prices}
+use Rattle.texts.proofs.Places.{Near, table-fits, few-types, near-if, near-then, near-admission, near-model, near-named, near-shown, near-rising, near-plan, near-prices}
 use Rattle.texts.proofs.LayoutPlaces.{near-row}
 
 -- ---- line 9
@@ -96,16 +96,18 @@ near-saw s held few =
     let types = few-types (s .job) (held .job) in
     let lines : first + length (s .plan) ≤ suc maxLines = saw-lines s held few in
     let named = cutsNamed l first (s .plan) in
+    let shown = platesShown l first (s .plan) in
     let rising = cutsRising l 0 first (s .plan) in
     let plan = planRow job l ns in
     let prices = priceLinesRow job l (s .prices) in
-    near-then (admission job) (modelRow job then named then rising then plan then prices) (near-admission job (types .0)) (λ a.
-    near-then (modelRow job) (named then rising then plan then prices) (near-model job) (λ b.
+    near-then (admission job) (modelRow job then named then shown then rising then plan then prices) (near-admission job (types .0)) (λ a.
+    near-then (modelRow job) (named then shown then rising then plan then prices) (near-model job) (λ b.
     let m = row-model job (sided (s .job) (held .job) a) b in
-    near-then named (rising then plan then prices) (near-named l first (s .plan) (omega arith) (omega arith)) (λ e.
+    near-then named (shown then rising then plan then prices) (near-named l first (s .plan) (omega arith) (omega arith)) (λ e.
+    near-then shown (rising then plan then prices) (near-shown l first (s .plan) (omega arith) (omega arith)) (λ e.
     near-then rising (plan then prices) (near-rising l 0 first (s .plan) (omega arith) (omega arith)) (λ e.
     near-then plan prices (near-plan job l ns (types .0) (m .few-plates)) (λ e.
-    near-prices job l (s .prices) (m .few-cuts))))))
+    near-prices job l (s .prices) (m .few-cuts)))))))
 
 -- the rows of a fold text
 near-fold : (f : Fold) → FoldWhole f → Near (foldRows f)

@@ -13,11 +13,12 @@ use Rattle.job.specs.Sizes.{maxResiduals}
 use Rattle.job.specs.Verdict.{pass}
 use Rattle.job.specs.Job.{maxTypes}
 use Rattle.plan.specs.Prices.{maxPrice, priceWords}
+use Rattle.columns.specs.Line.{Fit}
 use Rattle.texts.specs.Shape.{_to_, shape, planLine, pricesLine}
 use Rattle.texts.specs.JobLines.{Place, first, types, body, itemPrices, platePrices, done, typesOf, afterType}
-use Rattle.texts.specs.SawText.{Counted, PriceLines, Saw, sawAdmits, afterItemPrice, afterPlatePrice, withPrice, bodyRead, sawAfter, sawGrammar, sawOf}
+use Rattle.texts.specs.SawText.{Counted, PriceLines, Saw, sawAdmits, afterItemPrice, afterPlatePrice, withPrice, countedIn, bodyRead, sawAfter, sawGrammar, sawOf}
 use Rattle.texts.specs.Admitted.{InLimits, OfShape, Admitted, Runs}
-use Rattle.texts.specs.TextOf.{jobRows, planRows, priceRowsFrom, priceRows, sawRowsOf}
+use Rattle.texts.specs.TextOf.{jobRows, countedRow, planRows, priceRowsFrom, priceRows, sawRowsOf}
 use Rattle.texts.specs.Held.{InPlan, PlanLimits}
 use Rattle.texts.proofs.Running.{runs-keep}
 use Rattle.texts.proofs.JobLaws.{JobWhole}
@@ -84,10 +85,10 @@ no-prices ws rs p = ap (λ (l : List (List ℕ)). jobRows ws ++ l) (append-nil (
 -- a line 3 more
 more-plan :
     (ws : List ℕ) (rs : List Counted) (r : Counted) (p q : Place)
-    → sawRowsOf (sawOf p ws rs none) ++ ((3 ∷ r .plate ∷ r .type ∷ r .count ∷ r .turn ∷ []) ∷ []) ≡ sawRowsOf (sawOf q ws (rs ++ (r ∷ [])) none)
+    → sawRowsOf (sawOf p ws rs none) ++ (countedRow r ∷ []) ≡ sawRowsOf (sawOf q ws (rs ++ (r ∷ [])) none)
 more-plan ws rs r p q =
     rw (no-prices ws rs p, no-prices ws (rs ++ (r ∷ [])) q, planRows-more rs r)
-    (append-assoc (jobRows ws) (planRows rs) ((3 ∷ r .plate ∷ r .type ∷ r .count ∷ r .turn ∷ []) ∷ []))
+    (append-assoc (jobRows ws) (planRows rs) (countedRow r ∷ []))
 
 -- line 4
 first-price :
@@ -118,20 +119,23 @@ plan-read :
     → Past rows (sawOf body ws rs none)
     → OfShape (planLine ws) ns
     → SawAt (rows ++ (ns ∷ [])) (bodyRead (sawOf body ws rs none) ns)
-unfolding bodyRead
-plan-read rows ws rs ns p o = rw (o .numbers) (four (o .others) (o .limits) (o .turned))
+unfolding bodyRead countedRow Fit
+plan-read rows ws rs ns p o = rw (o .numbers) (seven (o .others) (o .limits) (o .turned))
   where
-    four :
+    seven :
         (vs : List ℕ)
         → InLimits (planLine ws .limits) vs
         → planLine ws .permits vs ≡ true
         → SawAt (rows ++ ((3 ∷ vs) ∷ [])) (bodyRead (sawOf body ws rs none) (3 ∷ vs))
-    four [] h t = absurd h
-    four (a ∷ []) h t = absurd (h .2)
-    four (a ∷ b ∷ []) h t = absurd (h .2 .2)
-    four (a ∷ b ∷ c ∷ []) h t = absurd (h .2 .2 .2)
-    four (a ∷ b ∷ c ∷ d ∷ []) h t =
-        let r : Counted = record { plate = a; type = b; turn = d; count = c } in
+    seven [] h t = absurd h
+    seven (a ∷ []) h t = absurd (h .2)
+    seven (a ∷ b ∷ []) h t = absurd (h .2 .2)
+    seven (a ∷ b ∷ c ∷ []) h t = absurd (h .2 .2 .2)
+    seven (a ∷ b ∷ c ∷ d ∷ []) h t = absurd (h .2 .2 .2 .2)
+    seven (a ∷ b ∷ c ∷ d ∷ e ∷ []) h t = absurd (h .2 .2 .2 .2 .2)
+    seven (a ∷ b ∷ c ∷ d ∷ e ∷ f ∷ []) h t = absurd (h .2 .2 .2 .2 .2 .2)
+    seven (a ∷ b ∷ c ∷ d ∷ e ∷ f ∷ g ∷ []) h t =
+        let r : Counted = countedIn (3 ∷ a ∷ b ∷ c ∷ d ∷ e ∷ f ∷ g ∷ []) in
         let limits : InPlan ws r =
         record {
           plate = omega arith;
@@ -139,6 +143,7 @@ plan-read rows ws rs ns p o = rw (o .numbers) (four (o .others) (o .limits) (o .
           high = omega arith;
           counted = omega arith;
           few = omega arith;
+          shown = omega arith;
           turned = omega arith;
           lies = t;
         } in (
@@ -149,7 +154,7 @@ plan-read rows ws rs ns p o = rw (o .numbers) (four (o .others) (o .limits) (o .
           },
           tt,
         )
-    four (a ∷ b ∷ c ∷ d ∷ v ∷ vs) h t = absurd (h .2 .2 .2 .2)
+    seven (a ∷ b ∷ c ∷ d ∷ e ∷ f ∷ g ∷ v ∷ vs) h t = absurd (h .2 .2 .2 .2 .2 .2 .2)
 
 -- line 4
 prices-read :

@@ -21,7 +21,7 @@ use Rattle.texts.specs.Shape.{_to_, shape, planLine, pricesLine}
 use Rattle.texts.specs.JobLines.{Place, first, types, body, itemPrices, platePrices, done, typesOf}
 use Rattle.texts.specs.SawText.{Counted, PriceLines, Saw, sawAdmits, afterItemPrice, afterPlatePrice, bodyRead, sawAfter, sawGrammar, sawOf}
 use Rattle.texts.specs.Admitted.{OfShape, Runs}
-use Rattle.texts.specs.TextOf.{jobRows, planRows, priceRowsFrom, priceRows, sawRowsOf}
+use Rattle.texts.specs.TextOf.{jobRows, countedRow, planRows, priceRowsFrom, priceRows, sawRowsOf}
 use Rattle.texts.specs.Held.{PlanLimits, PricesWhole, PricesHeld, SawWhole}
 use Rattle.texts.proofs.Basics.{within-parts, lowest-parts}
 use Rattle.texts.proofs.ShapeLaws.{narrow-plan, narrow-prices, shape-fits, Kinds, Shorter}
@@ -63,10 +63,10 @@ plan-runs :
     → typesOf ws ≤ maxTypes
     → PlanLimits ws rs
     → Runs sawGrammar (sawOf body ws before none) (planRows rs) (sawOf body ws (before ++ rs) none)
-unfolding planRows sawAdmits sawAfter bodyRead
+unfolding planRows countedRow sawAdmits sawAfter bodyRead Fit
 plan-runs ws before [] n h = ap (λ (l : List Counted). sawOf body ws l none) (sym (append-nil before))
 plan-runs ws before (r ∷ rs) n h =
-    let vs : List ℕ = r .plate ∷ r .type ∷ r .count ∷ r .turn ∷ [] in
+    let vs : List ℕ = drop 1 (countedRow r) in
     let line : OfShape (planLine ws) (3 ∷ vs) = record { others = vs; numbers = refl; limits = omega arith; turned = h .0 .lies } in (
       inl line,
       shape-fits (planLine ws) (3 ∷ vs) (narrow-plan ws (omega arith)) line,

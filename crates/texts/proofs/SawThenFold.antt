@@ -6,6 +6,7 @@ use mathlib.Core.Option.{Option, none, some}
 use Rattle.job.specs.Verdict.{pass}
 use Rattle.job.specs.Job.{Job, jobOf}
 use Rattle.job.proofs.Verdicts.{then-first, then-second, then-both}
+use Rattle.listing.specs.Listing.{plateAt}
 use Rattle.layouts.specs.Placement.{Placement, placementWords}
 use Rattle.layouts.specs.Demand3.{J, L}
 use Rattle.layouts.proofs.row.RowLines.{words-rows}
@@ -76,9 +77,10 @@ module _ (s : Saw) (held : SawWhole s) (rows : sawRows s ≡ pass) where
   same-counts : foldCounts f ≡ sawCounts s
   same-counts = saw-back s held rows
 
-  same-lines : countedOf (L (s .job) .cuts) (foldCounts f) ≡ s .plan
+  same-lines : countedOf (plateAt (L (s .job))) (L (s .job) .cuts) (foldCounts f) ≡ s .plan
   same-lines =
-      ap (countedOf (L (s .job) .cuts)) same-counts ∙ plan-counted (L (s .job)) (bodyLine (s .job)) (s .job) (s .plan) (a .rising) (held .plan)
+      ap (countedOf (plateAt (L (s .job))) (L (s .job) .cuts)) same-counts
+      ∙ plan-counted (L (s .job)) (bodyLine (s .job)) (s .job) (s .plan) (a .shown) (a .rising) (held .plan)
 
   saw-then-fold : (out : List ℕ) → linesIn out ≡ some (printedRows s) → SawThenFold s out
   saw-then-fold out e =

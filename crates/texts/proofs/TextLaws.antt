@@ -23,6 +23,7 @@ use Rattle.texts.proofs.FoldTexts.{fold-plain, fold-both-ways}
 use Rattle.texts.proofs.LongTexts.{saw-bytes, fold-bytes, saw-prefix, fold-prefix}
 use Rattle.texts.proofs.Printed.{printed}
 use Rattle.texts.proofs.Refused.{refused-back}
+use Rattle.texts.proofs.ShownLaws.{shown-plates}
 use Rattle.texts.proofs.FoldThenSaw.{fold-saw}
 use Rattle.texts.proofs.SawThenFold.{saw-fold}
 use Rattle.texts.proofs.CallRows.{accepted-rows, accepted-plan, accepted-prices}
@@ -71,6 +72,7 @@ textLaws =
       in-parts = in-parts;
       printed = printed;
       refused = refused-back;
+      shown = shown-plates;
       rounds = record { fold-saw = fold-saw; saw-fold = saw-fold };
       decided = record { saw-bytes = saw-bytes; fold-bytes = fold-bytes; saw = saw-prefix; fold = fold-prefix };
       as-calls = as-calls;

@@ -6,7 +6,8 @@ use lib.Dec.{eqb}
 use lib.ListN.{drop}
 use Rattle.job.specs.Verdict.{Verdict, _then_}
 use Rattle.job.specs.Job.{typeOf, turnOf, jobOf, admission}
-use Rattle.listing.specs.Listing.{Cut, modelRow, listingOf}
+use Rattle.listing.specs.declared.plate.Plate.{Plate}
+use Rattle.listing.specs.Listing.{Cut, plateAt, modelRow, listingOf}
 use Rattle.layouts.specs.Lines.{rowsOf, setOf}
 use Rattle.layouts.specs.LayoutsRow.{layoutsRow}
 use Rattle.layouts.specs.Fold.{folded}
@@ -78,14 +79,18 @@ foldRows f =
     then modelRow job
     then layoutsRow (bodyLine (f .job)) job (rowsOf (f .layouts))
 
--- a line 3 for each cut that is counted
-unfoldable pub countLines : List Cut → List ℕ → List ℕ
-countLines [] ns = []
-countLines (c ∷ cs) [] = []
-countLines (c ∷ cs) (n ∷ ns) =
+-- the numbers of line 3 of a cut on plate type p that is counted n times: plate, item, count, width, height, stage (request Five), turn
+abbrev pub countRow : Plate → Cut → ℕ → List ℕ
+countRow p c n = 3 ∷ c .plate ∷ typeOf (c .item) ∷ n ∷ p .width ∷ p .height ∷ p .stage ∷ turnOf (c .item) ∷ []
+
+-- a line 3 for each cut that is counted, where `plates` gives the plate type of a number
+unfoldable pub countLines : (ℕ → Plate) → List Cut → List ℕ → List ℕ
+countLines plates [] ns = []
+countLines plates (c ∷ cs) [] = []
+countLines plates (c ∷ cs) (n ∷ ns) =
     elim (eqb n 0) [
-      | true ↦ countLines cs ns
-      | false ↦ lineOf (3 ∷ c .plate ∷ typeOf (c .item) ∷ n ∷ turnOf (c .item) ∷ []) ++ countLines cs ns
+      | true ↦ countLines plates cs ns
+      | false ↦ lineOf (countRow (plates (c .plate)) c n) ++ countLines plates cs ns
     ]
 
 -- what the fold program writes of layouts that fold
@@ -93,7 +98,7 @@ unfoldable pub foldLines : Fold → List ℕ
 foldLines f =
     let job = jobOf (f .job) in
     let l = listingOf job in
-    countLines (l .cuts) (folded job l (setOf (f .layouts)))
+    countLines (plateAt l) (l .cuts) (folded job l (setOf (f .layouts)))
 
 -- the answer to a fold text so far, if it ends here
 unfoldable pub foldWritten : Reader Fold → List ℕ

@@ -10,20 +10,21 @@ use Rattle.job.specs.Verdict.{pass}
 use Rattle.job.specs.Job.{maxTypes, maxPieces, permitted, jobOf, jobWords}
 use Rattle.plan.specs.Prices.{priceWords}
 use Rattle.layouts.specs.Lines.{layoutWords}
-use Rattle.columns.specs.Line.{lineOf}
+use Rattle.columns.specs.Line.{Fit, lineOf}
 use Rattle.texts.specs.Reader.{Grammar, maxLines, started, fed, textRow}
 use Rattle.texts.specs.JobLines.{Place, body, done, typesOf}
 use Rattle.texts.specs.SawText.{Counted, PriceLines, Saw, sawGrammar, positionOn}
 use Rattle.texts.specs.FoldText.{Fold, foldGrammar}
 use Rattle.texts.specs.TextOf.{sawRowsOf, foldRowsOf}
 
--- a line 3 within its limits, in a position that the job of the words ws permits
+-- a line 3 within its limits, in a position that the job of the words ws permits; what it shows of its plate fits nine columns (request Five)
 pub record InPlan (ws : List ℕ) (r : Counted) : Type 0 where
   pub plate : r .plate ≤ maxResiduals
   pub low : 1 ≤ r .type
   pub high : r .type ≤ typesOf ws
   pub counted : 1 ≤ r .count
   pub few : r .count ≤ maxPieces
+  pub shown : Fit (r .shown .width ∷ r .shown .height ∷ r .shown .stage ∷ [])
   pub turned : r .turn ≤ 1
   pub lies : permitted (jobOf ws) (positionOn r) ≡ true
 

@@ -10,5 +10,6 @@ pub mod TextOf
 pub mod Held
 pub mod Printed
 pub mod Refused
+pub mod Shown
 pub mod Rounds
 pub mod TextLaws

@@ -8,7 +8,8 @@ use lib.Dec.{eqb}
 use lib.ListN.{length}
 use Rattle.job.specs.Verdict.{pass}
 use Rattle.job.specs.Job.{Job, maxPieces, typeOf, turnOf, jobOf, jobWords}
-use Rattle.listing.specs.Listing.{Cut, listingOf}
+use Rattle.listing.specs.declared.plate.Plate.{Plate}
+use Rattle.listing.specs.Listing.{Cut, plateAt, listingOf}
 use Rattle.plan.specs.Prices.{pricesOf, priceSum, fewest}
 use Rattle.layouts.specs.Placement.{Placement, placementWords}
 use Rattle.layouts.specs.Lines.{layoutWords, setOf}
@@ -72,14 +73,18 @@ unfoldable pub printedRows : Saw → List (List ℕ)
 printedRows s =
     map placementRow (sawRun s .placements) ++ (resultRow (jobOf (s .job)) (sawRun s .last .turn .board) (s .prices) ∷ [])
 
--- the counted cuts of a fold, as lines 3
-unfoldable pub countedOf : List Cut → List ℕ → List Counted
-countedOf [] ns = []
-countedOf (c ∷ cs) [] = []
-countedOf (c ∷ cs) (n ∷ ns) =
+-- line 3 of a cut on plate type p that is counted n times
+abbrev pub countedCut : Plate → Cut → ℕ → Counted
+countedCut p c n = record { plate = c .plate; type = typeOf (c .item); turn = turnOf (c .item); count = n; shown = p }
+
+-- the counted cuts of a fold, as lines 3 that show their plates (request Five), where `plates` gives the plate type of a number
+unfoldable pub countedOf : (ℕ → Plate) → List Cut → List ℕ → List Counted
+countedOf plates [] ns = []
+countedOf plates (c ∷ cs) [] = []
+countedOf plates (c ∷ cs) (n ∷ ns) =
     elim (eqb n 0) [
-      | true ↦ countedOf cs ns
-      | false ↦ record { plate = c .plate; type = typeOf (c .item); turn = turnOf (c .item); count = n } ∷ countedOf cs ns
+      | true ↦ countedOf plates cs ns
+      | false ↦ countedCut (plates (c .plate)) c n ∷ countedOf plates cs ns
     ]
 
 -- the counts that a fold text folds to, and the lines 3 of the cuts counted
@@ -87,7 +92,7 @@ abbrev pub foldCounts : Fold → List ℕ
 foldCounts f = let job = jobOf (f .job) in folded job (listingOf job) (setOf (f .layouts))
 
 abbrev pub foldPlan : Fold → List Counted
-foldPlan f = countedOf (listingOf (jobOf (f .job)) .cuts) (foldCounts f)
+foldPlan f = let l = listingOf (jobOf (f .job)) in countedOf (plateAt l) (l .cuts) (foldCounts f)
 
 -- the output of the programs read back
 pub record PrintedBack : Type 0 where

@@ -43,7 +43,7 @@ lastOf cut = maxCuts
 lastOf nothing = 0
 
 -- the column "Place named", for texts, by number: 1 and 2 a line, 3 a type, 4 to 7 nothing, 8 and 9 a line, 10 nothing, 11 a type, 12 a residual type,
--- 13 nothing, 14 a cut, 15 to 18 a line, and so request One's 19; 5 is about lent buffers and refuses no text
+-- 13 nothing, 14 a cut, 15 to 18 a line, and so request One's 19 and request Five's 20; 5 is about lent buffers and refuses no text
 abbrev pub placesNamed : List Names
 placesNamed =
     line
@@ -65,16 +65,17 @@ placesNamed =
     ∷ line
     ∷ line
     ∷ line
+    ∷ line
     ∷ []
 
 -- what number n names
 abbrev pub namedBy : ℕ → Names
 namedBy n = getD placesNamed (n - 1) nothing
 
--- number n and place p stand in the table: n is 1 to 19 but not 5, and p is a place of what n names
+-- number n and place p stand in the table: n is 1 to 20 but not 5, and p is a place of what n names
 pub record InTable (n p : ℕ) : Type 0 where
   pub low : 1 ≤ n
-  pub high : n ≤ 19
+  pub high : n ≤ 20
   pub not-five : n ≡ 5 → ⊥
   pub from : firstOf (namedBy n) ≤ p
   pub to : p ≤ lastOf (namedBy n)

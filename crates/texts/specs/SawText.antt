@@ -1,6 +1,6 @@
 -- Document 01, "Texts": the saw text, "kinds 1, 2, 3 and, if present, 4, 5, 6", and what the saw program writes, "kinds 7 and 8, or one line 9 alone".
 use Prim.Native.Nat.{ℕ, zero, suc, _+_, _*_}
-use mathlib.Core.Bool.{Bool, true, false, cond}
+use mathlib.Core.Bool.{Bool, true, false, cond, not}
 use mathlib.Core.List.{List, [], _∷_, _++_, flatMap}
 use mathlib.Core.Option.{Option, none, some}
 use lib.Dec.{leb, eqb}
@@ -8,7 +8,9 @@ use lib.ListN.{length, getD, drop}
 use Rattle.job.specs.Lists.{sumOf}
 use Rattle.job.specs.Verdict.{Verdict, pass, refuse, _then_, lowest}
 use Rattle.job.specs.Job.{Job, typeOf, turnOf, jobOf, admission}
-use Rattle.listing.specs.Listing.{Listing, modelRow, listingOf}
+use Rattle.listing.specs.declared.plate.Plate.{Plate}
+use Rattle.listing.specs.Plate.{plate, same}
+use Rattle.listing.specs.Listing.{Listing, plateAt, modelRow, listingOf}
 use Rattle.plan.specs.Plan.{planRow}
 use Rattle.plan.specs.Prices.{pricesOf, modelSized, pricesRow, priceSum, fewest}
 use Rattle.layouts.specs.Placement.{Placement}
@@ -19,12 +21,14 @@ use Rattle.texts.specs.Shape.{Shape, jobLine, itemLine, planLine, prices
 use Rattle.texts.specs.Reader.{Grammar, Reader, started, fed, textRow, written}
 use Rattle.texts.specs.JobLines.{Place, first, types, body, itemPrices, platePrices, done, typesOf, afterType, bodyLine}
 
--- a line 3: plate, item type, its turn, count; request One, "a cut becomes plate, type and turn"
+-- a line 3: plate, item type, its turn, count; request One, "a cut becomes plate, type and turn"; and the plate that it shows, request Five, "the plate's
+-- width, height and stage"
 pub record Counted : Type 0 where
   pub plate : ℕ
   pub type : ℕ
   pub turn : ℕ
   pub count : ℕ
+  pub shown : Plate
 
 -- lines 4, 5 and 6 so far: the n and the m of line 4, and the price words, D first
 pub record PriceLines : Type 0 where
@@ -74,6 +78,17 @@ priceRead s next price =
       | some ps ↦ record { place = next (ps .types) (ps .residuals); job = s .job; plan = s .plan; prices = some (withPrice ps price) }
     ]
 
+-- the line 3 of numbers, the kind first: plate, item, count, width, height, stage, turn
+abbrev pub countedIn : List ℕ → Counted
+countedIn ns =
+    record {
+      plate = getD ns 1 0;
+      type = getD ns 2 0;
+      turn = getD ns 7 0;
+      count = getD ns 3 0;
+      shown = plate (getD ns 4 0) (getD ns 5 0) (getD ns 6 0);
+    }
+
 -- a line of the body: of kind 3 it is one more of the plan, of kind 4 it begins the prices
 unfoldable pub bodyRead : Saw → List ℕ → Saw
 bodyRead s ns =
@@ -82,7 +97,7 @@ bodyRead s ns =
           record {
             place = body;
             job = s .job;
-            plan = s .plan ++ (record { plate = getD ns 1 0; type = getD ns 2 0; turn = getD ns 4 0; count = getD ns 3 0 } ∷ []);
+            plan = s .plan ++ (countedIn ns ∷ []);
             prices = none;
           }
       | false ↦
@@ -139,6 +154,14 @@ namedCut l r = cutOf l (r .plate) (positionOn r)
 unfoldable pub cutsNamed : Listing → ℕ → List Counted → Verdict
 cutsNamed l k rs = lowest 8 (λ _ r. eqb (namedCut l r) 0) k rs
 
+-- the plate that a line 3 shows is not the one that plate type has in the model
+unfoldable pub misshown : Listing → Counted → Bool
+misshown l r = not (same (r .shown) (plateAt l (r .plate)))
+
+-- 20 (request Five): the plate's width, height and stage "disagree with the model", naming the line; the lines 3 are numbered from k
+unfoldable pub platesShown : Listing → ℕ → List Counted → Verdict
+platesShown l k rs = lowest 20 (λ _ r. misshown l r) k rs
+
 -- 9: "cut not after the last", naming the line; the last cut is c, 0 before the first line
 unfoldable pub cutsRising : Listing → ℕ → ℕ → List Counted → Verdict
 cutsRising l c k [] = pass
@@ -166,7 +189,7 @@ priceLinesRow job l none = pass
 priceLinesRow job l (some ps) =
     modelSized job l (ps .types) (ps .residuals) then pricesRow l (pricesOf job (ps .words))
 
--- the rows after the line row: job, model, plan, prices
+-- the rows after the line row: job, model, plan, prices; in the plan row 20 stands "after 8 and before 9", each over all lines 3
 unfoldable pub sawRows : Saw → Verdict
 sawRows s =
     let job = jobOf (s .job) in
@@ -174,6 +197,7 @@ sawRows s =
     admission job
     then modelRow job
     then cutsNamed l (bodyLine (s .job)) (s .plan)
+    then platesShown l (bodyLine (s .job)) (s .plan)
     then cutsRising l 0 (bodyLine (s .job)) (s .plan)
     then planRow job l (planCounts l (s .plan))
     then priceLinesRow job l (s .prices)

@@ -1,5 +1,5 @@
 -- Document 01, "Texts": the kinds of lines, the limits of their numbers, and the line row of one line, 1, 2 and 19 (request One).
-use Prim.Native.Nat.{ℕ, _+_, _*_}
+use Prim.Native.Nat.{ℕ, _+_, _-_, _*_}
 use mathlib.Core.Bool.{Bool, true, false, not, _&&_}
 use mathlib.Core.List.{List, [], _∷_}
 use mathlib.Core.Option.{Option, none, some}
@@ -9,6 +9,7 @@ use Rattle.job.specs.Sizes.{maxBlade, maxResiduals}
 use Rattle.job.specs.Verdict.{Verdict, refuse, _then_, refuseIf, within}
 use Rattle.job.specs.Job.{jobOf, permitted, maxSide, maxTypes, maxPieces}
 use Rattle.plan.specs.Prices.{maxPrice}
+use Rattle.columns.specs.Group.{limit}
 use Rattle.texts.specs.JobLines.{typesOf}
 
 -- the lowest and the highest value of a number
@@ -19,6 +20,10 @@ pub record Limit : Type 0 where
 infix 70 _to_
 abbrev pub _to_ : ℕ → ℕ → Limit
 low to high = record { low = low; high = high }
+
+-- request Five, "these three have no limits of their own": any number that nine columns hold
+abbrev pub unlimited : Limit
+unlimited = 0 to (limit - 1)
 
 -- a line that is admitted next: its kind, its running number where it has one, the limits of its other numbers in order, and whether these others
 -- turn nothing but what may be turned
@@ -51,9 +56,13 @@ jobLine = shape 1 [] (2 to 3 ∷ 0 to 1 ∷ 1 to maxSide ∷ 1 to maxSide ∷ 1 
 abbrev pub itemLine : ℕ → Shape
 itemLine i = shape 2 (i ∷ []) (1 to maxSide ∷ 1 to maxSide ∷ 1 to maxPieces ∷ 0 to 1 ∷ [])
 
--- kind 3 of a job of the words ws: plate, item, count, turn; the greatest plate is 2,047, one below the number of plate types
+-- kind 3 of a job of the words ws: plate, item, count, the plate's width, height and stage, turn; the greatest plate is 2,047, one below the number of
+-- plate types. Request Five: "these three have no limits of their own, and the turn comes last"
 abbrev pub planLine : List ℕ → Shape
-planLine ws = turning 3 (0 to maxResiduals ∷ 1 to typesOf ws ∷ 1 to maxPieces ∷ 0 to 1 ∷ []) ws 1 3
+planLine ws =
+    turning 3
+    (0 to maxResiduals ∷ 1 to typesOf ws ∷ 1 to maxPieces ∷ unlimited ∷ unlimited ∷ unlimited ∷ 0 to 1 ∷ [])
+    ws 1 6
 
 -- kind 4: D, n, m
 abbrev pub pricesLine : Shape

@@ -6,7 +6,6 @@ use mathlib.Core.Bool.{false}
 use mathlib.Core.List.{List, [], _∷_, _++_}
 use mathlib.Core.Option.{some}
 use lib.ListN.{length, take}
-use Rattle.job.specs.Sizes.{maxTypes}
 use Rattle.job.specs.Verdict.{pass, refuse}
 use Rattle.job.specs.Buffers.{filled, platesSize, cutsSize, countsSize}
 use Rattle.job.specs.Job.{jobOf}
@@ -25,6 +24,7 @@ use Rattle.texts.specs.Admitted.{OfShape, Admitted, Text}
 use Rattle.texts.specs.Held.{SawWhole, FoldWhole, SawBothWays, FoldBothWays}
 use Rattle.texts.specs.Printed.{LinesBothWays, PrintedBack}
 use Rattle.texts.specs.Refused.{RefusedBack}
+use Rattle.texts.specs.Shown.{ShownPlates}
 use Rattle.texts.specs.Rounds.{Rounds}
 
 -- a line, both ways
@@ -85,9 +85,9 @@ pub record InParts {S : Type 0} (g : Grammar S) : Type 0 where
   -- what a reader keeps of a line that has begun is at most 81 bytes
   pub kept : (bs : List ℕ) → length (fed g (started g) bs .pending) < placementLineBytes
 
--- the bytes of the longest saw text, 4,600,332: line 1, 40 lines 2, and a line 3 for each of the 99,958 lines after them
+-- the bytes of the longest saw text, 7,299,900: line 1, one line 2, and a line 3 for each of the 99,997 lines after them
 abbrev pub longestSawText : ℕ
-longestSawText = jobLineBytes + typeLineBytes * maxTypes + planLineBytes * (maxLines - 1 - maxTypes)
+longestSawText = jobLineBytes + typeLineBytes + planLineBytes * (maxLines - 2)
 
 -- the bytes of the longest fold text, 8,199,873: line 1, one line 2, and a line 7 for each of the 99,997 lines after them
 abbrev pub longestFoldText : ℕ
@@ -132,6 +132,7 @@ pub record TextLaws : Type 1 where
   pub in-parts : {S : Type 0} (g : Grammar S) → InParts g
   pub printed : PrintedBack
   pub refused : RefusedBack
+  pub shown : ShownPlates
   pub rounds : Rounds
   pub decided : Decided
   pub as-calls : (plates cuts : List ℕ) → platesSize ≤ length plates → cutsSize ≤ length cuts → AsCalls plates cuts

@@ -24,9 +24,14 @@ itemRows i (w ∷ h ∷ d ∷ v ∷ ws) = (2 ∷ i ∷ w ∷ h ∷ d ∷ v ∷ [
 unfoldable pub jobRows : List ℕ → List (List ℕ)
 jobRows ws = (1 ∷ take wordsOfHead ws) ∷ itemRows 1 (drop wordsOfHead ws)
 
+-- the numbers of a line 3; request Five, the plate that it shows stands "after the count" and "the turn comes last"
+unfoldable pub countedRow : Counted → List ℕ
+countedRow r =
+    3 ∷ r .plate ∷ r .type ∷ r .count ∷ r .shown .width ∷ r .shown .height ∷ r .shown .stage ∷ r .turn ∷ []
+
 -- the lines 3 of a plan
 unfoldable pub planRows : List Counted → List (List ℕ)
-planRows rs = map (λ r. 3 ∷ r .plate ∷ r .type ∷ r .count ∷ r .turn ∷ []) rs
+planRows rs = map countedRow rs
 
 -- a line for each price, from the k-th on: of n item types a line 5, then a line 6
 unfoldable pub priceRowsFrom : ℕ → ℕ → List ℕ → List (List ℕ)

@@ -10,9 +10,9 @@ jobLineBytes = lineBytes 7
 abbrev pub typeLineBytes : ℕ
 typeLineBytes = lineBytes 6
 
--- kind 3: the kind, plate, item, count, turn
+-- kind 3: the kind, plate, item, count, the plate's width, height and stage (request Five), turn
 abbrev pub planLineBytes : ℕ
-planLineBytes = lineBytes 5
+planLineBytes = lineBytes 8
 
 -- kind 4: the kind, D, n, m
 abbrev pub pricesLineBytes : ℕ

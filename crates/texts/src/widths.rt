@@ -1,6 +1,5 @@
 // The bytes of a line of each kind, byte 10 included; `texts/Widths` has the same as definitions.
 use columns::widths::GROUP;
-use job::sizes::MAX_TYPES;
 
 // Kind 1: the kind, stages, exact, W, H, n, b.
 pub const JOB_LINE: usize = GROUP * 7 + 1;
@@ -8,8 +7,8 @@ pub const JOB_LINE: usize = GROUP * 7 + 1;
 // Kind 2: the kind, type, width, height, demand, leave.
 pub const TYPE_LINE: usize = GROUP * 6 + 1;
 
-// Kind 3: the kind, plate, item, count, turn.
-pub const PLAN_LINE: usize = GROUP * 5 + 1;
+// Kind 3: the kind, plate, item, count, the plate's width, height and stage, turn.
+pub const PLAN_LINE: usize = GROUP * 8 + 1;
 
 // Kind 4: the kind, D, n, m.
 pub const PRICES_LINE: usize = GROUP * 4 + 1;
@@ -32,10 +31,8 @@ pub const LONGEST_LINE: usize = PLACEMENT_LINE;
 // The most lines of a text.
 pub const MAX_LINES: u32 = 99_999;
 
-// The bytes of the longest saw text: line 1, 40 lines 2, and a line 3 for each line after them.
-pub const LONGEST_SAW_TEXT: usize = JOB_LINE
-    + TYPE_LINE * (MAX_TYPES as usize)
-    + PLAN_LINE * (MAX_LINES as usize - 1 - MAX_TYPES as usize);
+// The bytes of the longest saw text: line 1, one line 2, and a line 3 for each line after them.
+pub const LONGEST_SAW_TEXT: usize = JOB_LINE + TYPE_LINE + PLAN_LINE * (MAX_LINES as usize - 2);
 
 // The bytes of the longest fold text: line 1, one line 2, and a line 7 for each line after them.
 pub const LONGEST_FOLD_TEXT: usize = JOB_LINE

@@ -18,7 +18,7 @@ use job::sizes::MAX_SIDE;
 use job::sizes::MAX_TYPES;
 use job::sizes::TYPES;
 
-// The limits as numbers of a line: sides, the blade, item types, pieces, prices, residual types.
+// The limits as numbers of a line: sides, the blade, item types, pieces, prices, residual types; the greatest number that nine columns hold.
 const SIDE_LIMIT: u32 = MAX_SIDE as u32;
 
 const BLADE_LIMIT: u32 = MAX_BLADE as u32;
@@ -30,6 +30,8 @@ const PIECES_LIMIT: u32 = MAX_PIECES as u32;
 const PRICE_LIMIT: u32 = MAX_PRICE as u32;
 
 const RESIDUALS_LIMIT: u32 = MAX_RESIDUALS as u32;
+
+const COLUMNS_LIMIT: u32 = 999_999_999;
 
 // Kind 1: stages, exact, W, H, n, b.
 pub fn job_line(numbers: &[u32]) -> u16
@@ -51,14 +53,22 @@ pub fn item_line(numbers: &[u32], i: ItemType) -> u16
     judge(numbers, &head, &low, &high)
 }
 
-// Kind 3 of a job's words: plate, item, count, turn.
+// Kind 3 of a job's words: plate, item, count, the plate's width, height and stage, turn. The three that show the plate have no limits of their own.
 pub fn plan_line(numbers: &[u32], job: &[u16]) -> u16
     requires { ⌜ wordsOfHead ≤ length (now job) ⌝ }
     ensures { λ r. ⌜ ((line : ℕ) → lineVerdict r line ≡ numbersRow line (planLine (now (job .entry)) ∷ []) (now (numbers .entry))) ⌝ }
 {
-    let low = [0u32, 1, 1, 0];
-    let high = [RESIDUALS_LIMIT, job[TYPES] as u32, PIECES_LIMIT, 1];
-    judge_turn(numbers, 3, &low, &high, job, 1, 3)
+    let low = [0u32, 1, 1, 0, 0, 0, 0];
+    let high = [
+        RESIDUALS_LIMIT,
+        job[TYPES] as u32,
+        PIECES_LIMIT,
+        COLUMNS_LIMIT,
+        COLUMNS_LIMIT,
+        COLUMNS_LIMIT,
+        1,
+    ];
+    judge_turn(numbers, 3, &low, &high, job, 1, 6)
 }
 
 // Kind 4: D, n, m.

@@ -7,13 +7,15 @@ use mathlib.Core.Option.{Option, none, some}
 use lib.Dec.{ltb, eqb}
 use lib.ListN.{length}
 use Rattle.job.specs.Sizes.{maxPieces}
-use Rattle.job.specs.Job.{Job, typeOf, turnOf}
+use Rattle.job.specs.Job.{Job}
+use Rattle.listing.specs.declared.plate.Plate.{Plate}
 use Rattle.listing.specs.Listing.{Cut}
 use Rattle.plan.specs.Prices.{pricesOf, priceSum}
 use Rattle.columns.specs.Group.{put}
 use Rattle.columns.specs.Line.{lineOf}
 use Rattle.texts.specs.Widths.{planLineBytes, placementLineBytes, summaryLineBytes}
 use Rattle.texts.specs.SawText.{PriceLines}
+use Rattle.texts.specs.FoldText.{countRow}
 
 -- bytes written to the output d from `at` to `end`, which makes it `out`: every other byte is as it was
 pub record Wrote (d : List ℕ) (at : ℕ) (bytes : List ℕ) (end : ℕ) (out : List ℕ) : Type 0 where
@@ -27,9 +29,9 @@ longestSaw = placementLineBytes * maxPieces + summaryLineBytes
 abbrev pub longestFold : ℕ
 longestFold = planLineBytes * maxPieces
 
--- line 3 of a cut, if it is counted
-unfoldable pub countLine : Cut → ℕ → List ℕ
-countLine c n = elim (eqb n 0) [ true ↦ [] | false ↦ lineOf (3 ∷ c .plate ∷ typeOf (c .item) ∷ n ∷ turnOf (c .item) ∷ []) ]
+-- line 3 of a cut, if it is counted, where `plates` gives the plate type of a number (request Five)
+unfoldable pub countLine : (ℕ → Plate) → Cut → ℕ → List ℕ
+countLine plates c n = elim (eqb n 0) [ true ↦ [] | false ↦ lineOf (countRow (plates (c .plate)) c n) ]
 
 -- "Fewest is 1 exactly if (boards−1)×D is below that sum"
 unfoldable pub isFewest : ℕ → ℕ → ℕ → Bool

@@ -9,7 +9,9 @@ const KINDS: [&[&str]; 8] = [
     &[],
     &["1", "stages", "exact", "W", "H", "n", "b"],
     &["2", "type", "width", "height", "demand", "leave"],
-    &["3", "plate", "item", "count", "turn"],
+    &[
+        "3", "plate", "item", "count", "width", "height", "stage", "turn",
+    ],
     &["4", "D", "n", "m"],
     &["5", "type", "price"],
     &["6", "plate type", "price"],
@@ -18,11 +20,13 @@ const KINDS: [&[&str]; 8] = [
     ],
 ];
 
-/// The limits of a number by its name; n is the job's number of item types.
+/// The limits of a number by its name; n is the job's number of item types. The plate's width, height
+/// and stage on line 3 have none.
 fn limits(kind: usize, name: &str, types: usize) -> Option<[usize; 2]> {
     Some(match name {
         "stages" => [2, 3],
         "exact" | "leave" | "turn" => [0, 1],
+        "width" | "height" | "stage" if kind == 3 => return None,
         "W" | "H" | "width" | "height" => [1, 10_000],
         "n" => [1, 40],
         "b" => [0, 20],

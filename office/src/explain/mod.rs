@@ -50,9 +50,10 @@ pub fn explain(text: &[u8], number: usize, place: usize) -> Result<String, Strin
         17 => layouts::past_board(&sent, place),
         18 => layouts::position(&sent, place),
         19 => plan::turned(&sent, place),
+        20 => plan::other_plate(&sent, place),
         _ => {
             return Err(format!(
-                "there is no refusal {number}; they run from 1 to 19"
+                "there is no refusal {number}; they run from 1 to 20"
             ))
         }
     };

@@ -1,16 +1,16 @@
-//! Refusals 8 to 12: the plan, and the pieces of a fold text.
+//! Refusals 8 to 12, 19 and 20: the plan, and the pieces of a fold text.
 
 use super::sent::Sent;
 use super::{layouts, Told};
 use crate::columns::thousands;
 use crate::job::{Job, MOST_PIECES};
-use crate::listing::Listing;
-use crate::plan::{balance, cut_of_type};
+use crate::listing::{Listing, Plate};
+use crate::plan::{balance, cut_of_type, other_shown};
 
 /// Plate type, item type, count and turn of a line 3.
 fn plan_line(sent: &Sent, line: usize) -> Option<[usize; 4]> {
     match sent.numbers(line)?[..] {
-        [3, plate, item, count, turn] => Some([plate, item, count, turn]),
+        [3, plate, item, count, _, _, _, turn] => Some([plate, item, count, turn]),
         _ => None,
     }
 }
@@ -61,7 +61,7 @@ fn why_no_cut(
 pub fn turned(sent: &Sent, line: usize) -> Option<Told> {
     let job = sent.job()?;
     let (item_type, turn) = match sent.numbers(line)?[..] {
-        [3, _, item, _, turn] => (item, turn),
+        [3, _, item, _, _, _, _, turn] => (item, turn),
         [7, _, _, _, _, item, _, _, turn] => (item, turn),
         _ => return None,
     };
@@ -82,6 +82,30 @@ pub fn turned(sent: &Sent, line: usize) -> Option<Told> {
         let fault = format!("the turn is 1, but item type {item_type} ({width} by {height}) {why}");
         Told::new(format!("line {line}"), fault, cure)
     })
+}
+
+/// Refusal 20.
+pub fn other_plate(sent: &Sent, line: usize) -> Option<Told> {
+    let (_, listing) = sent.listing()?;
+    let [plate, item, _, turn] = plan_line(sent, line)?;
+    listing.cut_of(plate, item, turn == 1)?;
+    let shown: [usize; 3] = sent.numbers(line)?[4..7].try_into().ok()?;
+    let there = listing.plates.get(plate)?;
+    let other = other_shown(there, shown)?;
+    let fault = format!(
+        "in the model plate type {plate} is {}; the line shows {other}",
+        there.words()
+    );
+    let is_shown = |plate: &Plate| [plate.width, plate.height, plate.stage] == shown;
+    let cure = match listing.plates.iter().position(is_shown) {
+        Some(meant) => format!(
+            "Number plate types as docs/FORMAT.md says: what the line shows is plate type {meant} there"
+        ),
+        None => "Take width, height and stage from the listing of this very job, blade and mode \
+                 included; no plate type of it is what the line shows"
+            .to_string(),
+    };
+    Some(Told::new(format!("line {line}"), fault, cure))
 }
 
 /// Refusal 9.

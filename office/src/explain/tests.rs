@@ -37,7 +37,7 @@ fn check(texts: &[(String, &str)]) {
 
 #[test]
 fn lines_not_of_the_form() {
-    let whole = text(&[&[3, 0, 1, 2, 0]]);
+    let whole = text(&[&[3, 0, 1, 2, 9, 7, 1, 0]]);
     let line_2 = &line(&[2, 1, 5, 4, 2, 0]);
     check(&[
         (String::new(), "Refusal 1, line 1: the text ends before it. Write there \"1, stages, exact, W, H, n, b\"."),
@@ -50,18 +50,19 @@ fn lines_not_of_the_form() {
         (whole.replacen(line_2, &line(&[2, 1, 5, 4, 2]), 1), "line 2: it has 45 columns; 6 numbers take 54"),
         (whole.replacen("        9", "       09", 1), "columns 28 to 36 hold \"       09\""),
         (whole.trim_end().to_string(), "line 4: it does not end with byte 10"),
-        (text(&[&[8, 1, 0, 1, 0]]), "kind 8 does not belong there. Write there \"3, plate, item, count, turn\" or \"4, D, n, m\""),
+        (text(&[&[8, 1, 0, 1, 0]]), "kind 8 does not belong there. Write there \"3, plate, item, count, width, height, stage, turn\" or \"4, D, n, m\""),
+        (text(&[&[3, 0, 1, 2, 0]]), "line 4: it has 45 columns; 8 numbers take 72. Write there \"3, plate, item, count, width, height, stage, turn\" or"),
         (text(&[&[4, 1, 1, 0], &[6, 1, 1]]), "line 5: kind 6 does not belong there. Write there \"5, 1, price\""),
         (text(&[&[4, 1, 1, 0], &[5, 1, 1], &[5, 2, 1]]), "line 6: kind 5 does not belong there. Write there nothing"),
         (text(&[&[4, 1, 2, 5], &[5, 1, 1]]), "line 6: the text ends before it"),
-        (text(&[&[7, 1, 1, 1, 1, 1, 0, 0, 0], &[3, 0, 1, 1, 0]]), "line 5: kind 3 does not belong there"),
+        (text(&[&[7, 1, 1, 1, 1, 1, 0, 0, 0], &[3, 0, 1, 1, 9, 7, 1, 0]]), "line 5: kind 3 does not belong there"),
         (whole + "\n", "line 5: its first nine columns hold no kind"),
     ]);
 }
 
 #[test]
 fn a_text_sent_to_the_other_program() {
-    let plan = text(&[&[3, 0, 1, 2, 0]]);
+    let plan = text(&[&[3, 0, 1, 2, 9, 7, 1, 0]]);
     let layouts = text(&[&[7, 1, 1, 1, 1, 1, 0, 0, 0]]);
     for (text, answer) in [
         (&plan, reference::fold_text(plan.as_bytes())),
@@ -89,10 +90,19 @@ fn values_outside_their_limits() {
             "Refusal 2, line 1: b is 21, outside its limits. Write b from 0 to 20.",
         ),
         (
-            text(&[&[3, 0, 3, 1, 0]]),
+            text(&[&[3, 0, 3, 1, 9, 7, 1, 0]]),
             "line 4: item is 3, outside its limits. Write item from 1 to 2",
         ),
-        (text(&[&[3, 0, 1, 4001, 0]]), "count is 4,001"),
+        (text(&[&[3, 0, 1, 4001, 9, 7, 1, 0]]), "count is 4,001"),
+        // The plate's width, height and stage have no limits, and are no fault of limits beside one.
+        (
+            text(&[&[3, 0, 1, 0, 0, 10_001, 9, 0]]),
+            "count is 0, outside",
+        ),
+        (
+            text(&[&[3, 0, 1, 1, 999_999_999, 0, 4, 2]]),
+            "turn is 2, outside",
+        ),
         (text(&[&[4, 10_000, 2, 5]]), "D is 10,000"),
         (text(&[&[7, 1, 1, 1, 1, 3, 0, 0, 0]]), "type is 3"),
     ]);
@@ -136,14 +146,33 @@ fn jobs_and_models() {
 fn plans() {
     let exact = job("2E", [9, 7], &[[5, 4, 2], [3, 3, 3], [4, 4, 1]]).text();
     check(&[
-        (text(&[&[3, 1, 1, 1, 0]]), "item type 1 (5 by 4) cannot be cut from plate type 1 (9 by 3, stage 1): it does not fit"),
-        (text(&[&[3, 9, 1, 1, 0]]), "there is no plate type 9; this job's run from 0 to 5"),
-        (exact + &line(&[3, 2, 2, 1, 0]), "Refusal 8, line 5: item type 2 (3 by 3) cannot be cut from plate type 2 (4 by 4, stage 2): it is not just as high"),
-        (text(&[&[3, 0, 2, 1, 0], &[3, 0, 1, 1, 0]]), "Refusal 9, line 5: it names cut 1 (plate type 0, item type 1, turn 0)"),
-        (text(&[&[3, 0, 1, 3000, 0], &[3, 0, 2, 1001, 0]]), "Refusal 10, the whole plan: there are 4,001 cuts"),
+        (text(&[&[3, 1, 1, 1, 9, 3, 1, 0]]), "item type 1 (5 by 4) cannot be cut from plate type 1 (9 by 3, stage 1): it does not fit"),
+        (text(&[&[3, 9, 1, 1, 1, 1, 1, 0]]), "there is no plate type 9; this job's run from 0 to 5"),
+        (exact + &line(&[3, 2, 2, 1, 4, 4, 2, 0]), "Refusal 8, line 5: item type 2 (3 by 3) cannot be cut from plate type 2 (4 by 4, stage 2): it is not just as high"),
+        (text(&[&[3, 0, 2, 1, 9, 7, 1, 0], &[3, 0, 1, 1, 9, 7, 1, 0]]), "Refusal 9, line 5: it names cut 1 (plate type 0, item type 1, turn 0)"),
+        (text(&[&[3, 0, 1, 3000, 9, 7, 1, 0], &[3, 0, 2, 1001, 9, 7, 1, 0]]), "Refusal 10, the whole plan: there are 4,001 cuts"),
         (text(&[]), "Refusal 11, item type 1: it is cut 0 times; 2 are demanded on line 2"),
-        (text(&[&[3, 0, 1, 2, 0], &[3, 1, 2, 1, 0], &[3, 2, 2, 3, 0], &[3, 4, 2, 1, 0]]), "Refusal 12, plate type 2: it is 4 by 4, stage 2, is cut 3 times and arises 2 times"),
+        (text(&[&[3, 0, 1, 2, 9, 7, 1, 0], &[3, 1, 2, 1, 9, 3, 1, 0], &[3, 2, 2, 3, 4, 4, 2, 0], &[3, 4, 2, 1, 6, 3, 2, 0]]), "Refusal 12, plate type 2: it is 4 by 4, stage 2, is cut 3 times and arises 2 times"),
     ]);
+}
+
+#[test]
+fn plates_shown() {
+    let whole = [3, 0, 1, 2, 9, 7, 1, 0];
+    check(&[
+        (text(&[&[3, 0, 1, 2, 8, 7, 1, 0]]), "Refusal 20, line 4: in the model plate type 0 is 9 by 7, stage 1; the line shows width 8 for 9. Take width, height and stage from the listing"),
+        (text(&[&whole, &[3, 1, 2, 1, 9, 4, 1, 0]]), "Refusal 20, line 5: in the model plate type 1 is 9 by 3, stage 1; the line shows height 4 for 3. Number plate types as docs/FORMAT.md says: what the line shows is plate type 3 there."),
+        (text(&[&whole, &[3, 2, 2, 1, 4, 4, 3, 0]]), "the line shows stage 3 for 2. Take"),
+        (text(&[&whole, &[3, 1, 2, 1, 4, 4, 2, 0]]), "the line shows width 4 for 9, height 4 for 3, stage 2 for 1. Number plate types as docs/FORMAT.md says: what the line shows is plate type 2 there."),
+        (text(&[&[3, 0, 1, 2, 65_545, 7, 1, 0]]), "the line shows width 65,545 for 9. Take"),
+        (text(&[&[3, 0, 1, 2, 9, 7, 999_999_999, 0]]), "the line shows stage 999,999,999 for 1"),
+        (text(&[&[3, 0, 1, 1, 9, 7, 1, 0], &[3, 0, 1, 1, 8, 7, 1, 0]]), "Refusal 20, line 5: in the model"),
+        (text(&[&[3, 1, 1, 1, 8, 8, 8, 0]]), "Refusal 8, line 4: item type 1"),
+    ]);
+    // A line that shows its plate is none of refusal 20, nor one that names no cut.
+    for line in [&whole, &[3, 1, 1, 1, 8, 8, 8, 0]] {
+        assert!(explain(text(&[line]).as_bytes(), 20, 4).is_err());
+    }
 }
 
 #[test]
@@ -151,12 +180,12 @@ fn turns() {
     let turning = job_with_leave("2N", [9, 7], &[[5, 4, 2, 1], [3, 3, 3, 1]]).text();
     let flat = job_with_leave("2N", [5, 3], &[[3, 5, 1, 1]]).text();
     check(&[
-        (text(&[&[3, 0, 1, 2, 1]]), "Refusal 19, line 4: the turn is 1, but item type 1 (5 by 4) has no leave to be turned on line 2"),
+        (text(&[&[3, 0, 1, 2, 9, 7, 1, 1]]), "Refusal 19, line 4: the turn is 1, but item type 1 (5 by 4) has no leave to be turned on line 2"),
         (text(&[&[7, 1, 1, 1, 1, 1, 0, 0, 1]]), "Refusal 19, line 4: the turn is 1, but item type 1 (5 by 4) has no leave"),
-        (turning.clone() + &line(&[3, 0, 2, 1, 1]), "Refusal 19, line 4: the turn is 1, but item type 2 (3 by 3) is square"),
-        (turning.clone() + &line(&[3, 0, 2, 1, 2]), "Refusal 2, line 4: turn is 2"),
-        (turning + &line(&[3, 1, 1, 1, 1]), "item type 1 turned (4 by 5) cannot be cut from plate type 1 (9 by 3, stage 1): it does not fit"),
-        (flat.clone() + &line(&[3, 0, 1, 1, 0]), "Refusal 8, line 3: item type 1 (3 by 5) cannot be cut from plate type 0"),
+        (turning.clone() + &line(&[3, 0, 2, 1, 9, 7, 1, 1]), "Refusal 19, line 4: the turn is 1, but item type 2 (3 by 3) is square"),
+        (turning.clone() + &line(&[3, 0, 2, 1, 9, 7, 1, 2]), "Refusal 2, line 4: turn is 2"),
+        (turning + &line(&[3, 1, 1, 1, 9, 3, 1, 1]), "item type 1 turned (4 by 5) cannot be cut from plate type 1 (9 by 3, stage 1): it does not fit"),
+        (flat.clone() + &line(&[3, 0, 1, 1, 5, 3, 1, 0]), "Refusal 8, line 3: item type 1 (3 by 5) cannot be cut from plate type 0"),
         (flat + &line(&[7, 1, 1, 1, 1, 1, 0, 0, 0]), "Refusal 17, strip from line 3: it reaches up to 5, the board to 3"),
     ]);
 }
@@ -164,10 +193,10 @@ fn turns() {
 #[test]
 fn prices() {
     let plan: [&[usize]; 4] = [
-        &[3, 0, 1, 2, 0],
-        &[3, 1, 2, 1, 0],
-        &[3, 2, 2, 1, 0],
-        &[3, 4, 2, 1, 0],
+        &[3, 0, 1, 2, 9, 7, 1, 0],
+        &[3, 1, 2, 1, 9, 3, 1, 0],
+        &[3, 2, 2, 1, 4, 4, 2, 0],
+        &[3, 4, 2, 1, 6, 3, 2, 0],
     ];
     let few: [&[usize]; 2] = [&[4, 1, 1, 0], &[5, 1, 1]];
     let low: [&[usize]; 8] = [
@@ -300,17 +329,17 @@ fn layouts_with_a_blade() {
 #[test]
 fn other_texts_and_numbers_are_told() {
     let good = text(&[
-        &[3, 0, 1, 2, 0],
-        &[3, 1, 2, 1, 0],
-        &[3, 2, 2, 1, 0],
-        &[3, 4, 2, 1, 0],
+        &[3, 0, 1, 2, 9, 7, 1, 0],
+        &[3, 1, 2, 1, 9, 3, 1, 0],
+        &[3, 2, 2, 1, 4, 4, 2, 0],
+        &[3, 4, 2, 1, 6, 3, 2, 0],
     ]);
-    for number in 1..=19 {
+    for number in 1..=20 {
         let said = explain(good.as_bytes(), number, 2);
         assert!(
             number == 5 || said.unwrap_err().contains("is it the text that was sent?"),
             "{number}"
         );
     }
-    assert!(explain(b"", 20, 1).unwrap_err().contains("no refusal 20"));
+    assert!(explain(b"", 21, 1).unwrap_err().contains("no refusal 21"));
 }

@@ -5,6 +5,7 @@ use crate::columns::write_line;
 use crate::job::{Job, HEAD_NUMBERS, ITEM_NUMBERS};
 use crate::layout::PLACEMENT_NUMBERS;
 use crate::listing::{Listing, FULL};
+use crate::plan_lines;
 use crate::refusal::Refusal;
 
 /// The saw text: the job, the plan and the prices.
@@ -44,14 +45,7 @@ fn job_lines(job: &[u16]) -> Vec<u8> {
 /// Lines of kind 3 for the cuts that are counted.
 pub fn plan_lines(job: &[u16], counts: &[u16]) -> Result<Vec<u8>, Refusal> {
     let listing = Listing::walk(&Job::from_words(job)?, FULL)?;
-    let mut text = Vec::new();
-    for (cut, &count) in listing.cuts.iter().zip(counts) {
-        if count > 0 {
-            let item = cut.position;
-            write_words(&mut text, 3, &[cut.plate, item.item, count, item.turn()]);
-        }
-    }
-    Ok(text)
+    Ok(plan_lines::written(&listing, counts))
 }
 
 /// Lines of kind 7.

@@ -366,8 +366,9 @@ fn texts_with_a_blade() {
     let head = job_text(&words);
     assert_eq!(head.len(), 64 + 55);
     assert_eq!(&head[54..64], b"        1\n");
+    let plates = [[11, 9, 1], [11, 4, 1], [5, 4, 2]];
     let cuts = [[0, 2, 1, 2], [1, 2, 0, 2], [2, 2, 0, 0]];
-    let plan = plan_text(&cuts, &[1, 1, 1]);
+    let plan = plan_text(&plates, &cuts, &[1, 1, 1]);
     let placed = layout_text(&[
         [1, 1, 1, 1, 1, 0, 0, 0],
         [1, 1, 2, 1, 1, 6, 0, 0],

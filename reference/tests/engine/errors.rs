@@ -56,8 +56,8 @@ fn a_price_rule_on_a_residual_is_not_at_most_d() {
 fn assert_fewest(demand: u16, counts: [u32; 3], last: [u32; 5]) {
     let words = job(Mode::TwoNonExact, [3, 1], &[[1, 1, demand]]);
     let mut text = job_text(&words);
-    for (plate, count) in (0..).zip(counts) {
-        text.extend(lines(&[&[3, plate, 1, count, 0]]));
+    for ((plate, count), stage) in (0..).zip(counts).zip([1, 2, 2]) {
+        text.extend(lines(&[&[3, plate, 1, count, 3 - plate, 1, stage, 0]]));
     }
     text.extend(lines(&[&[4, 3, 1, 2], &[5, 1, 1], &[6, 1, 2], &[6, 2, 1]]));
     let output = saw_text(&text);

@@ -14,10 +14,11 @@ const OUTPUT_A: &str =
         8        2        2        1        1
 ";
 
-const PLAN_LINES_A: &str = "        3        0        1        2        0
-        3        1        2        1        0
-        3        2        2        1        0
-        3        4        2        1        0
+const PLAN_LINES_A: &str =
+    "        3        0        1        2        9        7        1        0
+        3        1        2        1        9        3        1        0
+        3        2        2        1        4        4        2        0
+        3        4        2        1        6        3        2        0
 ";
 
 /// Job A, its plan and its prices, as document 01 gives them.
@@ -133,13 +134,16 @@ fn the_6_by_6_example_needs_three_boards() {
 #[test]
 fn the_6_by_6_example_as_texts() {
     let mut plan = job_text(&example());
-    plan.extend(plan_text(&FIG_8, &SOLUTION));
+    plan.extend(plan_text(&TABLE_4, &FIG_8, &SOLUTION));
     let output = saw_text(&plan);
     let (placements, last) = output.split_at(10 * 82);
     assert_text(last, &lines(&[&[8, 3, 0, 1, 0]]));
     let mut layouts = job_text(&example());
     layouts.extend(placements);
-    assert_text(&fold_text(&layouts), &plan_text(&FIG_8, &SOLUTION));
+    assert_text(
+        &fold_text(&layouts),
+        &plan_text(&TABLE_4, &FIG_8, &SOLUTION),
+    );
     let mut lent = Lent::new();
     lent.unfold(&example(), &SOLUTION).unwrap();
     assert_text(placements, &layout_text(&lent.lines()));

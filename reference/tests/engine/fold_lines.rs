@@ -29,7 +29,7 @@ fn kinds_that_no_fold_text_has() {
     let kinds: [&[u32]; 10] = [
         &[1, 2, 0, 9, 7, 2, 0],
         &[2, 3, 1, 1, 1, 0],
-        &[3, 0, 1, 2, 0],
+        &[3, 0, 1, 2, 9, 7, 1, 0],
         &[4, 1, 2, 5],
         &[5, 1, 1],
         &[6, 1, 1],
@@ -162,7 +162,7 @@ fn more_than_4_000_lines_are_10_after_the_line_row() {
         .collect();
     let mut text = job_text(&words);
     text.extend(layout_text(&boards));
-    assert_text(&fold_text(&text), &line(&[3, 0, 1, 4_000, 0]));
+    assert_text(&fold_text(&text), &line(&[3, 0, 1, 4_000, 5, 4, 1, 0]));
     text.extend(line(GOOD));
     assert_text(&fold_text(&text), &refusal(10, 0));
     let mut outside = text.clone();
@@ -184,10 +184,10 @@ fn the_output_is_the_counted_cuts_in_rising_order() {
     let mut text = job_text(&job_a());
     text.extend(layout_text(&layouts));
     let expected = lines(&[
-        &[3, 0, 1, 2, 0],
-        &[3, 0, 2, 1, 0],
-        &[3, 1, 2, 1, 0],
-        &[3, 2, 2, 1, 0],
+        &[3, 0, 1, 2, 9, 7, 1, 0],
+        &[3, 0, 2, 1, 9, 7, 1, 0],
+        &[3, 1, 2, 1, 9, 3, 1, 0],
+        &[3, 2, 2, 1, 4, 4, 2, 0],
     ]);
     assert_text(&fold_text(&text), &expected);
 }

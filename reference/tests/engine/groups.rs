@@ -95,29 +95,34 @@ fn a_line_ends_with_byte_10() {
 fn with_line_4(bytes: &[u8]) -> Vec<u8> {
     let mut text = after_job_a(&[]);
     text.extend(bytes);
-    text.extend(line(&[3, 1, 2, 1, 0]));
+    text.extend(line(&[3, 1, 2, 1, 9, 3, 1, 0]));
     text
 }
 
 #[test]
 fn a_line_not_of_the_form_is_1_naming_itself() {
-    let good = line(&[3, 0, 1, 2, 0]);
+    let good = line(&[3, 0, 1, 2, 9, 7, 1, 0]);
     assert!(saw_text(&with_line_4(&good)).starts_with(&line(&[9, 11, 2])));
-    let forms: [&[u8]; 14] = [
+    let forms: [&[u8]; 19] = [
         b"\n",
         b" \n",
         b"\r\n",
         b"3 0 1 2\n",
         b"        3        0        1        2\n",
-        b"        3        0        1        2        0        0\n",
-        b"        3        0        1        2        0 \n",
-        b"        3        0        1        2        0\r\n",
-        b"        3        0        1        2        0",
-        b"        3        0        1       02        0\n",
-        b"        3        0        1        -        0\n",
-        b"       03        0        1        2        0\n",
-        b"        3        0        1 2               0\n",
-        b"        3        0\t       1        2        0\n",
+        b"        3        0        1        2        0\n",
+        b"        3        0        1        2        9        7        1\n",
+        b"        3        0        1        2        9        7        0\n",
+        b"        3        0        1        2        9        7        1        0        0\n",
+        b"        3        0        1        2        9        7        1        0 \n",
+        b"        3        0        1        2        9        7        1        0\r\n",
+        b"        3        0        1        2        9        7        1        0",
+        b"        3        0        1       02        9        7        1        0\n",
+        b"        3        0        1        2       09        7        1        0\n",
+        b"        3        0        1        2        9        -        1        0\n",
+        b"        3        0        1        2        9        7                 0\n",
+        b"       03        0        1        2        9        7        1        0\n",
+        b"        3        0        1 2               9        7        1        0\n",
+        b"        3        0\t       1        2        9        7        1        0\n",
     ];
     for form in forms {
         assert_text(&saw_text(&with_line_4(form)), &refusal(1, 4));
@@ -126,7 +131,7 @@ fn a_line_not_of_the_form_is_1_naming_itself() {
 
 #[test]
 fn every_byte_of_a_line_is_looked_at() {
-    let good = line(&[3, 0, 1, 2, 0]);
+    let good = line(&[3, 0, 1, 2, 9, 7, 1, 0]);
     for index in 0..good.len() {
         for byte in [0, 9, 13, b'-', b'.', b'a', 0xff] {
             let mut bytes = good.clone();
@@ -138,8 +143,8 @@ fn every_byte_of_a_line_is_looked_at() {
 
 #[test]
 fn a_line_without_its_byte_10_at_the_end_of_the_text_is_1_naming_itself() {
-    let whole = after_job_a(&[&[3, 0, 1, 2, 0], &[3, 1, 2, 1, 0]]);
-    let starts = [0, 64, 119, 174, 220];
+    let whole = after_job_a(&[&[3, 0, 1, 2, 9, 7, 1, 0], &[3, 1, 2, 1, 9, 3, 1, 0]]);
+    let starts = [0, 64, 119, 174, 247];
     for length in 0..whole.len() {
         let number = starts.iter().filter(|&&start| start < length).count() as u32;
         let answer = saw_text(&whole[..length]);
@@ -148,7 +153,7 @@ fn a_line_without_its_byte_10_at_the_end_of_the_text_is_1_naming_itself() {
             64 => assert_text(&answer, &refusal(1, 2)),
             119 => assert_text(&answer, &refusal(1, 3)),
             174 => assert_text(&answer, &refusal(11, 1)),
-            220 => assert_text(&answer, &refusal(11, 2)),
+            247 => assert_text(&answer, &refusal(11, 2)),
             _ => assert_text(&answer, &refusal(1, number)),
         }
     }
@@ -156,7 +161,7 @@ fn a_line_without_its_byte_10_at_the_end_of_the_text_is_1_naming_itself() {
 
 #[test]
 fn numbers_of_nine_digits_are_values_outside_limits_not_faults_of_form() {
-    let text = after_job_a(&[&[3, 0, 1, 999_999_999, 0]]);
+    let text = after_job_a(&[&[3, 0, 1, 999_999_999, 9, 7, 1, 0]]);
     assert_text(&saw_text(&text), &refusal(2, 4));
     let text = lines(&[&[1, 999_999_999, 0, 9, 7, 1, 0]]);
     assert_text(&saw_text(&text), &refusal(2, 1));
@@ -172,7 +177,7 @@ fn values_that_would_wrap_to_a_word_within_limits_are_outside() {
     }
     let text = lines(&[&[1, 2, 0, 9, 7, 1, 0], &[2, 1, 65_541, 4, 1, 0]]);
     assert_text(&saw_text(&text), &refusal(2, 2));
-    let text = after_job_a(&[&[3, 65_536, 1, 1, 0]]);
+    let text = after_job_a(&[&[3, 65_536, 1, 1, 1, 1, 1, 0]]);
     assert_text(&saw_text(&text), &refusal(2, 4));
     let text = after_job_a(&[&[7, 65_537, 1, 1, 1, 1, 0, 0, 0]]);
     assert_text(&fold_text(&text), &refusal(2, 4));

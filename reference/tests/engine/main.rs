@@ -31,5 +31,6 @@ mod prices;
 mod programs;
 mod saw_lines;
 mod saw_rows;
+mod shown;
 mod turned;
 mod unfolding;

@@ -6,12 +6,11 @@ use crate::common::jobs::{job, random_job, words_of};
 use crate::common::lent::{
     full_counts, junk, Lent, COUNTS, CUTS, LEAST, OFFCUTS, PLACEMENTS, PLATES,
 };
-use crate::common::plain;
 use crate::common::plans::random_plan;
 use crate::common::prices::{area_prices, words_of as price_words};
 use crate::common::random::Random;
 use crate::common::sets::random_set;
-use crate::common::texts::{job_text, layout_text, plan_text, price_text};
+use crate::common::texts::{job_text, layout_text, plan_text_of, price_text};
 use reference::listing::FULL;
 use reference::{fold_text, saw_text, Job, Listing, Mode, Refusal};
 use std::collections::BTreeSet;
@@ -202,7 +201,7 @@ fn spoil_group(random: &mut Random, text: &mut [u8], at: usize) {
 }
 
 #[test]
-fn saw_texts_give_1_to_14_but_5_and_19() {
+fn saw_texts_give_1_to_14_but_5_and_19_and_20() {
     let mut random = Random::new(55);
     let mut numbers = Numbers::default();
     for _ in 0..40_000 {
@@ -210,7 +209,7 @@ fn saw_texts_give_1_to_14_but_5_and_19() {
         let words = words_of(&input.job);
         let counts = random_plan(&mut random, &input.job, &input.listing);
         let mut text = job_text(&words);
-        text.extend(plan_text(&plain::listing(&words).1, &counts));
+        text.extend(plan_text_of(&words, &counts));
         if random.once_in(2) {
             text.extend(price_text(&area_prices(&input.job, &input.listing, 100)));
         }
@@ -220,7 +219,7 @@ fn saw_texts_give_1_to_14_but_5_and_19() {
     for words in too_large_models() {
         numbers.meet_text(&saw_text(&job_text(&words)));
     }
-    numbers.assert(&[0, 1, 2, 3, 4, 6, 7, 8, 9, 10, 11, 12, 13, 14, 19]);
+    numbers.assert(&[0, 1, 2, 3, 4, 6, 7, 8, 9, 10, 11, 12, 13, 14, 19, 20]);
 }
 
 #[test]

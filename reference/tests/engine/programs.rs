@@ -1,8 +1,7 @@
 //! The two programs: standard input read whole, the answer on standard output.
 
 use crate::common::jobs::{job_a, PLAN_A};
-use crate::common::plain;
-use crate::common::texts::{assert_text, job_text, line, plan_text, refusal};
+use crate::common::texts::{assert_text, job_text, line, plan_text_of, refusal};
 use reference::{fold_text, saw_text};
 use std::io::Write;
 use std::process::{Command, Stdio};
@@ -28,7 +27,7 @@ fn run(program: &str, text: &[u8]) -> Vec<u8> {
 #[test]
 fn the_programs_answer_as_the_library_does() {
     let mut plan = job_text(&job_a());
-    plan.extend(plan_text(&plain::listing(&job_a()).1, &PLAN_A));
+    plan.extend(plan_text_of(&job_a(), &PLAN_A));
     let output = run(SAW, &plan);
     assert_text(&output, &saw_text(&plan));
     let mut layouts = job_text(&job_a());
@@ -50,7 +49,7 @@ fn the_programs_refuse_with_one_line() {
 #[test]
 fn the_programs_read_the_longest_texts() {
     let mut text = job_text(&job_a());
-    text.extend(line(&[3, 0, 1, 1, 0]).repeat(99_996));
+    text.extend(line(&[3, 0, 1, 1, 9, 7, 1, 0]).repeat(99_996));
     assert_text(&run(SAW, &text), &refusal(9, 5));
     let mut text = job_text(&job_a());
     text.extend(line(&[7, 1, 1, 1, 1, 1, 0, 0, 0]).repeat(99_997));

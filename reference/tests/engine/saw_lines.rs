@@ -7,7 +7,7 @@ use reference::saw_text;
 const ONE: &[u32] = &[1, 2, 0, 9, 7, 2, 0];
 const TYPE_1: &[u32] = &[2, 1, 5, 4, 2, 0];
 const TYPE_2: &[u32] = &[2, 2, 3, 3, 3, 0];
-const CUT_1: &[u32] = &[3, 0, 1, 2, 0];
+const CUT_1: &[u32] = &[3, 0, 1, 2, 9, 7, 1, 0];
 const PRICES: [&[u32]; 8] = [
     &[4, 1, 2, 5],
     &[5, 1, 1],
@@ -31,7 +31,12 @@ fn assert_refused_after_job(all: &[&[u32]], number: u32, place: u32) {
 
 /// Job A, its plan (lines 4 to 7) and its prices (lines 8 to 15), with one line replaced.
 fn with_line(number: usize, replaced: &[u32]) -> Vec<u8> {
-    let plan: [&[u32]; 4] = [CUT_1, &[3, 1, 2, 1, 0], &[3, 2, 2, 1, 0], &[3, 4, 2, 1, 0]];
+    let plan: [&[u32]; 4] = [
+        CUT_1,
+        &[3, 1, 2, 1, 9, 3, 1, 0],
+        &[3, 2, 2, 1, 4, 4, 2, 0],
+        &[3, 4, 2, 1, 6, 3, 2, 0],
+    ];
     let mut all = vec![ONE, TYPE_1, TYPE_2];
     all.extend(plan);
     all.extend(PRICES);
@@ -47,7 +52,7 @@ fn an_empty_text_misses_line_1() {
 #[test]
 fn a_blank_line_is_1_anywhere() {
     let whole = with_line(1, ONE);
-    let starts = [0, 64, 119, 174, 220, 266, 312, 358, 395, 423, 451, 479];
+    let starts = [0, 64, 119, 174, 247, 320, 393, 466, 503, 531, 559, 587];
     assert_text(&saw_text(b"\n"), &refusal(1, 1));
     for (index, &start) in starts.iter().enumerate() {
         let mut text = whole[..start].to_vec();
@@ -160,17 +165,17 @@ fn values_of_line_2_outside_their_limits() {
 #[test]
 fn values_of_line_3_outside_their_limits() {
     for bad in [
-        [3, 2_048, 1, 1, 0],
-        [3, 0, 0, 1, 0],
-        [3, 0, 3, 1, 0],
-        [3, 0, 1, 0, 0],
-        [3, 0, 1, 4_001, 0],
-        [3, 0, 1, 1, 2],
+        [3, 2_048, 1, 1, 1, 1, 1, 0],
+        [3, 0, 0, 1, 9, 7, 1, 0],
+        [3, 0, 3, 1, 9, 7, 1, 0],
+        [3, 0, 1, 0, 9, 7, 1, 0],
+        [3, 0, 1, 4_001, 9, 7, 1, 0],
+        [3, 0, 1, 1, 9, 7, 1, 2],
     ] {
         assert_refused_after_job(&[&bad], 2, 4);
     }
     // Within the limits, but no cut: the plan row.
-    assert_refused_after_job(&[&[3, 2_047, 2, 4_000, 0]], 8, 4);
+    assert_refused_after_job(&[&[3, 2_047, 2, 4_000, 1, 1, 1, 0]], 8, 4);
 }
 
 #[test]
@@ -268,7 +273,7 @@ fn any_byte_after_the_last_admitted_line_is_1() {
 #[test]
 fn the_line_row_is_taken_line_by_line() {
     // 2 on line 4 goes before 1 on line 5, and 1 on line 4 before 2 on line 5.
-    let outside: &[u32] = &[3, 0, 1, 0, 0];
+    let outside: &[u32] = &[3, 0, 1, 0, 9, 7, 1, 0];
     assert_refused_after_job(&[outside, TYPE_1], 2, 4);
     assert_refused_after_job(&[TYPE_1, outside], 1, 4);
     assert_refused(&[&[1, 2, 0, 9, 7, 41, 0]], 2, 1);
@@ -277,11 +282,19 @@ fn the_line_row_is_taken_line_by_line() {
 #[test]
 fn the_line_row_goes_before_every_other_row() {
     let large: &[u32] = &[2, 1, 10, 4, 2, 0];
-    assert_refused(&[ONE, large, TYPE_2, CUT_1, &[3, 0, 2, 0, 0]], 2, 5);
-    assert_refused(&[ONE, large, TYPE_2, &[3, 9, 1, 1, 0], ONE], 1, 5);
+    assert_refused(
+        &[ONE, large, TYPE_2, CUT_1, &[3, 0, 2, 0, 9, 7, 1, 0]],
+        2,
+        5,
+    );
+    assert_refused(&[ONE, large, TYPE_2, &[3, 9, 1, 1, 1, 1, 1, 0], ONE], 1, 5);
     assert_refused(&[ONE, large], 1, 3);
-    assert_refused(&[ONE, large, TYPE_2, &[3, 9, 1, 1, 0]], 3, 1);
+    assert_refused(&[ONE, large, TYPE_2, &[3, 9, 1, 1, 1, 1, 1, 0]], 3, 1);
     // The prices of a plan that is refused are read all the same.
-    assert_refused_after_job(&[&[3, 9, 1, 1, 0], &[4, 1, 1, 0]], 1, 6);
-    assert_refused_after_job(&[&[3, 9, 1, 1, 0], &[4, 1, 1, 0], &[5, 1, 0]], 8, 4);
+    assert_refused_after_job(&[&[3, 9, 1, 1, 1, 1, 1, 0], &[4, 1, 1, 0]], 1, 6);
+    assert_refused_after_job(
+        &[&[3, 9, 1, 1, 1, 1, 1, 0], &[4, 1, 1, 0], &[5, 1, 0]],
+        8,
+        4,
+    );
 }

@@ -3,12 +3,11 @@
 
 use crate::common::jobs::{job, random_job, words_of};
 use crate::common::lent::Lent;
-use crate::common::plain;
 use crate::common::plans::random_plan;
 use crate::common::prices::{disturb, least_prices, words_of as price_words};
 use crate::common::random::Random;
 use crate::common::texts::{
-    after_job_a, assert_text, job_text, layout_text, line, lines, plan_text, price_text, refusal,
+    after_job_a, assert_text, job_text, layout_text, line, lines, plan_text_of, price_text, refusal,
 };
 use reference::listing::FULL;
 use reference::{fold_text, saw_text, Job, Listing, Mode};
@@ -51,44 +50,76 @@ fn the_model_row_goes_before_the_plan() {
     let text = lines(&[
         &[1, 2, 0, 10_000, 9, 1, 0],
         &[2, 1, 1, 1, 1, 0],
-        &[3, 2_047, 1, 1, 0],
+        &[3, 2_047, 1, 1, 1, 1, 1, 0],
     ]);
     assert_text(&saw_text(&text), &refusal(6, 0));
     let mut text = job_text(&job(Mode::TwoNonExact, [105, 101], &[[1, 1, 1]; 40]));
-    text.extend(line(&[3, 2_047, 1, 1, 0]));
+    text.extend(line(&[3, 2_047, 1, 1, 1, 1, 1, 0]));
     assert_text(&saw_text(&text), &refusal(7, 0));
 }
 
 #[test]
 fn a_pair_that_is_no_cut_is_8() {
-    assert_refused(&[&[3, 6, 1, 1, 0]], 8, 4);
-    assert_refused(&[&[3, 0, 1, 1, 0], &[3, 1, 1, 1, 0]], 8, 5);
-    assert_refused(&[&[3, 2, 1, 1, 0], &[3, 1, 1, 1, 0]], 8, 4);
+    assert_refused(&[&[3, 6, 1, 1, 1, 1, 1, 0]], 8, 4);
+    assert_refused(
+        &[&[3, 0, 1, 1, 9, 7, 1, 0], &[3, 1, 1, 1, 9, 3, 1, 0]],
+        8,
+        5,
+    );
+    assert_refused(
+        &[&[3, 2, 1, 1, 4, 4, 2, 0], &[3, 1, 1, 1, 9, 3, 1, 0]],
+        8,
+        4,
+    );
 }
 
 #[test]
 fn a_cut_not_after_the_last_is_9_never_1() {
-    assert_refused(&[&[3, 0, 1, 1, 0], &[3, 0, 1, 1, 0]], 9, 5);
-    assert_refused(&[&[3, 0, 2, 1, 0], &[3, 0, 1, 1, 0]], 9, 5);
     assert_refused(
-        &[&[3, 1, 2, 1, 0], &[3, 0, 2, 1, 0], &[3, 0, 1, 1, 0]],
+        &[&[3, 0, 1, 1, 9, 7, 1, 0], &[3, 0, 1, 1, 9, 7, 1, 0]],
+        9,
+        5,
+    );
+    assert_refused(
+        &[&[3, 0, 2, 1, 9, 7, 1, 0], &[3, 0, 1, 1, 9, 7, 1, 0]],
+        9,
+        5,
+    );
+    assert_refused(
+        &[
+            &[3, 1, 2, 1, 9, 3, 1, 0],
+            &[3, 0, 2, 1, 9, 7, 1, 0],
+            &[3, 0, 1, 1, 9, 7, 1, 0],
+        ],
         9,
         5,
     );
     // Each is compared with the line before it.
     assert_refused(
-        &[&[3, 0, 1, 1, 0], &[3, 4, 2, 1, 0], &[3, 3, 2, 1, 0]],
+        &[
+            &[3, 0, 1, 1, 9, 7, 1, 0],
+            &[3, 4, 2, 1, 6, 3, 2, 0],
+            &[3, 3, 2, 1, 9, 4, 1, 0],
+        ],
         9,
         6,
     );
     // A fault of order goes before a total that is too high.
-    assert_refused(&[&[3, 0, 1, 4_000, 0], &[3, 0, 1, 4_000, 0]], 9, 5);
+    assert_refused(
+        &[&[3, 0, 1, 4_000, 9, 7, 1, 0], &[3, 0, 1, 4_000, 9, 7, 1, 0]],
+        9,
+        5,
+    );
 }
 
 #[test]
 fn a_line_8_goes_before_9_on_an_earlier_line() {
     assert_refused(
-        &[&[3, 0, 2, 1, 0], &[3, 0, 1, 1, 0], &[3, 1, 1, 1, 0]],
+        &[
+            &[3, 0, 2, 1, 9, 7, 1, 0],
+            &[3, 0, 1, 1, 9, 7, 1, 0],
+            &[3, 1, 1, 1, 9, 3, 1, 0],
+        ],
         8,
         6,
     );
@@ -96,18 +127,30 @@ fn a_line_8_goes_before_9_on_an_earlier_line() {
 
 #[test]
 fn the_plan_row_runs_10_11_12() {
-    assert_refused(&[&[3, 0, 1, 4_000, 0], &[3, 5, 2, 1, 0]], 10, 0);
-    assert_refused(&[&[3, 0, 1, 3_999, 0], &[3, 5, 2, 1, 0]], 11, 2);
-    assert_refused(&[&[3, 0, 1, 3, 0], &[3, 2, 2, 4, 0]], 12, 2);
+    assert_refused(
+        &[&[3, 0, 1, 4_000, 9, 7, 1, 0], &[3, 5, 2, 1, 3, 3, 2, 0]],
+        10,
+        0,
+    );
+    assert_refused(
+        &[&[3, 0, 1, 3_999, 9, 7, 1, 0], &[3, 5, 2, 1, 3, 3, 2, 0]],
+        11,
+        2,
+    );
+    assert_refused(
+        &[&[3, 0, 1, 3, 9, 7, 1, 0], &[3, 2, 2, 4, 4, 4, 2, 0]],
+        12,
+        2,
+    );
 }
 
 #[test]
 fn n_and_m_that_are_not_the_models_are_13_after_all_their_lines() {
     let plan: [&[u32]; 4] = [
-        &[3, 0, 1, 2, 0],
-        &[3, 1, 2, 1, 0],
-        &[3, 2, 2, 1, 0],
-        &[3, 4, 2, 1, 0],
+        &[3, 0, 1, 2, 9, 7, 1, 0],
+        &[3, 1, 2, 1, 9, 3, 1, 0],
+        &[3, 2, 2, 1, 4, 4, 2, 0],
+        &[3, 4, 2, 1, 6, 3, 2, 0],
     ];
     for (types, residuals) in [(1, 5), (3, 5), (40, 5), (2, 0), (2, 4), (2, 6), (2, 2_047)] {
         let mut text = after_job_a(&plan);
@@ -127,7 +170,11 @@ fn n_and_m_that_are_not_the_models_are_13_after_all_their_lines() {
 
 #[test]
 fn a_cut_over_its_limit_is_14_naming_the_cut() {
-    let mut text = after_job_a(&[&[3, 0, 1, 2, 0], &[3, 0, 2, 3, 0], &[4, 1, 2, 5]]);
+    let mut text = after_job_a(&[
+        &[3, 0, 1, 2, 9, 7, 1, 0],
+        &[3, 0, 2, 3, 9, 7, 1, 0],
+        &[4, 1, 2, 5],
+    ]);
     text.extend(lines(&[&[5, 1, 1], &[5, 2, 0], &[6, 1, 0], &[6, 2, 0]]));
     text.extend(lines(&[&[6, 3, 0], &[6, 4, 0], &[6, 5, 0]]));
     assert_text(&saw_text(&text), &refusal(14, 5));
@@ -135,7 +182,7 @@ fn a_cut_over_its_limit_is_14_naming_the_cut() {
 
 #[test]
 fn a_refusal_is_one_line_alone() {
-    let output = saw_text(&after_job_a(&[&[3, 0, 1, 2, 0]]));
+    let output = saw_text(&after_job_a(&[&[3, 0, 1, 2, 9, 7, 1, 0]]));
     assert_eq!(output, b"        9       11        2\n");
 }
 
@@ -144,7 +191,7 @@ fn prices_without_residual_types() {
     let text = lines(&[
         &[1, 3, 1, 9, 7, 1, 0],
         &[2, 1, 9, 7, 2, 0],
-        &[3, 0, 1, 2, 0],
+        &[3, 0, 1, 2, 9, 7, 1, 0],
         &[4, 9_999, 1, 0],
         &[5, 1, 9_999],
     ]);
@@ -163,7 +210,7 @@ fn random_text(random: &mut Random, lent: &mut Lent) -> (Job, Vec<u8>, Vec<u8>, 
     let listing = Listing::walk(&structured, FULL).unwrap();
     let counts = random_plan(random, &structured, &listing);
     let mut text = job_text(&words);
-    text.extend(plan_text(&plain::listing(&words).1, &counts));
+    text.extend(plan_text_of(&words, &counts));
     let boards = lent.unfold(&words, &counts).unwrap().boards;
     (structured, text, layout_text(&lent.lines()), boards)
 }

@@ -73,7 +73,7 @@ fn a_square_type_turned_is_19() {
     let turned = [1, 1, 1, 1, 1, 0, 0, 1];
     assert_eq!(Lent::new().fold(&words, &[turned]), refused(19, 1));
     let mut text = job_text(&words);
-    text.extend(line(&[3, 0, 1, 1, 1]));
+    text.extend(line(&[3, 0, 1, 1, 3, 3, 1, 1]));
     assert_text(&saw_text(&text), &refusal(19, 3));
 }
 
@@ -99,12 +99,12 @@ fn a_turn_of_2_is_2_never_19() {
         let text = [job_text(&words), layout_text(&layouts)].concat();
         assert_text(&fold_text(&text), &refusal(2, 3));
         let mut text = job_text(&words);
-        text.extend(line(&[3, 0, 1, 1, u32::from(turn)]));
+        text.extend(line(&[3, 0, 1, 1, 9, 9, 1, u32::from(turn)]));
         assert_text(&saw_text(&text), &refusal(2, 3));
     }
     // 2 goes before 19 on the same line.
     let mut text = job_text(&words);
-    text.extend(line(&[3, 2_048, 1, 1, 1]));
+    text.extend(line(&[3, 2_048, 1, 1, 9, 9, 1, 1]));
     assert_text(&saw_text(&text), &refusal(2, 3));
 }
 
@@ -115,7 +115,7 @@ fn the_line_row_with_19_goes_before_job_buffers_and_model() {
     let answer = reference::fold(&too_large, &layouts, &mut [], &mut [], &mut []);
     assert_eq!(answer, refused(19, 1));
     let mut text = job_text(&too_large);
-    text.extend(line(&[3, 0, 1, 1, 1]));
+    text.extend(line(&[3, 0, 1, 1, 9, 9, 1, 1]));
     assert_text(&saw_text(&text), &refusal(19, 4));
     // A later line is not looked at.
     text.extend(b"no line");
@@ -132,7 +132,7 @@ fn laid_as_it_does_not_fit_it_is_17_and_cut_so_8() {
     assert_eq!(lent.fold(&words, &[turned]), Ok(1));
     assert_eq!(lent.counts[0], 1);
     let mut text = job_text(&words);
-    text.extend(line(&[3, 0, 1, 1, 0]));
+    text.extend(line(&[3, 0, 1, 1, 5, 3, 1, 0]));
     assert_text(&saw_text(&text), &refusal(8, 3));
 }
 
@@ -147,7 +147,7 @@ fn words_and_lines_end_with_the_turn() {
     };
     assert_eq!(lent.unfold(&words, &[1]), Ok(unfolded));
     assert_eq!(lent.placements[..8], [1, 1, 1, 1, 1, 0, 0, 1]);
-    let plan = lines(&[&[3, 0, 1, 1, 1]]);
+    let plan = lines(&[&[3, 0, 1, 1, 5, 3, 1, 1]]);
     let layouts = lines(&[&[7, 1, 1, 1, 1, 1, 0, 0, 1]]);
     let head = job_text(&words);
     let mut expected = layouts.clone();
@@ -278,11 +278,12 @@ fn two_types_may_have_the_same_sides_as_they_lie() {
     assert_eq!(lent.cuts[..8], [0, 3, 0, 0, 0, 4, 0, 0]);
     // Lines rise by plate, type and turn.
     let words = turning_a(Mode::TwoNonExact);
-    let plan = |second: [u32; 5]| {
+    let plan = |second: [u32; 8]| {
         let mut text = job_text(&words);
-        text.extend(lines(&[&[3, 0, 1, 1, 1], &second, &[3, 0, 2, 3, 0]]));
+        text.extend(line(&[3, 0, 1, 1, 9, 7, 1, 1]));
+        text.extend(lines(&[&second, &[3, 0, 2, 3, 9, 7, 1, 0]]));
         saw_text(&text)
     };
-    assert_text(&plan([3, 0, 1, 1, 0]), &refusal(9, 5));
-    assert_text(&plan([3, 0, 1, 1, 1]), &refusal(9, 5));
+    assert_text(&plan([3, 0, 1, 1, 9, 7, 1, 0]), &refusal(9, 5));
+    assert_text(&plan([3, 0, 1, 1, 9, 7, 1, 1]), &refusal(9, 5));
 }

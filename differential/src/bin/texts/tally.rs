@@ -5,7 +5,7 @@ use inputs::Text;
 use std::fmt;
 
 /// One past the largest refusal number.
-const NUMBERS: usize = 20;
+const NUMBERS: usize = 21;
 
 pub struct Tally {
     came: [usize; NUMBERS],

@@ -32,7 +32,7 @@ pub struct Theorem {
 /// one is made.
 type Subject = (&'static str, usize, fn(&mut Random) -> Theorem);
 
-const SUBJECTS: [Subject; 14] = [
+const SUBJECTS: [Subject; 15] = [
     ("Listing", 3, |random| calls::theorem(random, Call::Listing)),
     ("PlanTest", 3, |random| {
         calls::theorem(random, Call::PlanTest)
@@ -45,6 +45,7 @@ const SUBJECTS: [Subject; 14] = [
     }),
     ("Folding", 3, |random| calls::theorem(random, Call::Folding)),
     ("SawText", 14, texts::saw_theorem),
+    ("ShownPlates", 8, texts::shown_theorem),
     ("FoldText", 12, texts::fold_theorem),
     ("Walk", 2, structures::walk_theorem),
     ("Sets", 3, structures::set_theorem),

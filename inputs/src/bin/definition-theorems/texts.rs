@@ -2,6 +2,7 @@
 
 use crate::antt::{bytes, Equation};
 use crate::{is_small_job, Theorem};
+use inputs::damage::damage_shown;
 use inputs::lines::{fold_lines, saw_lines, text_of, Line};
 use inputs::text::refusal_in;
 use inputs::{Model, Random};
@@ -19,6 +20,20 @@ pub fn saw_theorem(random: &mut Random) -> Theorem {
 /// A theorem over a fold text.
 pub fn fold_theorem(random: &mut Random) -> Theorem {
     theorem(random, "foldText", fold_lines, fold_text)
+}
+
+/// A theorem over a saw text whose lines of kind 3 are changed in what they show of their plates.
+pub fn shown_theorem(random: &mut Random) -> Theorem {
+    theorem(random, "sawText", shown_lines, saw_text)
+}
+
+/// The lines of a saw text, of kind 3 one or two damaged in the plates that they show.
+fn shown_lines(random: &mut Random, model: &Model) -> Vec<Line> {
+    let mut lines = saw_lines(random, model);
+    for _ in 0..random.between(1, 2) {
+        damage_shown(random, &mut lines);
+    }
+    lines
 }
 
 /// A theorem over a text of some lines, which a program answers; a good half is not damaged.

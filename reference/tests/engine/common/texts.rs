@@ -1,6 +1,7 @@
 //! Texts, written by the column rules without the library.
 
 use super::jobs::job_a;
+use super::plain;
 use reference::Prices;
 
 /// One line of numbers.
@@ -41,14 +42,21 @@ pub fn job_text(job: &[u16]) -> Vec<u8> {
     text
 }
 
-/// The lines of kind 3 of counts, by plate and item word of each cut.
-pub fn plan_text(cuts: &[[u16; 4]], counts: &[u16]) -> Vec<u8> {
+/// The lines of kind 3 of counts, by plate and item word of each cut, with the plate's record.
+pub fn plan_text(plates: &[[u16; 3]], cuts: &[[u16; 4]], counts: &[u16]) -> Vec<u8> {
     let counted = cuts.iter().zip(counts).filter(|(_, &count)| count > 0);
     let written = counted.flat_map(|(cut, &count)| {
-        let numbers = [3, cut[0], cut[1] / 2, count, cut[1] % 2];
+        let [w, h, stage] = plates[usize::from(cut[0])];
+        let numbers = [3, cut[0], cut[1] / 2, count, w, h, stage, cut[1] % 2];
         line(&numbers.map(u32::from))
     });
     written.collect()
+}
+
+/// The lines of kind 3 of counts of a job's cuts.
+pub fn plan_text_of(job: &[u16], counts: &[u16]) -> Vec<u8> {
+    let (plates, cuts) = plain::listing(job);
+    plan_text(&plates, &cuts, counts)
 }
 
 /// The lines of kinds 4, 5 and 6 of a price list.

@@ -26,7 +26,7 @@ write-counts-requires c κs =
     let s = c .before .before .before .before .before .before .before .before .before .before .before .before .before in
     let x = c .before .before .before .before .fold-into in
     let p = s .pre in
-    ((p .0 .lent .cut-words, omega (arith, p .0 .few-cuts, p .1 .1 .0, x .kept .1 .1 .1 .1 .1 .1 .0)), omega (arith, lines-fit (now (s .args .job)) (now (s .args .layouts)) (now (s .args .plates)) (now (s .args .cuts)) (s .args .k .0) (p .0) (p .1 .0 .0) (p .1 .0 .1) _ _ (x .ensures), p .1 .1 .1))
+    ((p .0 .lent .cut-words, omega (arith, p .0 .few-cuts, p .1 .1 .0, x .kept .1 .1 .1 .1 .1 .1 .0)), (p .0 .plates-there, omega (arith, lines-fit (now (s .args .job)) (now (s .args .layouts)) (now (s .args .plates)) (now (s .args .cuts)) (s .args .k .0) (p .0) (p .1 .0 .0) (p .1 .0 .1) _ _ (x .ensures), p .1 .1 .1)))
 
 returns : tie.Need-returns
 returns c =

@@ -4,27 +4,28 @@ use native.Mathlib.Omega.{arith}
 use Rattle.job.specs.Job.{jobOf}
 use Rattle.listing.specs.Listing.{listingOf}
 use Rattle.texts.specs.JobLines.{bodyLine}
-use Rattle.saw_text_body.proofs.ModelLaws.{kept-modelled}
+use Rattle.saw_text_body.proofs.ModelLaws.{kept-modelled, kept-plates}
 use borrow.Author.Needs.{needs}
 use Rattle.saw_text_lines.proofs.held.count_line.Statement.{statement}
 use Rattle.saw_text_lines.proofs.held.count_line.Tie as tie
 
 returns : tie.Need-returns
-returns c ws plates rs r kept here plate lies count held =
-    let s = c .before .before .before .before .before .before .before in
+returns c ws rs r kept here line held =
+    let s = c .before .before .before .before .before .before .before .before in
     let g = c .before .before .before .model .given in
-    let known = kept-modelled ws plates (now (s .args .cuts)) (s .args .model) _ _ (g .1) (s .pre .1 .0) kept in
+    let known = kept-modelled ws (now (s .args .plates)) (now (s .args .cuts)) (s .args .model) _ _ (g .1) (s .pre .0 .1 .1 .0) kept in
     absurd (omega (arith, c .if1 .taken, known .is-ready .lent .few-cuts))
 
 returns-2 : tie.Need-returns-2
-returns-2 c ws plates rs r kept here plate lies count held = rw (c .enum-told .given .1) (rw (c .enum-told .given .1) at held)
+returns-2 c ws rs r kept here line held = rw (c .enum-told .given .1) (rw (c .enum-told .given .1) at held)
 
 returns-3 : tie.Need-returns-3
-returns-3 c ws plates rs r kept here plate lies count held =
-    let s = c .before .before .before .before .before .before .before .before .before .before .before in
+returns-3 c ws rs r kept here line held =
+    let s = c .before .before .before .before .before .before .before .before .before .before .before .before in
     let g = c .before .before .before .before .before .before .before .model .given in
-    let known = kept-modelled ws plates (now (s .args .cuts)) (s .args .model) _ _ (g .1) (s .pre .1 .0) kept in
-    rw (g .1) (c .before .before .more .ensures (listingOf (jobOf ws)) (bodyLine ws) rs r (known .is-ready .listed) (known .rising) here plate lies count (rw (g .1) at held))
+    let known = kept-modelled ws (now (s .args .plates)) (now (s .args .cuts)) (s .args .model) _ _ (g .1) (s .pre .0 .1 .1 .0) kept in
+    let plates = kept-plates ws (now (s .args .plates)) (now (s .args .cuts)) (s .args .model) _ _ (g .1) kept in
+    rw (g .1) (c .before .before .more .ensures (listingOf (jobOf ws)) (bodyLine ws) rs r plates (known .is-ready .listed) (known .rising) here line (rw (g .1) at held))
 
 pub count-line-spec : {M : Type 1} → statement M
 count-line-spec =

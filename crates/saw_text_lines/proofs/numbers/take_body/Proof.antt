@@ -13,36 +13,37 @@ use Rattle.saw_text_lines.proofs.numbers.take_body.Statement.{statement
 use Rattle.saw_text_lines.proofs.numbers.take_body.Tie as tie
 
 returns : tie.Need-returns
-returns c s lines plates e here kept =
-    let a = c .before .before .before .before .before .before .before .before .before .before .before .args in
+returns c s lines e here kept =
+    let a = c .before .before .before .before .before .before .before .before .before .before .before .before .args in
     let kind = sym (c .before .before .before .before .before .begins-prices .ensures) ∙ c .before .before .before .before .if1 .taken in
-    c .before .before .take-prices .ensures s lines (now (a .job)) plates (now (a .cuts)) (now (a .counts)) e (eqb-true (getD (now (a .numbers)) 0 0) 4 kind) kept
+    c .before .before .take-prices .ensures s lines (now (a .job)) (now (a .plates)) (now (a .cuts)) (now (a .counts)) e (eqb-true (getD (now (a .numbers)) 0 0) 4 kind) kept
 
 returns-2 : tie.Need-returns-2
-returns-2 c s lines plates e here kept =
-    let a = c .before .before .before .before .before .before .before .before .before .before .before .args in
+returns-2 c s lines e here kept =
+    let a = c .before .before .before .before .before .before .before .before .before .before .before .before .args in
     let head = c .before .before .before .head-of in
-    absurd (omega (arith, c .if2 .taken, body-few s lines (a .held) (lent (now (a .job)) plates (now (a .cuts)) (now (a .counts)) (now (a .prices))) (head .result .types .0) (head .ensures .of-types) e kept))
+    absurd (omega (arith, c .if2 .taken, body-few s lines (a .held) (lent (now (a .job)) (now (a .plates)) (now (a .cuts)) (now (a .counts)) (now (a .prices))) (head .result .types .0) (head .ensures .of-types) e kept))
 
 slice-aggregate-take-plan : tie.Need-slice-aggregate-take-plan
 slice-aggregate-take-plan c =
-    let s = c .before .before .before .before .before .before .before .before .before .before .before .before .before in
-    sym (length-take-le (jobSize (c .before .before .before .before .before .head-of .result .types .0)) (now (s .args .job)) (omega (arith, c .before .before .if2 .left, s .pre .1)))
+    let s = c .before .before .before .before .before .before .before .before .before .before .before .before .before .before in
+    sym (length-take-le (jobSize (c .before .before .before .before .before .head-of .result .types .0)) (now (s .args .job)) (omega (arith, c .before .before .if2 .left, s .pre .1 .for-job)))
 
 take-plan-requires : tie.Need-take-plan-requires
 take-plan-requires c κs =
-    let s = c .before .before .before .before .before .before .before .before .before .before .before .before .before .before in
+    let s = c .before .before .before .before .before .before .before .before .before .before .before .before .before .before .before in
     let head = c .before .before .before .before .before .before .head-of in
-    let part = part-head (head .result .types .0) (now (s .args .job)) (omega (arith, c .before .before .before .if2 .left, s .pre .1)) in
-    ((s .pre .0 .0, (s .pre .0 .1 .0, s .pre .0 .1 .1 .0)), (part .0, omega (arith, part .1, head .ensures .of-types, c .before .before .before .if2 .left)))
+    let room = s .pre .1 in
+    let part = part-head (head .result .types .0) (now (s .args .job)) (omega (arith, c .before .before .before .if2 .left, room .for-job)) in
+    ((s .pre .0, (room .for-plates, (room .for-cuts, room .for-counts))), (part .0, omega (arith, part .1, head .ensures .of-types, c .before .before .before .if2 .left)))
 
 returns-3 : tie.Need-returns-3
-returns-3 c s lines plates e here kept =
-    let a = c .before .before .before .before .before .before .before .before .before .before .before .before .before .before .before .before .before .args in
+returns-3 c s lines e here kept =
+    let a = c .before .before .before .before .before .before .before .before .before .before .before .before .before .before .before .before .before .before .args in
     let head = c .before .before .before .before .before .before .before .before .before .head-of in
     let kind = sym (c .before .before .before .before .before .before .before .before .before .before .before .begins-prices .ensures) ∙ c .before .before .before .before .before .before .before .before .before .before .if1 .left in
-    let words = body-words s lines (a .held) (lent (now (a .job)) plates (now (a .cuts)) (now (a .counts)) (now (a .prices))) (head .result .types .0) (head .ensures .of-types) e kept in
-    c .before .before .take-plan .ensures s lines (now (a .job)) plates (now (a .prices)) e (eqb-false (getD (now (a .numbers)) 0 0) 4 kind) here words kept
+    let words = body-words s lines (a .held) (lent (now (a .job)) (now (a .plates)) (now (a .cuts)) (now (a .counts)) (now (a .prices))) (head .result .types .0) (head .ensures .of-types) e kept in
+    c .before .before .take-plan .ensures s lines (now (a .job)) (now (a .prices)) e (eqb-false (getD (now (a .numbers)) 0 0) 4 kind) here words kept
 
 pub take-body-spec : {M : Type 1} → statement M
 take-body-spec =

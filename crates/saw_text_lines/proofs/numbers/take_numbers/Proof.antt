@@ -51,8 +51,7 @@ returns-2 c s lines p here kept =
 
 returns-3 : tie.Need-returns-3
 returns-3 c s lines p here kept =
-    let a = c .before .before .before .before .before .before .before .before .before .before .before .before .before .before .before .before .before .args in
-    c .before .before .before .before .take-body .ensures s lines (now (a .plates)) (sym p ∙ ap placeOf (c .before .before .before .before .before .before .before .before .before .enum-told2 .given .1)) here kept
+    c .before .before .before .before .take-body .ensures s lines (sym p ∙ ap placeOf (c .before .before .before .before .before .before .before .before .before .before .enum-told2 .given .1)) here kept
 
 returns-4 : tie.Need-returns-4
 returns-4 c s lines p here kept =
@@ -90,6 +89,7 @@ take-numbers-spec =
     (λ c. search needs)
     (λ c. search needs)
     returns-2
+    (λ c. search needs)
     (λ c. search needs)
     (λ c. search needs)
     (λ c. search needs)
