@@ -6,18 +6,18 @@ pub const PATTERNS: [&str; 17] = [
     ".len() < N",
     "job[N]",
     "5 + 4 *",
-    "8 *",
+    "9 *",
     "3 *",
     "4 *",
-    "6144",
+    "36000",
     "32768",
     "8192",
-    "32000",
+    "48000",
     "2048",
     "4000",
     "10000",
     "9999",
-    "165",
+    "183",
     "2088",
     "16000",
 ];
@@ -126,39 +126,39 @@ mod tests {
     #[test]
     fn each_site_has_one_pattern() {
         assert_eq!(
-            found("if job.len() < 6144 || n == 6144 {", "//"),
-            [".len() < N", "6144"]
+            found("if job.len() < 36000 || n == 36000 {", "//"),
+            [".len() < N", "36000"]
         );
         assert_eq!(
             found("let n = 5 + 4 * (job[4] as usize) + 3 * k;", "//"),
             ["5 + 4 *", "job[N]", "3 *"]
         );
         assert_eq!(
-            found("[0u16; 165], 0..165, 4000u32", "//"),
-            ["165", "165", "4000"]
+            found("[0u16; 183], 0..183, 4000u32", "//"),
+            ["183", "183", "4000"]
         );
     }
 
     #[test]
     fn parts_of_names_and_numbers_are_no_sites() {
         assert!(found(
-            "x = 18 * n + a165 + below-165 + 1650 + 10000000 + 165-th",
+            "x = 19 * n + a183 + below-183 + 1830 + 10000000 + 183-th",
             "--"
         )
         .is_empty());
-        assert!(found("jobs[k] job[k] subjob[4] 8 + n", "//").is_empty());
+        assert!(found("jobs[k] job[k] subjob[4] 9 + n", "//").is_empty());
     }
 
     #[test]
     fn comments_are_left_out() {
-        assert_eq!(found("x = 8 * n -- 4 * m", "--"), ["8 *"]);
-        assert!(found("// 8 * n", "//").is_empty());
+        assert_eq!(found("x = 9 * n -- 4 * m", "--"), ["9 *"]);
+        assert!(found("// 9 * n", "//").is_empty());
     }
 
     #[test]
     fn lines_are_counted_from_one() {
         assert_eq!(
-            sites("\nx = 165\n", "--"),
+            sites("\nx = 183\n", "--"),
             [Site {
                 pattern: 14,
                 line: 2

@@ -1,7 +1,9 @@
 //! The report: a table of all calls on the greatest inputs, and one of how they grow.
 
 use crate::count::{instructions, Counted};
-use crate::subjects::{by_cuts, input, BLADE, CUTS, GREATEST, LINES, OFFCUTS, PIECES, PRICES};
+use crate::subjects::{
+    by_cuts, input, BLADE, CUTS, GREATEST, LINES, OFFCUTS, PIECES, PRICES, SIZES,
+};
 use crate::task::{Call, Side};
 use crate::time::{seconds, ROUNDS};
 
@@ -58,10 +60,10 @@ fn rows() -> Vec<(Call, &'static str)> {
     let mut rows = Vec::new();
     for call in Call::ALL {
         let more = match call {
-            Call::TestPlan | Call::TestPrices => Vec::new(),
-            Call::List => vec![BLADE],
-            Call::Unfold => [&PIECES[..], &[OFFCUTS, BLADE]].concat(),
-            Call::Fold => [&PIECES[..], &[BLADE]].concat(),
+            Call::TestPlan | Call::TestPrices => vec![SIZES],
+            Call::List => vec![BLADE, SIZES],
+            Call::Unfold => [&PIECES[..], &[OFFCUTS, BLADE, SIZES]].concat(),
+            Call::Fold => [&PIECES[..], &[BLADE, SIZES]].concat(),
             Call::SawText => vec![LINES, PRICES, CUTS],
             Call::FoldText => vec![LINES, CUTS],
         };
@@ -88,8 +90,8 @@ fn write_largest() {
     println!(
         "`limits ..` are jobs of [data/limits](../data/limits/README.md): `both` the greatest listings, of 2,047 \
          residual types and 8,192 cuts, with plans of 4,000 pieces; with a blade of 4 it has 1,813 and 7,501 in 3N. \
-         The others have a blade of no width. `8,000 offcuts` is a plan of 4,000 boards, each with two pieces left over. \
-         `99,999 lines` are the longest texts: 7,299,900 bytes of a saw text, in lines 3 that show their plates, and 8,199,873 of a fold text.\n"
+         The others have a blade of no width. `limits sizes 3N ..` has six sizes, of which one is cut, and 2,042 residual types; the others have one size. `8,000 offcuts` is a plan of 4,000 boards, each with two pieces left over. \
+         `99,999 lines` are the longest texts: 7,299,864 bytes of a saw text, in lines 3 that show their plates, and 9,099,792 of a fold text.\n"
     );
     println!(
         "| call | input | engine, µs | reference, µs | ratio | engine, 1,000 instr. | reference, 1,000 instr. | ratio | goal: at most 1.0 |"
@@ -129,7 +131,12 @@ fn write_reading() {
             let counted = instructions(side, call, name);
             shown(counted.map(|counted| counted.all as f64 / bytes as f64), 1)
         });
-        println!("| {} | {name} | {bytes} | {} | {} |", call.name(), each[0], each[1]);
+        println!(
+            "| {} | {name} | {bytes} | {} | {} |",
+            call.name(),
+            each[0],
+            each[1]
+        );
     }
 }
 

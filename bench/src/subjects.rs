@@ -1,5 +1,5 @@
-//! The inputs of the measurements, by name: jobs of `data/`, one of them with a blade too, the job with
-//! most offcuts, and texts at the limits.
+//! The inputs of the measurements, by name: jobs of `data/`, one of them with a blade too and one of six
+//! sizes, the job with most offcuts, and texts at the limits.
 
 use crate::task::{Call, Input};
 use inputs::longest::{long_texts, longest, of_job};
@@ -32,6 +32,9 @@ pub const OFFCUTS: &str = "8,000 offcuts";
 
 /// A great listing with a common blade: 1,813 residual types and 7,501 cuts.
 pub const BLADE: &str = "limits both 3N, a blade of 4";
+
+/// A great listing on six sizes: 2,042 residual types and 8,166 cuts.
+pub const SIZES: &str = "limits sizes 3N 2,048 plate types";
 
 /// What stands between the name of a job of `data/` and a blade.
 const WITH_BLADE: &str = ", a blade of ";

@@ -5,6 +5,7 @@ use inputs::Text;
 use reference::buffers::{COUNTS, CUTS, OFFCUTS, PLACEMENTS, PLATES};
 use reference::calls;
 use reference::instances::outcome::LENGTHS;
+use reference::Outlay;
 use std::hint::black_box;
 
 #[derive(Clone, Copy, PartialEq, Eq)]
@@ -130,7 +131,7 @@ fn by_reference(call: Call, input: &Input, lent: &mut Lent) -> Answer {
         Call::List => {
             calls::list(job, plates, cuts).map(|listed| [listed.residuals, listed.cuts, 0])
         }
-        Call::TestPlan => calls::test_plan(job, own, plates, cuts).map(|boards| [boards, 0, 0]),
+        Call::TestPlan => calls::test_plan(job, own, plates, cuts).map(boards_and_cost),
         Call::TestPrices => {
             calls::test_prices(job, own, plates, cuts).map(|bound| [bound.sum, bound.d, 0])
         }
@@ -139,9 +140,7 @@ fn by_reference(call: Call, input: &Input, lent: &mut Lent) -> Answer {
             calls::unfold(job, own, LENGTHS, plates, cuts, placements, offcuts)
                 .map(|unfolded| [unfolded.boards, unfolded.pieces, unfolded.offcuts])
         }
-        Call::Fold => {
-            calls::fold(job, own, plates, cuts, &mut lent.counts).map(|boards| [boards, 0, 0])
-        }
+        Call::Fold => calls::fold(job, own, plates, cuts, &mut lent.counts).map(boards_and_cost),
         Call::SawText => return written(reference::saw_text(&input.text)),
         Call::FoldText => return written(reference::fold_text(&input.text)),
     };
@@ -149,6 +148,11 @@ fn by_reference(call: Call, input: &Input, lent: &mut Lent) -> Answer {
         Ok([first, second, third]) => [0, first, second, third],
         Err(refusal) => [refusal.number, refusal.place, 0, 0],
     }
+}
+
+/// The values of the plan test and of folding.
+fn boards_and_cost(outlay: Outlay) -> [u32; 3] {
+    [outlay.boards, outlay.cost, 0]
 }
 
 /// The bytes that a text is answered with, as an answer.

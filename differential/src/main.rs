@@ -67,7 +67,7 @@ impl Source {
             }
         };
         let mut job = subject.job().to_vec();
-        if random.once_in(6) && job[4] > 0 {
+        if random.once_in(6) {
             damage_job(random, &mut job);
         }
         Input {

@@ -95,7 +95,7 @@ fn layout_words(random: &mut Random, subject: &Subject) -> Vec<u16> {
             damage_order(random, &mut lines);
             layouts = lines.concat();
         }
-        8 => layouts = [1, 1, 1, 1, 1, 0, 0, 0].repeat(random.pick(&[0, 4_000, 4_001])),
+        8 => layouts = [1, 0, 1, 1, 1, 1, 0, 0, 0].repeat(random.pick(&[0, 4_000, 4_001])),
         9..=15 => damage_words(random, &mut layouts, Words::Layouts),
         _ => {}
     }

@@ -5,7 +5,7 @@ use crate::lent::MARGIN;
 use crate::own::Own;
 use differential::engine;
 use reference::buffers::{Kind, COUNTS, CUTS, OFFCUTS, PLACEMENTS, PLATES};
-use reference::{calls, Refusal};
+use reference::{calls, Outlay, Refusal};
 
 /// The job's words, the call's own words, the two lengths of unfolding, and the lent buffers.
 pub struct Input {
@@ -54,14 +54,14 @@ pub const CALLS: [Call; 5] = [
         own: Own::Counts,
         lent: &[PLATES, CUTS],
         refusals: &[1, 2, 3, 4, 5, 6, 7, 8, 10, 11, 12],
-        largest: &[4_000, 0],
+        largest: &[4_000, 3_996_000],
         engine: |input, lent| {
             let [plates, cuts] = lent_to(lent);
             engine::test_plan(&input.job, &input.own, plates, cuts).to_vec()
         },
         reference: |input, lent| {
             let [plates, cuts] = lent_to(lent);
-            words(calls::test_plan(&input.job, &input.own, plates, cuts).map(|boards| [boards, 0]))
+            words(calls::test_plan(&input.job, &input.own, plates, cuts).map(boards_and_cost))
         },
     },
     Call {
@@ -109,16 +109,14 @@ pub const CALLS: [Call; 5] = [
         own: Own::Layouts,
         lent: &[PLATES, CUTS, COUNTS],
         refusals: &[1, 2, 3, 4, 5, 6, 7, 10, 11, 15, 16, 17, 18, 19],
-        largest: &[4_000, 0],
+        largest: &[4_000, 3_996_000],
         engine: |input, lent| {
             let [plates, cuts, counts] = lent_to(lent);
             engine::fold(&input.job, &input.own, plates, cuts, counts).to_vec()
         },
         reference: |input, lent| {
             let [plates, cuts, counts] = lent_to(lent);
-            words(
-                calls::fold(&input.job, &input.own, plates, cuts, counts).map(|boards| [boards, 0]),
-            )
+            words(calls::fold(&input.job, &input.own, plates, cuts, counts).map(boards_and_cost))
         },
     },
 ];
@@ -130,6 +128,11 @@ fn lent_to<const N: usize>(lent: &mut [Vec<u16>]) -> [&mut [u16]; N] {
         &mut lent[MARGIN..end]
     });
     std::array::from_fn(|_| buffers.next().expect("each call is lent its buffers"))
+}
+
+/// The values of the plan test and of folding.
+fn boards_and_cost(outlay: Outlay) -> [u32; 2] {
+    [outlay.boards, outlay.cost]
 }
 
 /// An answer of the reference as words: 0 and its values, or the refusal, its place, and 0 in the rest.

@@ -1,19 +1,20 @@
 //! Damage to words, to lines of numbers, and to the bytes of a text.
 
 use crate::random::Random;
-use reference::job::{HEAD_NUMBERS, ITEM_NUMBERS};
+use reference::job::{items_at, HEAD_NUMBERS, ITEM_NUMBERS};
 use reference::layout::PLACEMENT_NUMBERS;
+use reference::size::SIZE_NUMBERS;
 use std::ops::Range;
 
 /// The greatest number of nine columns.
 const GREATEST: u32 = 999_999_999;
 
-/// The lowest and the highest value of each number of a line after its kind, by kind; a job of
-/// four item types is meant. The plate's width, height and stage on line 3 have no limits of their
+/// The lowest and the highest value of each number of a line after its kind, by kind; a job of two
+/// sizes and four item types is meant. The plate's width, height and stage on line 3 have no limits of their
 /// own, and those of plates stand for them.
-const LIMITS: [&[(u32, u32)]; 8] = [
+const LIMITS: [&[(u32, u32)]; 11] = [
     &[],
-    &[(2, 3), (0, 1), (1, 10_000), (1, 10_000), (1, 40), (0, 20)],
+    &[(2, 3), (0, 1), (1, 6), (1, 40), (0, 20)],
     &[(1, 4), (1, 10_000), (1, 10_000), (1, 4_000), (0, 1)],
     &[
         (0, 2_047),
@@ -29,6 +30,7 @@ const LIMITS: [&[(u32, u32)]; 8] = [
     &[(1, 2_047), (0, 9_999)],
     &[
         (1, 4_000),
+        (0, 1),
         (1, 4_000),
         (1, 4_000),
         (1, 4_000),
@@ -37,12 +39,16 @@ const LIMITS: [&[(u32, u32)]; 8] = [
         (0, 10_000),
         (0, 1),
     ],
+    &[],
+    &[],
+    &[(0, 1), (1, 10_000), (1, 10_000), (1, 999)],
 ];
 
 /// What words are passed for.
 #[derive(Clone, Copy)]
 pub enum Words {
-    Job,
+    /// A job of so many sizes.
+    Job(u16),
     Counts,
     Prices,
     Layouts,
@@ -52,8 +58,11 @@ impl Words {
     /// The lowest and the highest value of a word.
     fn limits(self, at: usize) -> (u32, u32) {
         match self {
-            Words::Job if at < HEAD_NUMBERS => LIMITS[1][at],
-            Words::Job => LIMITS[2][1 + (at - HEAD_NUMBERS) % ITEM_NUMBERS],
+            Words::Job(_) if at < HEAD_NUMBERS => LIMITS[1][at],
+            Words::Job(sizes) => match at.checked_sub(items_at(usize::from(sizes))) {
+                Some(of_items) => LIMITS[2][1 + of_items % ITEM_NUMBERS],
+                None => LIMITS[10][1 + (at - HEAD_NUMBERS) % SIZE_NUMBERS],
+            },
             Words::Counts => (0, 4_000),
             Words::Prices => (u32::from(at == 0), 9_999),
             Words::Layouts => LIMITS[7][at % PLACEMENT_NUMBERS],
@@ -87,30 +96,124 @@ pub fn damage_words(random: &mut Random, words: &mut Vec<u16>, purpose: Words) {
     }
 }
 
-/// Changes a job's words: a demand so that all of them come to about 4,000, a side so that the
-/// board is too small for the item as it stands, or however it lies, a leave, n with as many types
-/// as it asks for, the blade, or any word.
+/// Changes a job's words: a demand so that all of them come to about 4,000, a side so that a size or
+/// all of them are too small for the item as it stands, or however it lies, a leave, n with as many
+/// types as it asks for, the blade, the sizes, or any word.
 pub fn damage_job(random: &mut Random, words: &mut Vec<u16>) {
-    let first = HEAD_NUMBERS + ITEM_NUMBERS * random.below(usize::from(words[4]));
-    match random.below(16) {
+    let sizes = words[2];
+    if sizes == 0 || words[3] == 0 {
+        return damage_words(random, words, Words::Job(sizes));
+    }
+    let items = items_at(usize::from(sizes));
+    let first = items + ITEM_NUMBERS * random.below(usize::from(words[3]));
+    let size = HEAD_NUMBERS + SIZE_NUMBERS * random.below(usize::from(sizes));
+    let longest = words[HEAD_NUMBERS..items].chunks(SIZE_NUMBERS);
+    let longest = longest.map(|size| size[0].max(size[1])).max().unwrap_or(1);
+    match random.below(20) {
         0..=2 => words[first + 2] = random.pick(&[3_999, 4_000, 4_000, 4_001]),
-        3 => words[first] = words[2] + 1,
-        4 => words[first + 1] = words[3] + 1,
-        5 => words[first + random.below(2)] = words[2].max(words[3]) + 1,
+        3 => words[first] = words[size] + 1,
+        4 => words[first + 1] = words[size + 1] + 1,
+        5 => words[first + random.below(2)] = longest + 1,
         6 | 7 => words[first + 3] ^= 1,
         8 => {
-            words[4] = random.pick(&[0, 40, 41]);
-            words.resize(HEAD_NUMBERS + ITEM_NUMBERS * usize::from(words[4]), 1);
+            words[3] = random.pick(&[0, 40, 41]);
+            words.resize(items + ITEM_NUMBERS * usize::from(words[3]), 1);
         }
-        9 | 10 => words[5] = other_blade(random, words[5].into()) as u16,
-        11 => drop(words.remove(5)),
-        _ => damage_words(random, words, Words::Job),
+        9 | 10 => words[4] = other_blade(random, words[4].into()) as u16,
+        11 => drop(words.remove(4)),
+        12..=14 => damage_sizes(random, words),
+        _ => damage_words(random, words, Words::Job(sizes)),
+    }
+}
+
+/// Changes the sizes of a job's words: one more, equal to one that is there, or one fewer, with the
+/// number of them or without it, or a cost at its limits or past them.
+fn damage_sizes(random: &mut Random, words: &mut Vec<u16>) {
+    let sizes = usize::from(words[2]);
+    let at = HEAD_NUMBERS + SIZE_NUMBERS * random.below(sizes.max(1));
+    let size = words[at..at + SIZE_NUMBERS].to_vec();
+    match random.below(8) {
+        0 | 1 => {
+            words[2] += 1;
+            words.splice(at..at, size);
+        }
+        2 | 3 => {
+            words[2] -= 1;
+            words.drain(at..at + SIZE_NUMBERS);
+        }
+        4 => words[2] = random.pick(&[0, 1, 2, 6, 7, 65_535]),
+        5 => words.swap(at, at + 1),
+        _ => words[at + 2] = random.pick(&[0, 1, 2, 999, 1_000, 65_535]),
     }
 }
 
 /// Another width of the blade: one more or less, the widest, or one past it.
 fn other_blade(random: &mut Random, blade: u32) -> u32 {
-    random.pick(&[blade + 1, blade.saturating_sub(1), 0, 20, 21])
+    let wider = GREATEST.min(blade + 1);
+    random.pick(&[wider, blade.saturating_sub(1), 0, 20, 21])
+}
+
+/// The lines of kind 10 of a text.
+fn size_lines(lines: &[Vec<u32>]) -> Vec<usize> {
+    let is_size = |&at: &usize| lines[at][0] == 10;
+    (0..lines.len()).filter(is_size).collect()
+}
+
+/// Changes a line of kind 10: its cost, or its sides exchanged, or its number; or drops it, doubles it,
+/// or has two of them change places, with t on line 1 as many or as it was; or changes the size that a
+/// line of kind 7 names.
+pub fn damage_size_lines(random: &mut Random, lines: &mut Vec<Vec<u32>>) {
+    let placed: Vec<usize> = (0..lines.len()).filter(|&at| lines[at][0] == 7).collect();
+    if !placed.is_empty() && random.once_in(2) {
+        let line = &mut lines[random.pick(&placed)];
+        if let Some(size) = line.get_mut(2) {
+            *size = random.pick(&[0, 0, 1, 1, 2, 3, 5, 6, 65_536]);
+        }
+        return;
+    }
+    let sizes = size_lines(lines);
+    if sizes.is_empty() {
+        return;
+    }
+    let [one, other] = [0; 2].map(|_| random.pick(&sizes));
+    match random.below(9) {
+        0 | 1 => drop(lines[one].pop().map(|_| {
+            let cost = random.pick(&[0, 1, 2, 500, 999, 1_000, 65_537]);
+            lines[one].push(cost);
+        })),
+        2 if lines[one].len() > 3 => lines[one].swap(2, 3),
+        3 => lines[one][1..]
+            .iter_mut()
+            .take(1)
+            .for_each(|number| *number ^= 1),
+        4 => lines.swap(one, other),
+        5 => drop(lines.remove(one)),
+        6 => lines.insert(one, lines[one].clone()),
+        7 => another_size(random, lines, one),
+        _ => lines[0][3..].iter_mut().take(1).for_each(|sizes| {
+            *sizes = random.pick(&[0, 1, 2, 6, 7]);
+        }),
+    }
+}
+
+/// A size more, equal to one that is there, or that one fewer, with its number on line 1; all sizes are
+/// numbered anew.
+fn another_size(random: &mut Random, lines: &mut Vec<Vec<u32>>, one: usize) {
+    match random.once_in(2) {
+        true => lines.insert(one, lines[one].clone()),
+        false => drop(lines.remove(one)),
+    }
+    let sizes = size_lines(lines);
+    for (number, &at) in (0..).zip(&sizes) {
+        lines[at][1..]
+            .iter_mut()
+            .take(1)
+            .for_each(|size| *size = number);
+    }
+    lines[0][3..]
+        .iter_mut()
+        .take(1)
+        .for_each(|many| *many = sizes.len() as u32);
 }
 
 /// Changes the blade on line 1, or leaves it away, or writes it twice.
@@ -225,7 +328,7 @@ pub fn damage_line(random: &mut Random, lines: &mut [Vec<u32>]) {
     match random.below(5) {
         0 => line[at] = GREATEST.min(line[at] + 1),
         1 => line[at] = GREATEST,
-        2 => line[0] = random.between(0, 10).into(),
+        2 => line[0] = random.between(0, 11).into(),
         3 => drop(line.remove(at)),
         _ => line.insert(at, random.between(0, 4).into()),
     }

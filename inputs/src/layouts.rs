@@ -3,22 +3,25 @@
 use crate::missing::Missing;
 use crate::random::Random;
 use reference::layout::{keeps_rules, placements};
-use reference::{Board, Job, Placement, Position};
+use reference::{Board, Job, Placement, Position, Strip};
 
-/// A set of layouts that keeps the rules and meets the demands.
+/// A set of layouts that keeps the rules and meets the demands, on boards of any sizes in any order.
 pub fn random_set(random: &mut Random, job: &Job) -> Vec<Board> {
     let mut missing = Missing::of(job);
     let mut set = Vec::new();
     while !missing.is_none() || random.once_in(6) {
         let item = missing.pick(random);
-        let item = random_position(random, job, item);
+        let (size, item) = random_start(random, job, item);
         missing.take(item.item);
-        let mut board = vec![vec![vec![item]]];
+        let mut board = Board {
+            size,
+            strips: vec![vec![vec![item]]],
+        };
         for _ in 0..random.below(24) {
             let item = missing.pick(random);
-            let item = random_position(random, job, item);
+            let (_, item) = random_start(random, job, item);
             let mut grown = board.clone();
-            grow(random, &mut grown, item);
+            grow(random, &mut grown.strips, item);
             if keeps_rules(job, &grown) {
                 board = grown;
                 missing.take(item.item);
@@ -29,15 +32,19 @@ pub fn random_set(random: &mut Random, job: &Job) -> Vec<Board> {
     set
 }
 
-/// An item type in some position that is permitted and fits the board.
-fn random_position(random: &mut Random, job: &Job, item: u16) -> Position {
-    let fits = |position: &Position| job.fits(*position);
-    let fitting: Vec<Position> = job.positions_of(item).filter(fits).collect();
+/// Some size, and an item type in some position that is permitted and fits it.
+fn random_start(random: &mut Random, job: &Job, item: u16) -> (u16, Position) {
+    let mut fitting = Vec::new();
+    for (number, size) in (0..).zip(&job.sizes) {
+        let fits = |position: &Position| size.fits(job.sides(*position));
+        let positions = job.positions_of(item).filter(fits);
+        fitting.extend(positions.map(|position| (number, position)));
+    }
     random.pick(&fitting)
 }
 
 /// Puts an item into a stack, or as a stack into a strip, or as a strip on the board.
-fn grow(random: &mut Random, board: &mut Board, item: Position) {
+fn grow(random: &mut Random, board: &mut Vec<Strip>, item: Position) {
     let which = random.below(board.len());
     let strip = &mut board[which];
     match random.below(4) {
@@ -52,7 +59,7 @@ fn grow(random: &mut Random, board: &mut Board, item: Position) {
 }
 
 /// The layout words of a set; in a broken one an item more is put anywhere, or the gaps are wider or
-/// narrower than the blade.
+/// narrower than the blade, or a board has another size, or one of its lines names another.
 pub fn random_layouts(random: &mut Random, job: &Job, broken: bool) -> Vec<u16> {
     let mut set = random_set(random, job);
     if !broken {
@@ -61,8 +68,26 @@ pub fn random_layouts(random: &mut Random, job: &Job, broken: bool) -> Vec<u16> 
     if random.once_in(3) {
         return words_of_lines(&placements(&with_other_gaps(random, job), &set));
     }
+    if random.once_in(3) {
+        return words_of_lines(&with_other_size(random, job, set));
+    }
     grow_anywhere(random, job, &mut set);
     words_of_lines(&placements(job, &set))
+}
+
+/// The lines of a set of which a board, or a single line, has another size, one of the job's or the
+/// one after the last.
+fn with_other_size(random: &mut Random, job: &Job, mut set: Vec<Board>) -> Vec<Placement> {
+    let size = random.between(0, job.sizes.len() as u16);
+    if random.once_in(2) {
+        let board = random.below(set.len());
+        set[board].size = size;
+        return placements(job, &set);
+    }
+    let mut lines = placements(job, &set);
+    let line = random.below(lines.len());
+    lines[line].size = size;
+    lines
 }
 
 /// The job with a blade that is a little wider or narrower, or has no width.
@@ -84,7 +109,7 @@ pub fn grow_anywhere(random: &mut Random, job: &Job, set: &mut [Board]) {
         true => Position::turned(item),
         false => random.pick(&positions),
     };
-    grow(random, &mut set[board], position);
+    grow(random, &mut set[board].strips, position);
 }
 
 /// Layout words of lines.

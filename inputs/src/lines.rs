@@ -1,7 +1,8 @@
 //! Lines: those of a small job with a plan and prices, or with layouts, and the text that damage makes of them.
 
 use crate::damage::{
-    damage_blade, damage_bytes, damage_line, damage_order, damage_shown, move_number,
+    damage_blade, damage_bytes, damage_line, damage_order, damage_shown, damage_size_lines,
+    move_number,
 };
 use crate::layouts::random_layouts;
 use crate::model::Model;
@@ -9,28 +10,36 @@ use crate::plans::random_plan;
 use crate::prices::random_prices;
 use crate::random::Random;
 use reference::columns::write_line;
-use reference::job::{HEAD_NUMBERS, ITEM_NUMBERS};
+use reference::job::{items_at, HEAD_NUMBERS, ITEM_NUMBERS};
 use reference::layout::PLACEMENT_NUMBERS;
 use reference::plan_lines;
+use reference::size::SIZE_NUMBERS;
 
 /// The numbers of a line, its kind first.
 pub type Line = Vec<u32>;
 
-/// The lines as bytes, damaged so many times: in numbers, in the blade, in the plates that lines of
-/// kind 3 show, if there are any, in the order of all lines or of those after the job's, or in bytes.
-pub fn text_of(random: &mut Random, mut lines: Vec<Line>, types: usize, damages: usize) -> Vec<u8> {
+/// The lines as bytes, damaged so many times: in numbers, in the blade, in the sizes, in the plates
+/// that lines of kind 3 show, if there are any, in the order of all lines or of those after the job's,
+/// of which there are so many, or in bytes.
+pub fn text_of(
+    random: &mut Random,
+    mut lines: Vec<Line>,
+    job_lines: usize,
+    damages: usize,
+) -> Vec<u8> {
     let mut in_bytes = 0;
     let shows_plates = lines.iter().any(|line| line[0] == 3);
-    let ways = if shows_plates { 14 } else { 11 };
+    let ways = if shows_plates { 16 } else { 13 };
     for _ in 0..damages {
         match random.below(ways) {
             10 => damage_blade(random, &mut lines),
-            11.. => damage_shown(random, &mut lines),
+            11 | 12 => damage_size_lines(random, &mut lines),
+            13.. => damage_shown(random, &mut lines),
             0..=3 => move_number(random, &mut lines),
             4 => damage_line(random, &mut lines),
             5 => damage_order(random, &mut lines),
             6 => {
-                let mut body = lines.split_off(lines.len().min(1 + types));
+                let mut body = lines.split_off(lines.len().min(job_lines));
                 damage_order(random, &mut body);
                 lines.append(&mut body);
             }
@@ -47,14 +56,18 @@ pub fn text_of(random: &mut Random, mut lines: Vec<Line>, types: usize, damages:
     text
 }
 
-/// Kinds 1 and 2.
+/// Kinds 1, 10 and 2.
 pub fn job_lines(words: &[u16]) -> Vec<Line> {
     let line = |head: &[u32], words: &[u16]| {
         let numbers = words.iter().map(|&word| u32::from(word));
         head.iter().copied().chain(numbers).collect()
     };
-    let (head, items) = words.split_at(HEAD_NUMBERS);
+    let (board, items) = words.split_at(items_at(usize::from(words[2])));
+    let (head, sizes) = board.split_at(HEAD_NUMBERS);
     let mut lines = vec![line(&[1], head)];
+    for (number, size) in (0..).zip(sizes.chunks(SIZE_NUMBERS)) {
+        lines.push(line(&[10, number], size));
+    }
     for (number, item) in (1..).zip(items.chunks(ITEM_NUMBERS)) {
         lines.push(line(&[2, number], item));
     }
@@ -86,9 +99,10 @@ pub fn saw_lines(random: &mut Random, model: &Model) -> Vec<Line> {
     }
     let [types, plates] = [0, 1].map(|which: usize| prices[which].len() as u32);
     lines.push(vec![4, u32::from(words[0]), types, plates]);
-    for (kind, list) in (5..).zip(&prices) {
+    let sizes = model.job.sizes.len() as u32;
+    for (kind, first, list) in [(5, 1, &prices[0]), (6, sizes, &prices[1])] {
         let line = |(number, &price)| vec![kind, number, u32::from(price)];
-        lines.extend((1..).zip(list).map(line));
+        lines.extend((first..).zip(list).map(line));
     }
     lines
 }

@@ -14,13 +14,18 @@ pub struct Long {
 }
 
 /// One board of 4,000 pieces: 50 strips of 80.
-const ONE_BOARD: [u16; 10] = [2, 0, 80, 50, 1, 0, 1, 1, 4_000, 0];
+const ONE_BOARD: [u16; 12] = [2, 0, 1, 1, 0, 80, 50, 1, 1, 1, 4_000, 0];
 /// 4,000 boards of one piece.
-const BOARDS: [u16; 10] = [3, 0, 10_000, 10_000, 1, 0, 10_000, 10_000, 4_000, 0];
+const BOARDS: [u16; 12] = [3, 0, 1, 1, 0, 10_000, 10_000, 1, 10_000, 10_000, 4_000, 0];
 /// Two equal types: a board of 2,000 of each, and so 4,000 cuts that are counted once.
-const CUTS: [u16; 14] = [2, 0, 10_000, 9, 2, 0, 5, 9, 2_000, 0, 5, 9, 2_000, 0];
+const CUTS: [u16; 16] = [2, 0, 1, 2, 0, 10_000, 9, 1, 5, 9, 2_000, 0, 5, 9, 2_000, 0];
 /// Ten boards of 400 pieces, with the widest blade between them.
-const WIDEST_BLADE: [u16; 10] = [3, 0, 10_000, 10_000, 1, 20, 480, 480, 4_000, 0];
+const WIDEST_BLADE: [u16; 12] = [3, 0, 1, 1, 20, 10_000, 10_000, 1, 480, 480, 4_000, 0];
+/// 4,000 boards of one piece at the highest cost, of six sizes each of which holds one type alone.
+const DEAREST: [u16; 47] = [
+    2, 1, 6, 6, 0, 1, 6, 999, 2, 5, 999, 3, 4, 999, 4, 3, 999, 5, 2, 999, 6, 1, 999, 1, 6, 667, 0,
+    2, 5, 667, 0, 3, 4, 667, 0, 4, 3, 667, 0, 5, 2, 666, 0, 6, 1, 666, 0,
+];
 
 /// The long texts of a kind.
 pub fn long_texts(kind: Text) -> Vec<Long> {
@@ -34,14 +39,21 @@ pub fn long_texts(kind: Text) -> Vec<Long> {
         ("4,000 boards", &BOARDS),
         ("4,000 cuts counted", &CUTS),
         ("a blade of 20", &WIDEST_BLADE),
+        ("six sizes and the highest cost", &DEAREST),
     ];
     all.extend(jobs.map(|(name, words)| of_job(kind, name, words)));
     for limit in limit_jobs() {
-        if limit.listed.is_ok() && limit.job.name.starts_with("limits both") {
+        if limit.listed.is_ok() && is_greatest(&limit.job.name) {
             all.push(of_job(kind, &limit.job.name, &limit.job.words));
         }
     }
     all
+}
+
+/// Whether a job at the limits has as many plate types and cuts as can be, or six sizes among as many
+/// plate types as can be.
+fn is_greatest(name: &str) -> bool {
+    name.starts_with("limits both") || name.ends_with("2,048 plate types")
 }
 
 /// The text of a job and of the inputs that the reference finds for it.
@@ -69,11 +81,11 @@ fn of_most_lines(kind: Text) -> Vec<Long> {
     let instead = |name: &str, last: &[u8]| ending_with(kind, name, last);
     let past_limit = match kind {
         Text::Saw => line(&[3, 0, 1, 4_001, 2, 1, 1, 0]),
-        Text::Fold => line(&[7, 1, 1, 1, 1, 1, 0, 10_001, 0]),
+        Text::Fold => line(&[7, 1, 0, 1, 1, 1, 1, 0, 10_001, 0]),
     };
     let turned = match kind {
         Text::Saw => line(&[3, 0, 1, 1, 2, 1, 1, 1]),
-        Text::Fold => line(&[7, 1, 1, 1, 1, 1, 0, 0, 1]),
+        Text::Fold => line(&[7, 1, 0, 1, 1, 1, 1, 0, 0, 1]),
     };
     vec![
         with("99,999 lines", b""),
@@ -119,30 +131,33 @@ fn ending_with(kind: Text, name: &str, last: &[u8]) -> Long {
     }
 }
 
-/// The longest text that no line refuses: 7,299,900 bytes of a saw text, 8,199,873 of a fold text.
-/// Lines of kinds 3 and 7 are longer than those of kind 2, so there is one type.
+/// The longest text that no line refuses: 7,299,864 bytes of a saw text, 9,099,792 of a fold text.
+/// Lines of kinds 3 and 7 are longer than those of kinds 10 and 2, so there is one size and one type.
 pub fn longest(kind: Text) -> Vec<u8> {
     of_types(kind, 1)
 }
 
 /// A text of 99,999 lines, so many of them of kind 2, and of kind 3 or 7 the same line to the end.
 fn of_types(kind: Text, types: u32) -> Vec<u8> {
-    let mut text = line(&[1, 2, 0, 2, 1, types, 0]);
+    let mut text = line(&[1, 2, 0, 1, types, 0]);
+    text.extend(line(&[10, 0, 2, 1, 1]));
     for number in 1..=types {
         text.extend(line(&[2, number, 1, 1, 1, 0]));
     }
-    text.extend(line_of(kind).repeat(99_998 - types as usize));
+    text.extend(line_of(kind).repeat(99_997 - types as usize));
     text
 }
 
-/// A saw text with the longest price list: 40 types and 2,047 residual types, prices of up to four figures.
+/// A saw text with the longest price list: 40 types and 2,047 residual types, prices of up to four figures;
+/// with six sizes, so that plate numbers go past 2,047.
 fn of_most_prices() -> Long {
-    let mut text = line(&[1, 2, 0, 2, 1, 40, 0]);
+    let mut text = line(&[1, 2, 0, 6, 40, 0]);
+    text.extend((0..6).flat_map(|number| line(&[10, number, 2, 1, 999])));
     text.extend((1..=40).flat_map(|number| line(&[2, number, 1, 1, 1, 0])));
     text.extend(line(&[4, 9_999, 40, 2_047]));
     let price = |kind| move |number: u32| line(&[kind, number, number * 4_099 % 10_000]);
     text.extend((1..=40).flat_map(price(5)));
-    text.extend((1..=2_047).flat_map(price(6)));
+    text.extend((6..2_053).flat_map(price(6)));
     Long {
         name: "2,087 prices".to_string(),
         text,
@@ -153,7 +168,7 @@ fn of_most_prices() -> Long {
 pub fn line_of(kind: Text) -> Vec<u8> {
     match kind {
         Text::Saw => line(&[3, 0, 1, 1, 2, 1, 1, 0]),
-        Text::Fold => line(&[7, 1, 1, 1, 1, 1, 0, 0, 0]),
+        Text::Fold => line(&[7, 1, 0, 1, 1, 1, 1, 0, 0, 0]),
     }
 }
 

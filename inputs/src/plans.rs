@@ -5,7 +5,7 @@ use crate::model::Model;
 use crate::random::Random;
 use reference::Listing;
 
-/// The counts of boards and residuals that are cut at random, in any order, until the demands are
+/// The counts of boards of all sizes and residuals that are cut at random, in any order, until the demands are
 /// met: an accepted plan.
 pub fn random_plan(random: &mut Random, model: &Model) -> Vec<u16> {
     let listing = &model.listing;
@@ -29,10 +29,12 @@ pub fn random_plan(random: &mut Random, model: &Model) -> Vec<u16> {
     counts
 }
 
-/// A board, any residual that waits, or one of the highest stage.
+/// A board of a size that has a cut, any residual that waits, or one of the highest stage.
 fn random_plate(random: &mut Random, listing: &Listing, waiting: &mut Vec<u16>) -> u16 {
     if waiting.is_empty() || random.once_in(5) {
-        return 0;
+        let sizes = 0..listing.sizes as u16;
+        let cut = sizes.filter(|&size| !listing.cuts_on(size).is_empty());
+        return random.pick(&cut.collect::<Vec<u16>>());
     }
     waiting.sort_by_key(|&plate| listing.plates[usize::from(plate)].stage);
     let last = waiting.len() - 1;

@@ -1,6 +1,6 @@
 //! What a call is about: a small random job, or a job of `data/`, which is a published instance or
-//! lies at a limit of document 01 or one past it; beside these the job with most offcuts, and published
-//! instances with a blade.
+//! lies at a limit of document 01 or one past it; beside these the job with most offcuts, published
+//! instances with a blade, and published instances on all their sizes.
 
 use crate::layouts::random_layouts;
 use crate::lengths::{any_lengths, valid_lengths};
@@ -10,7 +10,7 @@ use crate::prices::random_prices;
 use crate::random::Random;
 use reference::instances::inputs::Inputs;
 use reference::instances::limit_jobs::limit_jobs;
-use reference::instances::{jobs, NamedJob};
+use reference::instances::{jobs, stock_jobs, NamedJob};
 
 pub enum Subject {
     /// A small job, with its listing.
@@ -57,9 +57,9 @@ impl Subject {
         any_lengths(random, self.board())
     }
 
-    /// The board's width and height.
+    /// The width and height of the first size, or any where there is none.
     fn board(&self) -> [u16; 2] {
-        [self.job()[2], self.job()[3]]
+        [5, 6].map(|at| self.job().get(at).copied().unwrap_or(1))
     }
 
     /// The words of accepted prices; any if the listing is refused.
@@ -77,7 +77,7 @@ impl Subject {
         match self {
             Subject::Small(model) => random_layouts(random, &model.job, broken),
             Subject::Known(_, Some(inputs)) => inputs.layouts.clone(),
-            Subject::Known(_, None) => [1, 1, 1, 1, 1, 0, 0, 0].repeat(random.below(3)),
+            Subject::Known(_, None) => [1, 0, 1, 1, 1, 1, 0, 0, 0].repeat(random.below(3)),
         }
     }
 }
@@ -85,21 +85,21 @@ impl Subject {
 /// The words of a job, and those of the plan that leaves over most: 4,000 boards of 2 by 2, each cut
 /// for one item of 1 by 1, and 8,000 offcuts.
 pub fn most_offcuts() -> (Vec<u16>, Inputs) {
-    let job = vec![2, 0, 2, 2, 1, 0, 1, 1, 4_000, 0];
+    let job = vec![2, 0, 1, 1, 0, 2, 2, 1, 1, 1, 4_000, 0];
     let inputs = Inputs::of_singles(&job).expect("the job is listed");
     (job, inputs)
 }
 
-/// The counts that cut each item from a board of its own, in the first of its positions that fit.
+/// The counts that cut each item from a board of its own, the first size and the first of its positions
+/// that fit.
 fn single_items(model: &Model) -> Vec<u16> {
     let mut counts = vec![0; model.listing.cuts.len()];
-    let mut last = 0;
-    for index in model.listing.cuts_on(0) {
-        let item = model.listing.cuts[index].position.item;
-        if item != last {
-            counts[index] = model.job.item(item).demand;
-        }
-        last = item;
+    let sizes = 0..model.listing.sizes as u16;
+    let on_sizes: Vec<usize> = sizes.flat_map(|size| model.listing.cuts_on(size)).collect();
+    for (item, demanded) in (1..).zip(&model.job.items) {
+        let of_item = |&&index: &&usize| model.listing.cuts[index].position.item == item;
+        let first = on_sizes.iter().find(of_item);
+        counts[*first.expect("each item fits some size")] = demanded.demand;
     }
     counts
 }
@@ -108,7 +108,7 @@ fn single_items(model: &Model) -> Vec<u16> {
 fn with_blade(published: &[NamedJob]) -> Vec<NamedJob> {
     let with = |(blade, job): (u16, &NamedJob)| {
         let mut words = job.words.clone();
-        words[5] = blade;
+        words[4] = blade;
         NamedJob {
             name: format!("{} with a blade of {blade}", job.name),
             words,
@@ -118,8 +118,8 @@ fn with_blade(published: &[NamedJob]) -> Vec<NamedJob> {
     blades.zip(published.iter().step_by(7)).map(with).collect()
 }
 
-/// The jobs of `data/`, published ones, some of them with a blade too, and those at the limits, the
-/// one with most offcuts among these.
+/// The jobs of `data/`, published ones, some of them with a blade too and some on all their sizes, and
+/// those at the limits, the one with most offcuts among these.
 pub struct Known {
     published: Vec<Subject>,
     limits: Vec<Subject>,
@@ -133,8 +133,9 @@ impl Known {
         let most_offcuts = Subject::Known(job, Some(inputs));
         let published = jobs();
         let with_blade = with_blade(&published);
+        let on_all_sizes = stock_jobs().into_iter().step_by(3);
         Known {
-            published: (published.into_iter().chain(with_blade))
+            published: (published.into_iter().chain(with_blade).chain(on_all_sizes))
                 .map(Subject::known)
                 .collect(),
             limits: limits.map(Subject::known).chain([most_offcuts]).collect(),

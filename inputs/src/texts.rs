@@ -25,7 +25,7 @@ impl Text {
             }
         };
         let mut lines = self.lines(random, subject);
-        let types = usize::from(subject.job()[4]);
+        let job_lines = 1 + usize::from(subject.job()[2] + subject.job()[3]);
         let damages = random.pick(&[0, 0, 1, 1, 2, 3]);
         if damages > 0 && random.once_in(4) {
             move_to_own_limit(random, &mut lines);
@@ -33,7 +33,7 @@ impl Text {
         if random.once_in(60) {
             self.fill(random, &mut lines);
         }
-        text_of(random, lines, types, damages)
+        text_of(random, lines, job_lines, damages)
     }
 
     /// The lines of a text: of a small job with prices or without, and now and then breaking a rule;
@@ -46,7 +46,7 @@ impl Text {
                 let text = texts::saw_text(words, inputs).expect("the listing is not refused");
                 let mut lines = lines_of(&text);
                 if random.once_in(3) {
-                    lines.retain(|line| line[0] < 4);
+                    lines.retain(|line| !(4..=6).contains(&line[0]));
                 }
                 lines
             }
@@ -66,16 +66,16 @@ impl Text {
     /// The lines of a job whose listing is refused, and up to two more.
     fn refused_lines(self, random: &mut Random, words: &[u16]) -> Vec<Line> {
         let mut lines = job_lines(words);
-        let [width, height] = [words[2], words[3]].map(u32::from);
+        let [width, height] = [5, 6].map(|at| words.get(at).copied().unwrap_or(1).into());
         let line = match self {
             Text::Saw => vec![3, 0, 1, 1, width, height, 1, 0],
-            Text::Fold => vec![7, 1, 1, 1, 1, 1, 0, 0, 0],
+            Text::Fold => vec![7, 1, 0, 1, 1, 1, 1, 0, 0, 0],
         };
         lines.resize(lines.len() + random.below(3), line);
         lines
     }
 
-    /// Brings the pieces to 4,000, or to one more: by the count of a cut on type 0, or by lines like the
+    /// Brings the pieces to 4,000, or to one more: by the count of a cut on size 0, or by lines like the
     /// last.
     fn fill(self, random: &mut Random, lines: &mut Vec<Line>) {
         let wanted = random.pick(&[4_000, 4_000, 4_001]);
@@ -97,10 +97,13 @@ impl Text {
     }
 }
 
-/// Moves a number of some line to a limit that the job itself sets, or one past it: n, W, H, or the
-/// demand with which all of them are 4,000.
+/// Moves a number of some line to a limit that the job itself sets, or one past it: n, W, H of the first
+/// size, t, or the demand with which all of them are 4,000.
 fn move_to_own_limit(random: &mut Random, lines: &mut [Line]) {
-    let &[_, _, _, width, height, types, _] = &lines[0][..] else {
+    let &[_, _, _, sizes, types, _] = &lines[0][..] else {
+        return;
+    };
+    let Some(&[10, _, width, height, _]) = lines.get(1).map(|line| &line[..]) else {
         return;
     };
     let past = random.pick(&[0, 1]);
@@ -115,7 +118,7 @@ fn move_to_own_limit(random: &mut Random, lines: &mut [Line]) {
         }
         3 => random.pick(&[(2, types), (2, types), (4, width), (5, height)]),
         4 => (2, types),
-        7 => random.pick(&[(5, types), (6, width), (7, height)]),
+        7 => random.pick(&[(2, sizes - 1), (6, types), (7, width), (8, height)]),
         _ => return,
     };
     line[at] = limit + past;

@@ -15,7 +15,7 @@ use reference::balance::of_boards;
 use reference::buffers::{COUNTS, CUTS, PLATES};
 use reference::instances::outcome;
 use reference::unfolding::unfold;
-use reference::{Item, Lengths};
+use reference::{Item, Lengths, Sides};
 use std::collections::BTreeSet;
 
 /// A text of a small job, damaged so many times.
@@ -25,7 +25,7 @@ fn text(random: &mut Random, kind: Text, damages: usize) -> Vec<u8> {
         Text::Saw => saw_lines(random, &model),
         Text::Fold => fold_lines(random, &model),
     };
-    text_of(random, lines, model.job.items.len(), damages)
+    text_of(random, lines, model.job_lines(), damages)
 }
 
 /// A checksum of bytes (FNV-1a).
@@ -52,7 +52,7 @@ fn a_seed_gives_these_texts() {
         let texts = (0..500).flat_map(|number| text(&mut random, kind, number % 4));
         checksum(&texts.collect::<Vec<u8>>())
     });
-    assert_eq!(sums, [0xEE64_D8D8_1DA8_C5BB, 0xF498_6E32_C979_988B]);
+    assert_eq!(sums, [0xA63D_F23C_56ED_4765, 0x0D5B_38D6_F237_2C6E]);
 }
 
 #[test]
@@ -82,7 +82,7 @@ fn undamaged_texts_are_accepted_or_break_a_rule() {
     for kind in Text::BOTH {
         let broken: &[u32] = match kind {
             Text::Saw => &[2, 13, 14],
-            Text::Fold => &[16, 17, 18, 19],
+            Text::Fold => &[2, 15, 16, 17, 18, 19],
         };
         let mut accepted = 0;
         for _ in 0..1_000 {
@@ -103,7 +103,13 @@ fn types_turn_and_some_fit_only_turned() {
     for _ in 0..1_000 {
         let model = Model::random(&mut random);
         let with_leave = model.job.items.iter().filter(|item| item.leave);
-        let fits = |item: &Item| item.width <= model.job.width && item.height <= model.job.height;
+        let fits = |item: &Item| {
+            let sides = Sides {
+                width: item.width,
+                height: item.height,
+            };
+            model.job.sizes.iter().any(|size| size.fits(sides))
+        };
         for item in with_leave {
             only_turned += usize::from(!fits(item));
             square += usize::from(item.width == item.height);
@@ -114,7 +120,7 @@ fn types_turn_and_some_fit_only_turned() {
             .filter(|(cut, count)| cut.position.turned && *count > 0)
             .count();
         let layouts = random_layouts(&mut random, &model.job, false);
-        laid += layouts.chunks(8).filter(|line| line[7] == 1).count();
+        laid += layouts.chunks(9).filter(|line| line[8] == 1).count();
     }
     let found = [only_turned, square, cut, laid];
     assert!(found.iter().all(|&found| found > 25), "{found:?}");
@@ -127,19 +133,20 @@ fn blades_are_of_no_width_narrow_and_above_every_side() {
     for _ in 0..1_000 {
         let model = Model::random(&mut random);
         let job = &model.job;
-        assert_eq!(model.words[5], job.blade);
+        assert_eq!(model.words[4], job.blade);
         none += usize::from(job.blade == 0);
         narrow += usize::from((1..=3).contains(&job.blade));
-        above += usize::from(job.blade > job.width.max(job.height));
+        let sides = job.sizes.iter().map(|size| size.width.max(size.height));
+        above += usize::from(sides.max().is_some_and(|longest| job.blade > longest));
         let plan = random_plan(&mut random, &model);
         let unfolding = unfold(job, &model.listing, &plan);
         let boards = of_boards(job, &model.listing, &unfolding);
         swaths += boards.iter().filter(|board| board.swath > 0).count();
         let layouts = random_layouts(&mut random, job, false);
-        let placed = layouts.chunks(8);
+        let placed = layouts.chunks(9);
         gaps += match job.blade {
             0 => 0,
-            _ => placed.filter(|line| line[5] > 0 || line[6] > 0).count(),
+            _ => placed.filter(|line| line[6] > 0 || line[7] > 0).count(),
         };
     }
     let found = [none, narrow, above, gaps, swaths];
@@ -147,21 +154,25 @@ fn blades_are_of_no_width_narrow_and_above_every_side() {
 }
 
 #[test]
-fn a_damaged_blade_is_another_one_past_its_limit_or_no_seventh_group() {
+fn a_damaged_blade_is_another_one_past_its_limit_or_no_sixth_group() {
     let mut random = Random::new(9);
     let mut met = BTreeSet::new();
     for _ in 0..200 {
-        let mut lines = vec![vec![1, 2, 0, 9, 7, 1, 4], vec![2, 1, 5, 4, 2, 0]];
+        let mut lines = vec![
+            vec![1, 2, 0, 1, 1, 4],
+            vec![10, 0, 9, 7, 1],
+            vec![2, 1, 5, 4, 2, 0],
+        ];
         damage_blade(&mut random, &mut lines);
-        met.insert(lines[0][6..].to_vec());
+        met.insert(lines[0][5..].to_vec());
     }
     let expected: [&[u32]; 7] = [&[], &[0], &[3], &[4, 4], &[5], &[20], &[21]];
     assert!(met.iter().eq(expected), "{met:?}");
     let mut words = BTreeSet::new();
     for _ in 0..2_000 {
-        let mut job = vec![2, 0, 9, 7, 1, 4, 5, 4, 2, 0];
+        let mut job = vec![2, 0, 1, 1, 4, 9, 7, 1, 5, 4, 2, 0];
         damage_job(&mut random, &mut job);
-        words.extend(job.get(5).copied().filter(|_| job.len() == 10));
+        words.extend(job.get(4).copied().filter(|_| job.len() == 12));
     }
     assert!(words.contains(&20) && words.contains(&21), "{words:?}");
 }
@@ -169,7 +180,8 @@ fn a_damaged_blade_is_another_one_past_its_limit_or_no_seventh_group() {
 /// Job A with its plan, as lines of numbers.
 fn plan_of_job_a() -> Vec<Vec<u32>> {
     vec![
-        vec![1, 2, 0, 9, 7, 2, 0],
+        vec![1, 2, 0, 1, 2, 0],
+        vec![10, 0, 9, 7, 1],
         vec![2, 1, 5, 4, 2, 0],
         vec![2, 2, 3, 3, 3, 0],
         vec![3, 0, 1, 2, 9, 7, 1, 0],
@@ -207,7 +219,7 @@ fn damaged_plates_differ_in_each_number_alone_and_lie_beside_8_and_9() {
             wrapped += usize::from(shown.any(|shown| (65_537..65_546).contains(shown)));
             greatest += usize::from(line[4..7].contains(&999_999_999));
         }
-        let text = text_of(&mut random, lines, 2, 0);
+        let text = text_of(&mut random, lines, 4, 0);
         met.extend(refusal_in(&Text::Saw.answer(&text)));
     }
     let found = [width, height, stage, wrapped, greatest];
@@ -281,7 +293,7 @@ fn damaged_words_differ() {
 
 #[test]
 fn no_line_of_the_longest_texts_is_refused_and_the_next_one_is() {
-    for (kind, length) in Text::BOTH.into_iter().zip([7_299_900, 8_199_873]) {
+    for (kind, length) in Text::BOTH.into_iter().zip([7_299_864, 9_099_792]) {
         let mut text = longest(kind);
         assert_eq!(text.len(), length);
         let refusal = refusal_in(&kind.answer(&text)).expect("the lines are all the same");
@@ -306,12 +318,12 @@ fn the_last_of_99_999_lines_decides_where_it_shows_another_plate_or_names_no_cut
         assert_eq!(text.iter().filter(|&&byte| byte == b'\n').count(), 99_999);
         String::from_utf8(Text::Saw.answer(&text)).unwrap()
     };
-    // The types' lines come first: line 4 is the second of kind 3, or line 43.
+    // The job's lines come first: line 5 is the second of kind 3, or line 44.
     for (name, refused) in [
-        ("99,999 lines", [9, 9, 4]),
+        ("99,999 lines", [9, 9, 5]),
         ("line 99,999 shows another plate", [9, 20, 99_999]),
         ("line 99,999 names no cut", [9, 8, 99_999]),
-        ("99,999 lines, 40", [9, 9, 43]),
+        ("99,999 lines, 40", [9, 9, 44]),
     ] {
         let expected: String = refused
             .iter()
@@ -328,7 +340,7 @@ fn lengths_are_reached_by_some_offcuts_and_some_are_outside_their_limits() {
     let mut outside = BTreeSet::new();
     for _ in 0..1_000 {
         let model = Model::random(&mut random);
-        let board = [model.job.width, model.job.height];
+        let board = model.first_sides();
         let lengths = Lengths::from_words(valid_lengths(&mut random, board)).unwrap();
         let plan = random_plan(&mut random, &model);
         for offcut in unfold(&model.job, &model.listing, &plan).offcuts {

@@ -3,6 +3,13 @@
 use crate::columns::numbers;
 use crate::job::Job;
 
+/// A board that the saw opened: its size and its items.
+#[derive(Debug, Clone, PartialEq, Eq, Hash)]
+pub struct Board {
+    pub size: usize,
+    pub placements: Vec<Placement>,
+}
+
 /// An item placed by the saw.
 #[derive(Debug, Clone, Copy, PartialEq, Eq, Hash)]
 pub struct Placement {
@@ -15,13 +22,14 @@ pub struct Placement {
     pub y: usize,
 }
 
-/// The placements of each board, and what line 8 says.
+/// The boards, and what line 8 says.
 #[derive(Debug, Clone, PartialEq, Eq)]
 pub struct Answer {
-    pub boards: Vec<Vec<Placement>>,
+    pub boards: Vec<Board>,
+    pub cost: usize,
     pub sum: usize,
     pub denominator: usize,
-    pub fewest: bool,
+    pub cheapest: bool,
 }
 
 impl Answer {
@@ -29,9 +37,10 @@ impl Answer {
     pub fn read(text: &str, job: &Job) -> Result<Answer, String> {
         let mut answer = Answer {
             boards: Vec::new(),
+            cost: 0,
             sum: 0,
             denominator: 1,
-            fewest: false,
+            cheapest: false,
         };
         let mut ended = false;
         for (number, line) in (1..).zip(text.lines()) {
@@ -57,7 +66,7 @@ impl Answer {
     /// Takes in a line of kind 7 or 8.
     fn take(&mut self, job: &Job, numbers: &[usize]) -> Result<(), String> {
         match *numbers {
-            [7, board, strip, stack, place, item, x, y, turn @ (0 | 1)] => {
+            [7, board, size, strip, stack, place, item, x, y, turn @ (0 | 1)] => {
                 let at = Placement {
                     strip,
                     stack,
@@ -67,35 +76,54 @@ impl Answer {
                     x,
                     y,
                 };
-                self.place(job, board, at)
+                self.place(job, [board, size], at)
             }
-            [8, _, sum, denominator, fewest] => {
-                (self.sum, self.denominator, self.fewest) = (sum, denominator, fewest == 1);
-                Ok(())
+            [8, cost, sum, denominator, cheapest] => {
+                (self.sum, self.denominator, self.cheapest) = (sum, denominator, cheapest == 1);
+                self.cost = cost;
+                match cost == self.cost_of_boards(job) {
+                    true => Ok(()),
+                    false => Err(format!(
+                        "gives a cost of {cost}, but its boards cost {}: is it the output for another job?",
+                        self.cost_of_boards(job)
+                    )),
+                }
             }
             _ => Err("is of no kind that the saw writes".into()),
         }
     }
 
     /// Adds a placement to its board, the last one or the next.
-    fn place(&mut self, job: &Job, board: usize, placement: Placement) -> Result<(), String> {
+    fn place(
+        &mut self,
+        job: &Job,
+        [board, size]: [usize; 2],
+        placement: Placement,
+    ) -> Result<(), String> {
         if board == self.boards.len() + 1 {
-            self.boards.push(Vec::new());
+            self.boards.push(Board {
+                size,
+                placements: Vec::new(),
+            });
         }
         if board == 0 || board != self.boards.len() {
             return Err(format!(
                 "names board {board}, neither the last one nor the next"
             ));
         }
-        let known = (1..=job.items.len()).contains(&placement.item);
+        let last = &mut self.boards[board - 1];
+        let known = (1..=job.items.len()).contains(&placement.item)
+            && size < job.sizes.len()
+            && last.size == size;
         let fits = known && {
+            let on = job.sizes[size];
             let item = job.item(placement.item);
             let [width, height] = item.sides(placement.turned);
             let may_lie = !placement.turned || item.turns();
-            may_lie && placement.x + width <= job.width && placement.y + height <= job.height
+            may_lie && placement.x + width <= on.width && placement.y + height <= on.height
         };
         match fits {
-            true => self.boards[board - 1].push(placement),
+            true => last.placements.push(placement),
             false => {
                 return Err(
                     "places an item that this job has not: is it the output for another job?"
@@ -106,21 +134,40 @@ impl Answer {
         Ok(())
     }
 
+    /// All items placed.
+    fn placements(&self) -> impl Iterator<Item = &Placement> {
+        self.boards.iter().flat_map(|board| &board.placements)
+    }
+
+    /// What the boards cost together.
+    fn cost_of_boards(&self, job: &Job) -> usize {
+        let cost = |board: &Board| job.sizes[board.size].cost;
+        self.boards.iter().map(cost).sum()
+    }
+
+    /// How many boards are of a size.
+    pub fn boards_of(&self, size: usize) -> usize {
+        self.boards
+            .iter()
+            .filter(|board| board.size == size)
+            .count()
+    }
+
     /// The number of items placed.
     pub fn pieces(&self) -> usize {
-        self.boards.iter().map(Vec::len).sum()
+        self.placements().count()
     }
 
     /// How often an item type lies turned on the boards.
     pub fn turned_of(&self, item_type: usize) -> usize {
         let turned = |placement: &&Placement| placement.item == item_type && placement.turned;
-        self.boards.iter().flatten().filter(turned).count()
+        self.placements().filter(turned).count()
     }
 
     /// How often an item type lies on the boards.
     pub fn pieces_of(&self, item_type: usize) -> usize {
         let of_type = |placement: &&Placement| placement.item == item_type;
-        self.boards.iter().flatten().filter(of_type).count()
+        self.placements().filter(of_type).count()
     }
 }
 
@@ -146,9 +193,10 @@ pub fn refusal(text: &str) -> Result<[usize; 2], String> {
 #[cfg(test)]
 mod tests {
     use super::*;
-    use crate::job::tests::job_a;
+    use crate::job::tests::{job_a, two_sizes};
 
-    const OUTPUT: &str = "7 1 1 1 1 1 0 0 0\n7 1 1 2 1 2 5 0 0\n7 2 1 1 1 1 0 0 0\n8 2 2 1 1\n";
+    const OUTPUT: &str =
+        "7 1 0 1 1 1 1 0 0 0\n7 1 0 1 2 1 2 5 0 0\n7 2 0 1 1 1 1 0 0 0\n8 2 2 1 1\n";
 
     #[test]
     fn an_answer_is_read() {
@@ -158,8 +206,14 @@ mod tests {
             (2, 3, 2)
         );
         assert_eq!(
-            (answer.sum, answer.denominator, answer.fewest),
-            (2, 1, true)
+            (answer.cost, answer.sum, answer.denominator, answer.cheapest),
+            (2, 2, 1, true)
+        );
+        let output = "7 1 0 1 1 1 1 0 0 0\n7 2 1 1 1 1 2 0 0 0\n8 4 0 1 0\n";
+        let answer = Answer::read(output, &two_sizes()).unwrap();
+        assert_eq!(
+            (answer.cost, answer.boards_of(0), answer.boards_of(1)),
+            (4, 1, 1)
         );
     }
 
@@ -167,17 +221,22 @@ mod tests {
     fn every_fault_is_told() {
         for (text, told) in [
             ("", "not whole"),
-            ("7 1 1 1 1 1 0 0 0\n", "not whole"),
+            ("7 1 0 1 1 1 1 0 0 0\n", "not whole"),
             ("9 12 2\n", "refused the text with 12, place 2"),
-            ("7 2 1 1 1 1 0 0 0\n", "neither the last one nor the next"),
-            ("7 0 1 1 1 1 0 0 0\n", "neither the last one nor the next"),
-            ("7 1 1 1 1 1 5 0 0\n", "another job"),
-            ("7 1 1 1 1 3 0 0 0\n", "another job"),
-            ("7 1 1 1 1 1 0 0 1\n", "another job"),
-            ("7 1 1 1 1 1 0 0\n", "of no kind"),
+            ("7 2 0 1 1 1 1 0 0 0\n", "neither the last one nor the next"),
+            ("7 0 0 1 1 1 1 0 0 0\n", "neither the last one nor the next"),
+            ("7 1 0 1 1 1 1 5 0 0\n", "another job"),
+            ("7 1 0 1 1 1 3 0 0 0\n", "another job"),
+            ("7 1 1 1 1 1 1 0 0 0\n", "another job"),
+            ("7 1 0 1 1 1 1 0 0 1\n", "another job"),
+            (
+                "7 1 0 1 1 1 1 0 0 0\n8 2 0 1 0\n",
+                "a cost of 2, but its boards cost 1",
+            ),
+            ("7 1 1 1 1 1 0 0 0\n", "of no kind"),
             ("3 1 1\n", "of no kind"),
             ("hello\n", "not a line of numbers"),
-            ("8 1 0 1 0\n8 1 0 1 0\n", "follows"),
+            ("8 0 0 1 0\n8 0 0 1 0\n", "follows"),
         ] {
             let fault = Answer::read(text, &job_a()).unwrap_err();
             assert!(fault.contains(told), "{text}: {fault}");

@@ -15,8 +15,9 @@ office: from a job to a plan for the beam saw, and from the saw's answer to draw
   office explain TEXT NUMBER PLACE  the same, from the two numbers at the panel
   office --help                     this page; office COMMAND --help says more of a command
 
-Files are texts as docs/FORMAT.md says; - stands for standard input. JOB is lines 1 and 2, the last
-number of line 1 being the width of the blade, and any text that begins with them serves. Results go to standard output, but for the drawings.
+Files are texts as docs/FORMAT.md says; - stands for standard input. JOB is lines 1, 10 and
+2: line 1 ends with the width of the blade, a line 10 is a board size with its cost; any text that begins
+with them serves. Results go to standard output, but for the drawings.
 ";
 
 /// The use of one command, if there is such a command.
@@ -35,8 +36,10 @@ const MODEL: &str = "\
 office model JOB
 
 Writes the one-cut model of a job in CPLEX LP format, which GLPK, CBC, HiGHS, SCIP, Gurobi and CPLEX
-read. Column x_P_I_T counts the cut of item type I from plate type P, turned if T is 1; rows are item_I,
-plate_P, pieces. Comments list the plate types: number, width, height, stage.
+read. Column size_J counts the boards of size J, column x_P_I_T the cut of item type I from plate type P,
+turned if T is 1; rows are item_I, boards_J, plate_P, pieces; the objective is the cost of the boards.
+Comments list the plate types: number, width, height, stage, and of the board sizes, which come first,
+the cost.
 
   office model job.txt > job.lp
   glpsol --lp job.lp -o job.sol          or: cbc job.lp solve solution job.sol
@@ -63,14 +66,16 @@ it is the relaxation's:
   cbc job.lp initialSolve printingOptions all solution dual.sol
   office prices plan.txt dual.sol > priced.txt
 
-Without SOLUTION each item's price is its share of the board's area, sides taken with the blade. Price lines of TEXT are replaced.
+Without SOLUTION each item's price is its share, by area, of the cost of the size that gives most area for
+its cost, sides taken with the blade or, where that bound is higher, without it. Price lines of TEXT are
+replaced.
 ";
 
 const DRAW: &str = "\
 office draw JOB OUTPUT FOLDER [FIRST SECOND]
 
-Draws the saw's output: board-1.svg, board-2.svg and so on, and boards.html with all of them. An
-earlier drawing in FOLDER is replaced. Each board, and the job, is given its yield, offcuts, waste and
+Draws the saw's output: board-1.svg, board-2.svg and so on, all to one scale, and boards.html with all of
+them and a table of the board sizes. An earlier drawing in FOLDER is replaced. Each board, and the job, is given its yield, offcuts, waste and
 swath in per cent. The swath, which the blade takes between pieces, is drawn to scale as brown bands.
 Offcuts are shaded; those whose width is at least FIRST and whose height is at least
 SECOND (each 1 to 10,000; 1 and 1 if not given, so that all are) are usable: they are drawn darker and

@@ -1,7 +1,7 @@
 //! The listing: plate types and cuts of a job, numbered by the reference's walk (docs/FORMAT.md,
 //! "Plate types and cuts").
 
-use crate::job::{Item, Job};
+use crate::job::{Item, Job, Size};
 use reference::listing::FULL;
 use reference::refusal::TOO_MANY_CUTS;
 use reference::{Mode, Refusal};
@@ -25,11 +25,14 @@ pub struct Cut {
     pub right: Option<usize>,
 }
 
-/// Plate types from 0 and cuts from 1; cut c stands at place c - 1.
+/// Plate types from 0, of which the first are the job's sizes, and cuts from 1; cut c stands at place
+/// c - 1.
 #[derive(Debug, Clone, PartialEq, Eq)]
 pub struct Listing {
     pub plates: Vec<Plate>,
     pub cuts: Vec<Cut>,
+    /// How many of the plate types are sizes.
+    pub sizes: usize,
 }
 
 impl Plate {
@@ -80,12 +83,18 @@ impl Listing {
         Ok(Listing {
             plates: walked.plates.into_iter().map(Plate::from).collect(),
             cuts: walked.cuts.into_iter().map(Cut::from).collect(),
+            sizes: walked.sizes,
         })
     }
 
-    /// The number of residual types: plate types without type 0.
+    /// The number of residual types: plate types without the sizes.
     pub fn residual_types(&self) -> usize {
-        self.plates.len() - 1
+        self.plates.len() - self.sizes
+    }
+
+    /// The numbers of the residual types, from the number of sizes on.
+    pub fn residuals(&self) -> std::ops::Range<usize> {
+        self.sizes..self.plates.len()
     }
 
     /// The cut of this item type and turn from this plate type, from 1, if there is one.
@@ -104,11 +113,15 @@ pub fn to_walk(job: &Job) -> reference::Job {
         demand: word(item.demand),
         leave: item.leave,
     };
+    let size = |size: &Size| reference::Size {
+        width: word(size.width),
+        height: word(size.height),
+        cost: word(size.cost),
+    };
     let mode = Mode::from_numbers(word(job.stages).into(), job.exact.into());
     reference::Job {
         mode: mode.expect("a job has two or three stages"),
-        width: word(job.width),
-        height: word(job.height),
+        sizes: job.sizes.iter().map(size).collect(),
         blade: word(job.blade),
         items: job.items.iter().map(item).collect(),
     }
@@ -135,7 +148,7 @@ pub fn too_large(refusal: Refusal) -> String {
 #[cfg(test)]
 mod tests {
     use super::*;
-    use crate::job::tests::{example, job, job_a, job_with_blade, job_with_leave};
+    use crate::job::tests::{example, job, job_a, job_with_blade, job_with_leave, two_sizes};
 
     fn sizes(job: &Job) -> (usize, usize) {
         let listing = Listing::of(job).unwrap();
@@ -149,6 +162,8 @@ mod tests {
         assert_eq!(sizes(&job("2E", [9, 7], &[[5, 4, 2], [3, 3, 3]])), (4, 7));
         assert_eq!(sizes(&job("3N", [5, 5], &[[3, 5, 1], [2, 2, 2]])), (4, 6));
         assert_eq!(sizes(&job("2N", [9, 7], &[[9, 7, 1]])), (0, 1));
+        assert_eq!(sizes(&two_sizes()), (5, 9));
+        assert_eq!(Listing::of(&two_sizes()).unwrap().residuals(), 2..7);
     }
 
     #[test]

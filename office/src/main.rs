@@ -123,7 +123,11 @@ fn write_plan(path: &str, solution: &str) -> Result<String, String> {
     let solution_of = solved(solution, &job, &listing)?;
     let counts = plan::counts(&listing, &solution_of).map_err(in_file(solution))?;
     plan::accepted(&job, &listing, &counts).map_err(in_file(solution))?;
-    eprintln!("office: {} board(s)", plan::boards(&listing, &counts));
+    eprintln!(
+        "office: {} board(s) at a cost of {}",
+        plan::boards(&listing, &counts),
+        plan::cost(&job, &listing, &counts)
+    );
     Ok(job.text() + &plan::lines(&listing, &counts))
 }
 
@@ -132,20 +136,20 @@ fn write_prices(path: &str, solution: Option<&str>) -> Result<String, String> {
     let (job, listing) = listed(path, &sent)?;
     let counts = plan::of_text(&sent, &job, &listing).map_err(in_file(path))?;
     plan::accepted(&job, &listing, &counts).map_err(in_file(path))?;
-    let duals = match solution {
+    let prices = match solution {
         Some(file) => {
             let solution = solved(file, &job, &listing)?;
-            prices::duals(&job, &solution).map_err(in_file(file))?
+            let duals = prices::duals(&job, &solution).map_err(in_file(file))?;
+            prices::scaled(&job, &listing, &duals)
         }
-        None => prices::areas(&job),
+        None => prices::by_area(&job, &listing),
     };
-    let prices = prices::scaled(&job, &listing, &duals);
     let [sum, denominator] = [prices.sum(&job), prices.denominator];
     eprintln!(
-        "office: at least {} board(s), by {sum}/{denominator}",
+        "office: a cost of at least {}, by {sum}/{denominator}",
         sum.div_ceil(denominator)
     );
-    Ok(job.text() + &plan::lines(&listing, &counts) + &prices.lines())
+    Ok(job.text() + &plan::lines(&listing, &counts) + &prices.lines(listing.sizes))
 }
 
 fn draw(path: &str, output: &str, folder: &str, lengths: [usize; 2]) -> Result<String, String> {

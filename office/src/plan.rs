@@ -46,7 +46,7 @@ pub fn accepted(job: &Job, listing: &Listing, counts: &[usize]) -> Result<(), St
             ));
         }
     }
-    for plate in 1..listing.plates.len() {
+    for plate in listing.residuals() {
         let [on, arises] = balance(listing, counts, plate);
         if on > arises {
             return Err(format!(
@@ -83,7 +83,7 @@ pub fn balance(listing: &Listing, counts: &[usize], plate: usize) -> [usize; 2] 
 /// The counts that the lines of kind 3 of a saw text give; other lines after the job are left alone.
 pub fn of_text(text: &str, job: &Job, listing: &Listing) -> Result<Vec<usize>, String> {
     let mut counts = vec![0; listing.cuts.len()];
-    for (number, line) in (1..).zip(text.lines()).skip(1 + job.items.len()) {
+    for (number, line) in (1..).zip(text.lines()).skip(job.lines()) {
         let all = numbers(line).ok_or(format!(
             "line {number}: something in it is not a whole number"
         ))?;
@@ -127,9 +127,23 @@ pub fn other_shown(plate: &Plate, shown: [usize; 3]) -> Option<String> {
     (!others.is_empty()).then(|| others.join(", "))
 }
 
+/// The boards of a size that a plan opens.
+fn boards_of(listing: &Listing, counts: &[usize], size: usize) -> usize {
+    balance(listing, counts, size)[0]
+}
+
 /// The boards that a plan opens.
 pub fn boards(listing: &Listing, counts: &[usize]) -> usize {
-    balance(listing, counts, 0)[0]
+    let sizes = 0..listing.sizes;
+    sizes.map(|size| boards_of(listing, counts, size)).sum()
+}
+
+/// What the boards that a plan opens cost.
+pub fn cost(job: &Job, listing: &Listing, counts: &[usize]) -> usize {
+    let sizes = job.sizes.iter().enumerate();
+    sizes
+        .map(|(number, size)| size.cost * boards_of(listing, counts, number))
+        .sum()
 }
 
 /// The lines of kind 3 of a plan, cuts rising; a cut that counts 0 has none. Each shows its plate's
@@ -155,7 +169,7 @@ pub fn lines(listing: &Listing, counts: &[usize]) -> String {
 #[cfg(test)]
 mod tests {
     use super::*;
-    use crate::job::tests::{job_a, job_with_leave};
+    use crate::job::tests::{job_a, job_with_leave, two_sizes};
 
     /// Job A's plan.
     const PLAN: [usize; 8] = [2, 0, 1, 1, 0, 0, 1, 0];
@@ -201,6 +215,19 @@ mod tests {
     }
 
     #[test]
+    fn a_plan_on_two_sizes_has_its_cost_and_a_residual_like_a_size_needs_supply() {
+        let job = two_sizes();
+        let listing = Listing::of(&job).unwrap();
+        let counts = [2, 0, 1, 0, 2, 0, 0, 0, 0];
+        assert_eq!(accepted(&job, &listing, &counts), Ok(()));
+        assert_eq!(boards(&listing, &counts), 3);
+        assert_eq!(cost(&job, &listing, &counts), 7);
+        let counts = [2, 0, 0, 3, 0, 0, 0, 0, 0];
+        let fault = accepted(&job, &listing, &counts).unwrap_err();
+        assert!(fault.contains("plate type 2 (9 by 3, stage 1) is cut 3 times"));
+    }
+
+    #[test]
     fn what_is_shown_otherwise_is_told() {
         let plate = Listing::of(&job_a()).unwrap().plates[4];
         assert_eq!(other_shown(&plate, [6, 3, 2]), None);
@@ -229,21 +256,22 @@ mod tests {
         let counts = counts(&listing, &solution).unwrap();
         assert_eq!(counts, PLAN);
         assert_eq!(boards(&listing, &counts), 2);
+        assert_eq!(cost(&job_a(), &listing, &counts), 2);
         let text = job_a().text() + &lines(&listing, &counts);
-        assert_eq!(text.lines().count(), 7);
+        assert_eq!(text.lines().count(), 8);
         assert_eq!(of_text(&text, &job_a(), &listing), Ok(counts));
         for (line, told) in [
             (
                 "3 1 1 1 9 3 1 0\n",
-                "line 8: item type 1 cannot be cut from plate type 1",
+                "line 9: item type 1 cannot be cut from plate type 1",
             ),
             (
                 "3 5 2 1 3 65539 2 0\n",
-                "line 8: plate type 5 is 3 by 3, stage 2; the line shows height 65,539 for 3",
+                "line 9: plate type 5 is 3 by 3, stage 2; the line shows height 65,539 for 3",
             ),
             (
                 "3 5 2 1 0\n",
-                "line 8: must be: 3, plate, item, count, width",
+                "line 9: must be: 3, plate, item, count, width",
             ),
         ] {
             let fault = of_text(&(text.clone() + line), &job_a(), &listing).unwrap_err();

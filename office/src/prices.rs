@@ -1,18 +1,21 @@
 //! Prices: whole-number prices from a solver's dual prices, accepted by the saw whatever they are.
 //!
 //! The saw accepts prices exactly when, for each cut, the item's price plus the prices of its kept
-//! residuals is at most the price of the plate cut, D taking the place of type 0's price. Given any
-//! item prices, the cuts force the rest: a plate's price must reach the dearest of its cuts, and the
-//! greatest of these is all that it needs. Residuals have less area than their plate, so going
-//! through the plate types by rising area finds each price after those it rests on, and type 0's is
-//! the least D that the saw accepts. No residual's price is above it, since each arises from type 0.
+//! residuals is at most the price of the plate cut, D times its cost taking the place of a size's
+//! price. Given any item prices, the cuts force the rest: a plate's price must reach the dearest of its
+//! cuts, and the greatest of these is all that it needs. Residuals have less area than their plate, so
+//! going through the plate types by rising area finds each price after those it rests on, and what a
+//! size needs over its cost, rounded up, is the least D for that size; the greatest of these is the
+//! least D that the saw accepts.
 //!
-//! So for each scale from 1 to 9,999 the dual prices times the scale are rounded to whole numbers,
-//! the rest is computed from them without rounding, and of all scales with D at most 9,999 the one
-//! with the highest bound is taken, then the one with the lowest D.
+//! So for each scale from 1 to 9,999 the dual prices times the scale are rounded to whole numbers, once to
+//! the nearest and once down, the rest is computed from them without rounding, and of all prices with
+//! D and every one of them at most 9,999 those with the highest bound are taken, then those with the
+//! lowest D. Rounding down never asks for more than the scale times the dual prices do; where a size is dear
+//! D is low, and one price rounded up can raise it by a whole step.
 
 use crate::columns::line;
-use crate::job::Job;
+use crate::job::{fits_size, Job, Size};
 use crate::listing::Listing;
 use crate::solution::Solution;
 
@@ -48,20 +51,38 @@ pub fn duals(job: &Job, solution: &Solution) -> Result<Vec<f64>, String> {
     }
 }
 
-/// Each item type's share of the board's area, which serves as its price where no solution is given.
-/// All sides are taken with the blade, the board's too, at whose edges no blade is needed.
-pub fn areas(job: &Job) -> Vec<f64> {
-    let area = |width, height| ((width + job.blade) * (height + job.blade)) as f64;
-    let board = area(job.width, job.height);
+/// The best prices by area, which serve where no solution is given: all sides taken with the blade, the
+/// boards' too, at whose edges no blade is needed, or as they are. With one size the first bound is the
+/// higher one; of several sizes the one with most area for its cost may be another with the blade.
+pub fn by_area(job: &Job, listing: &Listing) -> Prices {
+    let with_blade = scaled(job, listing, &areas(job, job.blade));
+    if job.blade == 0 || job.sizes.len() == 1 {
+        return with_blade;
+    }
+    let without = scaled(job, listing, &areas(job, 0));
+    match without.is_better_than(&with_blade, job) {
+        true => without,
+        false => with_blade,
+    }
+}
+
+/// Each item type's share of a board's cost by area, sides taken with a blade: of the size that gives
+/// most area for its cost, among those from which an item can be cut.
+pub fn areas(job: &Job, blade: usize) -> Vec<f64> {
+    let area = |width, height| ((width + blade) * (height + blade)) as f64;
+    let is_cut = |size: &&Size| job.items.iter().any(|item| fits_size(item, size));
+    let cost = |size: &Size| size.cost as f64 / area(size.width, size.height);
+    let least = job.sizes.iter().filter(is_cut).map(cost);
+    let least = least.fold(f64::INFINITY, f64::min);
     job.items
         .iter()
-        .map(|item| area(item.width, item.height) / board)
+        .map(|item| area(item.width, item.height) * least)
         .collect()
 }
 
 /// The best prices that come of these dual prices.
 pub fn scaled(job: &Job, listing: &Listing, duals: &[f64]) -> Prices {
-    let order = by_area(listing);
+    let order = by_rising_area(listing);
     let least = Prices {
         denominator: 1,
         items: vec![0; duals.len()],
@@ -69,28 +90,28 @@ pub fn scaled(job: &Job, listing: &Listing, duals: &[f64]) -> Prices {
     };
     let mut best = least;
     for scale in 1..=MOST_PRICE {
-        let items: Vec<usize> = duals
-            .iter()
-            .map(|dual| (dual * scale as f64).round() as usize)
-            .collect();
-        let prices = forced(listing, &order, items);
-        let fits = (1..=MOST_PRICE).contains(&prices.denominator);
-        if fits && prices.bound_above(&best, job) {
-            best = prices;
+        for rounded in [f64::round, f64::floor] {
+            let whole = |dual: &f64| rounded(dual * scale as f64) as usize;
+            let items = duals.iter().map(whole).collect();
+            let prices = forced(job, listing, &order, items);
+            let fits = prices.within_limits();
+            if fits && prices.is_better_than(&best, job) {
+                best = prices;
+            }
         }
     }
     best
 }
 
 /// Plate types by rising area.
-fn by_area(listing: &Listing) -> Vec<usize> {
+fn by_rising_area(listing: &Listing) -> Vec<usize> {
     let mut order: Vec<usize> = (0..listing.plates.len()).collect();
     order.sort_by_key(|&plate| listing.plates[plate].width * listing.plates[plate].height);
     order
 }
 
 /// The residual prices and the D that the cuts force, for these item prices.
-fn forced(listing: &Listing, order: &[usize], items: Vec<usize>) -> Prices {
+fn forced(job: &Job, listing: &Listing, order: &[usize], items: Vec<usize>) -> Prices {
     let mut plates = vec![0; listing.plates.len()];
     for &plate in order {
         let first = listing.cuts.partition_point(|cut| cut.plate < plate);
@@ -101,11 +122,13 @@ fn forced(listing: &Listing, order: &[usize], items: Vec<usize>) -> Prices {
             .map(|cut| items[cut.item - 1] + cut.kept().map(|kept| plates[kept]).sum::<usize>());
         plates[plate] = worth.max().unwrap_or(0);
     }
-    let denominator = plates.remove(0);
+    let residuals = plates.split_off(listing.sizes);
+    let boards = job.sizes.iter().zip(&plates);
+    let least = boards.map(|(size, worth)| worth.div_ceil(size.cost));
     Prices {
-        denominator,
+        denominator: least.max().unwrap_or(0),
         items,
-        residuals: plates,
+        residuals,
     }
 }
 
@@ -119,16 +142,27 @@ impl Prices {
             .sum()
     }
 
-    /// Whether these prices give a higher bound than others.
-    fn bound_above(&self, others: &Prices, job: &Job) -> bool {
-        self.sum(job) * others.denominator > others.sum(job) * self.denominator
+    /// Whether D and every price are within their limits.
+    fn within_limits(&self) -> bool {
+        let all = self.items.iter().chain(&self.residuals);
+        self.denominator >= 1
+            && all
+                .chain([&self.denominator])
+                .all(|&price| price <= MOST_PRICE)
     }
 
-    /// The prices as lines of kinds 4, 5 and 6.
-    pub fn lines(&self) -> String {
+    /// Whether these prices give a higher bound than others, or the same with a lower D.
+    fn is_better_than(&self, others: &Prices, job: &Job) -> bool {
+        let own = self.sum(job) * others.denominator;
+        let other = others.sum(job) * self.denominator;
+        own > other || (own == other && self.denominator < others.denominator)
+    }
+
+    /// The prices as lines of kinds 4, 5 and 6; residual types are numbered after so many sizes.
+    pub fn lines(&self, sizes: usize) -> String {
         let mut text = line(&[4, self.denominator, self.items.len(), self.residuals.len()]);
-        for (kind, prices) in [(5, &self.items), (6, &self.residuals)] {
-            for (number, &price) in (1..).zip(prices) {
+        for (kind, first, prices) in [(5, 1, &self.items), (6, sizes, &self.residuals)] {
+            for (number, &price) in (first..).zip(prices) {
                 text.push_str(&line(&[kind, number, price]));
             }
         }
@@ -139,7 +173,7 @@ impl Prices {
 #[cfg(test)]
 mod tests {
     use super::*;
-    use crate::job::tests::{example, job, job_a, job_with_blade};
+    use crate::job::tests::{example, job, job_a, job_on, job_with_blade, two_sizes};
 
     fn scaled_for(job: &Job, duals: &[f64]) -> Prices {
         scaled(job, &Listing::of(job).unwrap(), duals)
@@ -169,9 +203,66 @@ mod tests {
     fn prices_by_area_count_the_blade() {
         // Two items of 5 by 4 and the blade of 1 fill a strip of 11; without it, 10 would do.
         let job = job_with_blade("2N", [11, 4], 1, &[[5, 4, 6]]);
-        assert_eq!(areas(&job), [0.5]);
-        let prices = scaled_for(&job, &areas(&job));
+        assert_eq!(areas(&job, job.blade), [0.5]);
+        let prices = by_area(&job, &Listing::of(&job).unwrap());
         assert_eq!((prices.sum(&job), prices.denominator), (6, 2));
+    }
+
+    #[test]
+    fn prices_by_area_are_taken_with_the_blade_or_without_it() {
+        // With the blade the small size gives most area for its cost, and the large item is hardly worth a
+        // seventh of its board; without it that size is the better one by little.
+        let sizes = [[100, 100, 999], [10, 10, 9]];
+        let items = [[100, 100, 1], [10, 10, 1]];
+        let job = Job {
+            blade: 20,
+            ..job_on("2N", &sizes, &items)
+        };
+        assert_eq!(areas(&job, 20), [144.0, 9.0]);
+        assert_eq!(areas(&job, 0), [900.0, 9.0]);
+        let prices = by_area(&job, &Listing::of(&job).unwrap());
+        assert_eq!((prices.sum(&job), prices.denominator), (909, 1));
+    }
+
+    #[test]
+    fn a_size_may_be_priced_up_to_d_times_its_cost() {
+        // Item 1 alone has a price; it can be cut from the first size and from the residual of 9 by 4.
+        let prices = scaled_for(&two_sizes(), &[3.0, 0.0]);
+        let expected = Prices {
+            denominator: 1,
+            items: vec![3, 0],
+            residuals: vec![0, 0, 3, 0, 0],
+        };
+        assert_eq!(prices, expected);
+        assert!(prices.lines(2).contains("        6        2        0\n"));
+        // A dear size: prices reach their limit before D does.
+        let dear = job_on("2N", &[[9, 7, 999]], &[[9, 7, 2]]);
+        let prices = scaled_for(&dear, &[999.0]);
+        assert_eq!((prices.sum(&dear), prices.denominator), (1998, 1));
+    }
+
+    #[test]
+    fn prices_on_a_dear_size_are_rounded_down_where_rounding_up_costs_more() {
+        // D is low on a size of 999, since residual prices end at 9,999, and one price rounded up can
+        // raise it by a whole step. The area asks for a cost of 75,924.
+        let demands = [39, 7, 33, 47, 13, 30, 53, 50];
+        let items: Vec<[usize; 3]> = (3..).zip(demands).map(|(w, d)| [w, 1, d]).collect();
+        let dear = job_on("2N", &[[25, 1, 999]], &items);
+        let prices = scaled_for(&dear, &areas(&dear, 0));
+        let bound = (prices.sum(&dear), prices.denominator);
+        assert_eq!(bound, (759_130, 10));
+    }
+
+    #[test]
+    fn prices_by_area_are_those_of_the_size_with_most_area_for_its_cost() {
+        let job = job_on(
+            "2N",
+            &[[10, 10, 10], [10, 1, 1], [1, 1, 1]],
+            &[[5, 2, 1], [10, 1, 1]],
+        );
+        assert_eq!(areas(&job, 0), [1.0, 1.0]);
+        let job = job_on("2N", &[[10, 10, 50], [20, 10, 50]], &[[5, 2, 1]]);
+        assert_eq!(areas(&job, 0), [2.5]);
     }
 
     #[test]

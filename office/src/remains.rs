@@ -7,6 +7,7 @@ use crate::job::{Job, MOST_SIDE};
 use crate::listing::{to_walk, too_large};
 use reference::balance::of_boards;
 use reference::folding::fold;
+use reference::layout::PLACEMENT_NUMBERS;
 use reference::layout_lines::test;
 use reference::listing::FULL;
 use reference::unfolding::{unfold, Unfolding};
@@ -58,7 +59,7 @@ impl Remains {
     pub fn of(job: &Job, answer: &Answer, lengths: [usize; 2]) -> Result<Remains, String> {
         let walked = to_walk(job);
         let listing = Listing::walk(&walked, FULL).map_err(too_large)?;
-        let lines = lines(job, answer).ok_or_else(not_laid_so)?;
+        let lines = lines(&walked, answer).ok_or_else(not_laid_so)?;
         let set = test(&walked, &lines, 1).map_err(|_| not_laid_so())?;
         let counts = fold(&walked, &listing, &set);
         let unfolding = unfold(&walked, &listing, &counts);
@@ -110,8 +111,8 @@ pub fn lengths(words: [&str; 2]) -> Result<[usize; 2], String> {
 }
 
 /// The lines of the answer, if each number is within its limits.
-fn lines(job: &Job, answer: &Answer) -> Option<Vec<reference::Placement>> {
-    let line = |board: usize, placement: &Placement| {
+fn lines(job: &reference::Job, answer: &Answer) -> Option<Vec<reference::Placement>> {
+    let line = |[board, size]: [usize; 2], placement: &Placement| {
         let Placement {
             strip,
             stack,
@@ -121,18 +122,20 @@ fn lines(job: &Job, answer: &Answer) -> Option<Vec<reference::Placement>> {
             x,
             y,
         } = *placement;
-        let numbers = [board, strip, stack, place, item, x, y, turned.into()];
-        let mut words = [0; 8];
+        let numbers = [board, size, strip, stack, place, item, x, y, turned.into()];
+        let mut words = [0; PLACEMENT_NUMBERS];
         for (word, number) in words.iter_mut().zip(numbers) {
             *word = u32::try_from(number).ok()?;
         }
-        reference::Placement::from_numbers(words, job.items.len())
+        reference::Placement::from_numbers(words, job)
     };
     let boards = (1..).zip(&answer.boards);
-    let lines = boards.flat_map(|(board, placements)| {
-        placements
+    let lines = boards.flat_map(|(number, board)| {
+        let of_board = [number, board.size];
+        board
+            .placements
             .iter()
-            .map(move |placement| line(board, placement))
+            .map(move |placement| line(of_board, placement))
     });
     lines.collect()
 }
@@ -211,7 +214,7 @@ mod tests {
     use super::*;
     use crate::job::tests::{job, job_a, job_with_blade};
 
-    const OUTPUT: &str = "7 1 1 1 1 1 0 0 0\n7 1 1 2 1 2 5 0 0\n7 1 2 1 1 2 0 4 0\n7 1 2 2 1 2 3 4 0\n7 2 1 1 1 1 0 0 0\n8 2 2 1 1\n";
+    const OUTPUT: &str = "7 1 0 1 1 1 1 0 0 0\n7 1 0 1 2 1 2 5 0 0\n7 1 0 2 1 1 2 0 4 0\n7 1 0 2 2 1 2 3 4 0\n7 2 0 1 1 1 1 0 0 0\n8 2 2 1 1\n";
 
     fn remains(output: &str, lengths: [usize; 2]) -> Result<Remains, String> {
         Remains::of(&job_a(), &Answer::read(output, &job_a()).unwrap(), lengths)
@@ -248,7 +251,7 @@ mod tests {
     #[test]
     fn the_swath_of_a_strip_with_a_trim() {
         let job = job_with_blade("2N", [20, 10], 2, &[[8, 9, 1], [8, 6, 1]]);
-        let output = "7 1 1 1 1 1 0 0 0\n7 1 1 2 1 2 10 0 0\n8 1 0 1 0\n";
+        let output = "7 1 0 1 1 1 1 0 0 0\n7 1 0 1 2 1 2 10 0 0\n8 1 0 1 0\n";
         let answer = Answer::read(output, &job).unwrap();
         let found = Remains::of(&job, &answer, LEAST).unwrap();
         let [board] = &found.boards[..] else { panic!() };
@@ -266,12 +269,12 @@ mod tests {
 
     #[test]
     fn what_the_saw_does_not_write_is_told() {
-        let boards_swapped = "7 1 1 1 1 1 0 0 0\n7 2 1 1 1 1 0 0 0\n7 2 1 2 1 2 5 0 0\n7 2 2 1 1 2 0 4 0\n7 2 2 2 1 2 3 4 0\n8 2 2 1 1\n";
+        let boards_swapped = "7 1 0 1 1 1 1 0 0 0\n7 2 0 1 1 1 1 0 0 0\n7 2 0 1 2 1 2 5 0 0\n7 2 0 2 1 1 2 0 4 0\n7 2 0 2 2 1 2 3 4 0\n8 2 2 1 1\n";
         let outputs = [
-            OUTPUT.replace("7 1 2 2 1 2 3 4 0\n", ""),
-            OUTPUT.replace("7 1 2 2 1 2 3 4 0", "7 1 2 2 1 2 4 4 0"),
-            OUTPUT.replace("7 1 2 2 1 2 3 4 0", "7 1 2 3 1 2 3 4 0"),
-            OUTPUT.replace("7 1 2 2 1 2 3 4 0", "7 1 2 99999999999 1 2 3 4 0"),
+            OUTPUT.replace("7 1 0 2 2 1 2 3 4 0\n", ""),
+            OUTPUT.replace("7 1 0 2 2 1 2 3 4 0", "7 1 0 2 2 1 2 4 4 0"),
+            OUTPUT.replace("7 1 0 2 2 1 2 3 4 0", "7 1 0 2 3 1 2 3 4 0"),
+            OUTPUT.replace("7 1 0 2 2 1 2 3 4 0", "7 1 0 2 99999999999 1 2 3 4 0"),
             boards_swapped.to_string(),
         ];
         for output in outputs {

@@ -5,9 +5,9 @@ use std::path::{Path, PathBuf};
 use std::process::{Command, Output, Stdio};
 use std::{env, fs, process};
 
-const JOB: &str = "1 2 0 9 7 2 0\n2 1 5 4 2 0\n2 2 3 3 3 0\n";
-const SOLUTION: &str = "s mip 8 8 o 2\nj 1 2\nj 3 1\nj 4 1\nj 7 1\ne o f\n";
-const DUALS: &str = "s bas 8 8 f f 2\ni 1 l 2 1\ni 2 l 3 0\ne o f\n";
+const JOB: &str = "1 2 0 1 2 0\n10 0 9 7 1\n2 1 5 4 2 0\n2 2 3 3 3 0\n";
+const SOLUTION: &str = "s mip 9 9 o 2\nj 1 2\nj 2 2\nj 4 1\nj 5 1\nj 8 1\ne o f\n";
+const DUALS: &str = "s bas 9 9 f f 2\ni 1 l 2 1\ni 2 l 3 0\ne o f\n";
 
 /// A folder that is removed at the end.
 struct Folder(PathBuf);
@@ -127,7 +127,7 @@ fn a_refusal_is_explained() {
 fn a_plan_for_another_blade_is_found_out_by_its_plates() {
     let folder = Folder::new("other-blade");
     let text = good(&["plan", "-", &folder.file("solution.txt", SOLUTION)], JOB);
-    let plan: Vec<&str> = text.lines().skip(3).collect();
+    let plan: Vec<&str> = text.lines().skip(4).collect();
     let expected = [
         "        3        0        1        2        9        7        1        0",
         "        3        1        2        1        9        3        1        0",
@@ -142,12 +142,12 @@ fn a_plan_for_another_blade_is_found_out_by_its_plates() {
     let told = good(&["explain", &sent, &output], "");
     assert_eq!(
         told,
-        "Refusal 20, line 5: in the model plate type 1 is 3 by 4, stage 2; the line shows \
+        "Refusal 20, line 6: in the model plate type 1 is 3 by 4, stage 2; the line shows \
          width 9 for 3, height 3 for 4, stage 1 for 2. Number plate types as docs/FORMAT.md says: \
          what the line shows is plate type 2 there.\n"
     );
     let said = wrong(&["prices", &sent], "");
-    assert!(said.contains("line 5: plate type 1 is 3 by 4"), "{said}");
+    assert!(said.contains("line 6: plate type 1 is 3 by 4"), "{said}");
 }
 
 #[test]
@@ -187,9 +187,9 @@ fn wrong_arguments_are_told() {
 fn wrong_files_are_told() {
     let folder = Folder::new("wrong");
     let solution = folder.file("solution.txt", SOLUTION);
-    let half = folder.file("half.txt", "s bas 8 8 f f 2\nj 1 b 1.5 0\ne o f\n");
-    let few = folder.file("few.txt", "s mip 8 8 o 2\nj 1 2\ne o f\n");
-    let short = folder.file("short.txt", "7 1 1 1 1 1 0 0 0\n8 1 0 1 0\n");
+    let half = folder.file("half.txt", "s bas 9 9 f f 2\nj 2 b 1.5 0\ne o f\n");
+    let few = folder.file("few.txt", "s mip 9 9 o 2\nj 2 2\ne o f\n");
+    let short = folder.file("short.txt", "7 1 0 1 1 1 1 0 0 0\n8 1 0 1 0\n");
     let boards = folder.0.to_str().unwrap();
     check(&[
         (&["model", "-"], "1 2 0 9 7", "standard input: line 1"),

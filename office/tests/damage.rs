@@ -18,8 +18,9 @@ impl Random {
 }
 
 /// Job A with its plan and prices.
-const SAW: [&[usize]; 15] = [
-    &[1, 2, 0, 9, 7, 2, 0],
+const SAW: [&[usize]; 16] = [
+    &[1, 2, 0, 1, 2, 0],
+    &[10, 0, 9, 7, 1],
     &[2, 1, 5, 4, 2, 0],
     &[2, 2, 3, 3, 3, 0],
     &[3, 0, 1, 2, 9, 7, 1, 0],
@@ -38,8 +39,9 @@ const SAW: [&[usize]; 15] = [
 
 /// Job A with each item on a board of its own: its lines show plate type 0 alone, so that a job that
 /// differs in its items may still be the plan's, with other prices.
-const SAW_BOARDS: [&[usize]; 13] = [
-    &[1, 2, 0, 9, 7, 2, 0],
+const SAW_BOARDS: [&[usize]; 14] = [
+    &[1, 2, 0, 1, 2, 0],
+    &[10, 0, 9, 7, 1],
     &[2, 1, 5, 4, 2, 0],
     &[2, 2, 3, 3, 3, 0],
     &[3, 0, 1, 2, 9, 7, 1, 0],
@@ -55,25 +57,59 @@ const SAW_BOARDS: [&[usize]; 13] = [
 ];
 
 /// Layouts of a job in three stages.
-const FOLD: [&[usize]; 7] = [
-    &[1, 3, 0, 5, 5, 2, 0],
+const FOLD: [&[usize]; 8] = [
+    &[1, 3, 0, 1, 2, 0],
+    &[10, 0, 5, 5, 1],
     &[2, 1, 3, 5, 2, 0],
     &[2, 2, 2, 2, 2, 0],
-    &[7, 1, 1, 1, 1, 1, 0, 0, 0],
-    &[7, 1, 1, 2, 1, 2, 3, 0, 0],
-    &[7, 1, 1, 2, 2, 2, 3, 2, 0],
-    &[7, 2, 1, 1, 1, 1, 0, 0, 0],
+    &[7, 1, 0, 1, 1, 1, 1, 0, 0, 0],
+    &[7, 1, 0, 1, 2, 1, 2, 3, 0, 0],
+    &[7, 1, 0, 1, 2, 2, 2, 3, 2, 0],
+    &[7, 2, 0, 1, 1, 1, 1, 0, 0, 0],
 ];
 
 /// The same with a blade of 1.
-const FOLD_WITH_BLADE: [&[usize]; 7] = [
-    &[1, 3, 0, 6, 5, 2, 1],
+const FOLD_WITH_BLADE: [&[usize]; 8] = [
+    &[1, 3, 0, 1, 2, 1],
+    &[10, 0, 6, 5, 1],
     &[2, 1, 3, 5, 2, 0],
     &[2, 2, 2, 2, 2, 0],
-    &[7, 1, 1, 1, 1, 1, 0, 0, 0],
-    &[7, 1, 1, 2, 1, 2, 4, 0, 0],
-    &[7, 1, 1, 2, 2, 2, 4, 3, 0],
-    &[7, 2, 1, 1, 1, 1, 0, 0, 0],
+    &[7, 1, 0, 1, 1, 1, 1, 0, 0, 0],
+    &[7, 1, 0, 1, 2, 1, 2, 4, 0, 0],
+    &[7, 1, 0, 1, 2, 2, 2, 4, 3, 0],
+    &[7, 2, 0, 1, 1, 1, 1, 0, 0, 0],
+];
+
+/// Job A's items on two sizes, boards of both, with prices.
+const SAW_SIZES: [&[usize]; 16] = [
+    &[1, 2, 0, 2, 2, 0],
+    &[10, 0, 9, 7, 3],
+    &[10, 1, 9, 3, 1],
+    &[2, 1, 5, 4, 2, 0],
+    &[2, 2, 3, 3, 3, 0],
+    &[3, 0, 1, 2, 9, 7, 1, 0],
+    &[3, 1, 2, 1, 9, 3, 1, 0],
+    &[3, 3, 2, 2, 4, 4, 2, 0],
+    &[4, 1, 2, 5],
+    &[5, 1, 3],
+    &[5, 2, 0],
+    &[6, 2, 0],
+    &[6, 3, 0],
+    &[6, 4, 3],
+    &[6, 5, 0],
+    &[6, 6, 0],
+];
+
+/// Layouts on boards of two sizes, the second size first.
+const FOLD_SIZES: [&[usize]; 8] = [
+    &[1, 3, 0, 2, 1, 0],
+    &[10, 0, 9, 7, 5],
+    &[10, 1, 3, 6, 1],
+    &[2, 1, 3, 3, 4, 0],
+    &[7, 1, 1, 1, 1, 1, 1, 0, 0, 0],
+    &[7, 1, 1, 2, 1, 1, 1, 0, 3, 0],
+    &[7, 2, 0, 1, 1, 1, 1, 0, 0, 0],
+    &[7, 2, 0, 1, 2, 1, 1, 3, 0, 0],
 ];
 
 /// Numbers that are often wrong somewhere.
@@ -154,7 +190,7 @@ fn explained(base: &[&[usize]], answer: fn(&[u8]) -> Vec<u8>, seed: u64) -> [usi
 
 #[test]
 fn every_refusal_of_a_saw_text_is_explained() {
-    let bases: [(&[&[usize]], u64); 2] = [(&SAW, 5), (&SAW_BOARDS, 8)];
+    let bases: [(&[&[usize]], u64); 3] = [(&SAW, 5), (&SAW_BOARDS, 8), (&SAW_SIZES, 9)];
     let mut refused = [0; 21];
     for (base, seed) in bases {
         assert!(!reference::saw_text(&text_of(base)).starts_with(b"        9"));
@@ -168,11 +204,13 @@ fn every_refusal_of_a_saw_text_is_explained() {
 
 #[test]
 fn every_refusal_of_a_fold_text_is_explained() {
-    for (base, seed) in [(&FOLD, 6), (&FOLD_WITH_BLADE, 7)] {
+    let mut refused = [0; 21];
+    for (base, seed) in [(&FOLD, 6), (&FOLD_WITH_BLADE, 7), (&FOLD_SIZES, 10)] {
         assert!(!reference::fold_text(&text_of(base)).starts_with(b"        9"));
-        let refused = explained(base, reference::fold_text, seed);
-        for number in [1, 2, 3, 4, 11, 15, 16, 17, 18, 19] {
-            assert!(refused[number] > 0, "{number} was never met: {refused:?}");
-        }
+        let more = explained(base, reference::fold_text, seed);
+        refused = std::array::from_fn(|number| refused[number] + more[number]);
+    }
+    for number in [1, 2, 3, 4, 11, 15, 16, 17, 18, 19] {
+        assert!(refused[number] > 0, "{number} was never met: {refused:?}");
     }
 }

@@ -168,7 +168,7 @@ fn job_words(example: &Example) -> Vec<u16> {
         let numbers: Vec<u16> = numbers.collect();
         match numbers[0] {
             1 => words.extend(&numbers[1..]),
-            2 => words.extend(&numbers[2..]),
+            10 | 2 => words.extend(&numbers[2..]),
             _ => {}
         }
     }
@@ -177,11 +177,16 @@ fn job_words(example: &Example) -> Vec<u16> {
 
 /// The listing of a job by the second implementation, as the handbook prints it.
 fn listing(example: &Example) -> Vec<String> {
-    let [mut plates, mut cuts] = [vec![0; 6_144], vec![0; 32_768]];
-    let listed = reference::list(&job_words(example), &mut plates, &mut cuts).unwrap();
+    let [mut plates, mut cuts] = [vec![0; 8_192], vec![0; 32_768]];
+    let job = job_words(example);
+    let listed = reference::list(&job, &mut plates, &mut cuts).unwrap();
     let plate = |(number, words): (usize, &[u16])| {
+        let cost = match words[3] {
+            0 => String::new(),
+            cost => format!(", cost {cost}"),
+        };
         format!(
-            "plate {number}: {} by {}, stage {}",
+            "plate {number}: {} by {}, stage {}{cost}",
             words[0], words[1], words[2]
         )
     };
@@ -197,10 +202,10 @@ fn listing(example: &Example) -> Vec<String> {
         )
     };
     let plates = plates
-        .chunks(3)
+        .chunks(4)
         .enumerate()
         .map(plate)
-        .take(listed.residuals as usize + 1);
+        .take(usize::from(job[2]) + listed.residuals as usize);
     let cuts = cuts
         .chunks(4)
         .enumerate()
@@ -234,7 +239,7 @@ fn the_worked_listings_are_right() {
         .iter()
         .filter(|block| block.mark[0] == "listing")
         .collect();
-    assert_eq!(listings.len(), 4);
+    assert_eq!(listings.len(), 5);
     for block in listings {
         assert_eq!(block.lines, listing(&examples[&block.mark[1]]));
     }

@@ -1,5 +1,5 @@
-//! The area balance of boards: items, offcuts, waste and the blade's swath (document 02, Two and
-//! Four).
+//! The area balance of boards: items, offcuts, waste and the blade's swath (document 02, Two,
+//! Four and Six). The four make the board's own W times H.
 
 use crate::job::Job;
 use crate::listing::Listing;
@@ -26,7 +26,7 @@ impl Balance {
 /// The balance of each board of an unfolding: its items, the pieces left over on it, and the waste
 /// and the swath of the cuts done on it.
 pub fn of_boards(job: &Job, listing: &Listing, unfolding: &Unfolding) -> Vec<Balance> {
-    let mut boards = vec![Balance::default(); usize::from(unfolding.boards)];
+    let mut boards = vec![Balance::default(); unfolding.sizes.len()];
     for (placement, &index) in unfolding.placements.iter().zip(&unfolding.cuts) {
         let board = &mut boards[usize::from(placement.board) - 1];
         let cut = listing.cuts[index];

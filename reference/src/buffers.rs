@@ -10,10 +10,10 @@ pub struct Kind {
     pub full_size: usize,
 }
 
-/// Lent plates: 2,048 records of 3 words.
+/// Lent plates: 2,048 records of 4 words.
 pub const PLATES: Kind = Kind {
     place: 1,
-    full_size: 6_144,
+    full_size: 8_192,
 };
 /// Lent cuts: 8,192 records of 4 words.
 pub const CUTS: Kind = Kind {
@@ -25,10 +25,10 @@ pub const COUNTS: Kind = Kind {
     place: 3,
     full_size: 8_192,
 };
-/// Lent placements: 4,000 records of 8 words.
+/// Lent placements: 4,000 records of 9 words.
 pub const PLACEMENTS: Kind = Kind {
     place: 4,
-    full_size: 32_000,
+    full_size: 36_000,
 };
 
 /// Lent offcuts: 8,000 records of 6 words (document 02, Two).

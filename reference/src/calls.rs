@@ -8,11 +8,11 @@
 use crate::buffers::{ensure_full, hand_back, Kind, COUNTS, CUTS, OFFCUTS, PLACEMENTS, PLATES};
 use crate::folding;
 use crate::job::Job;
-use crate::layout::Placement;
+use crate::layout::{self, Placement};
 use crate::layout_lines;
 use crate::listing::{Listing, FULL};
 use crate::offcut::Lengths;
-use crate::plan;
+use crate::plan::{self, Outlay};
 use crate::prices::{self, Bound, Prices};
 use crate::refusal::Refusal;
 use crate::unfolding::{self, Unfolding};
@@ -36,7 +36,7 @@ impl Unfolded {
     /// The numbers of an unfolding.
     pub fn of(unfolding: &Unfolding) -> Unfolded {
         Unfolded {
-            boards: u32::from(unfolding.boards),
+            boards: unfolding.sizes.len() as u32,
             pieces: unfolding.placements.len() as u32,
             offcuts: unfolding.offcuts.len() as u32,
         }
@@ -56,12 +56,12 @@ pub fn list(job: &[u16], plates: &mut [u16], cuts: &mut [u16]) -> Result<Listed,
             residuals: listing.residual_types() as u32,
             cuts: listing.cuts.len() as u32,
         };
-        Ok((listed, [listing.plate_words(), listing.cut_words()]))
+        Ok((listed, [listing.plate_words(&job), listing.cut_words()]))
     };
     hand_back(answer(), [plates, cuts])
 }
 
-/// Tests a plan and gives the number of boards that it opens.
+/// Tests a plan and gives the boards that it opens, and their cost.
 ///
 /// Refuses as the listing does, with 5 also for the counts, then with 8, 10, 11 or 12 for the
 /// plan. After success plates and cuts hold the listing.
@@ -70,7 +70,7 @@ pub fn test_plan(
     counts: &[u16],
     plates: &mut [u16],
     cuts: &mut [u16],
-) -> Result<u32, Refusal> {
+) -> Result<Outlay, Refusal> {
     let sizes = [
         (PLATES, plates.len()),
         (CUTS, cuts.len()),
@@ -80,13 +80,13 @@ pub fn test_plan(
         let job = Job::from_words(job)?;
         let listing = model(&job, &sizes)?;
         let counts = plan::counts_of_words(&listing, counts)?;
-        let boards = plan::test(&job, &listing, counts)?;
-        Ok((boards, [listing.plate_words(), listing.cut_words()]))
+        let outlay = plan::test(&job, &listing, counts)?;
+        Ok((outlay, [listing.plate_words(&job), listing.cut_words()]))
     };
     hand_back(answer(), [plates, cuts])
 }
 
-/// Tests a price list and gives the bound on the boards.
+/// Tests a price list and gives the bound on the cost of boards.
 ///
 /// Refuses as the listing does, with 2 also for a price word (after the job's own 1 and 2), then
 /// with 13 or 14 for the prices. After success plates and cuts hold the listing.
@@ -102,7 +102,7 @@ pub fn test_prices(
         prices::test_words(prices)?;
         let listing = model(&job, &sizes)?;
         let bound = Prices::from_words(prices, &job, &listing)?.test(&job, &listing)?;
-        Ok((bound, [listing.plate_words(), listing.cut_words()]))
+        Ok((bound, [listing.plate_words(&job), listing.cut_words()]))
     };
     hand_back(answer(), [plates, cuts])
 }
@@ -112,7 +112,7 @@ pub fn test_prices(
 ///
 /// Refuses as the plan test does, with 2, place 0, also for a length (after the job's own 1 and 2)
 /// and with 5 also for placements and offcuts. After success plates and cuts hold the listing,
-/// placements eight words for each item and offcuts six for each piece left over.
+/// placements nine words for each item and offcuts six for each piece left over.
 pub fn unfold(
     job: &[u16],
     counts: &[u16],
@@ -142,7 +142,7 @@ pub fn unfold(
             .iter()
             .flat_map(|offcut| offcut.words(lengths));
         let contents = [
-            listing.plate_words(),
+            listing.plate_words(&job),
             listing.cut_words(),
             placed.collect(),
             left_over.collect(),
@@ -152,7 +152,7 @@ pub fn unfold(
     hand_back(answer(), [plates, cuts, placements, offcuts])
 }
 
-/// Folds layouts into counts, and gives the number of boards.
+/// Folds layouts into counts, and gives the boards and their cost.
 ///
 /// Refuses as the listing does, with 1, 2 and 19 also for the layout words (after the job's own 1
 /// and 2) and with 5 for the counts, then with 10, 15, 16, 17, 18 or 11 for the layouts. After
@@ -163,7 +163,7 @@ pub fn fold(
     plates: &mut [u16],
     cuts: &mut [u16],
     counts: &mut [u16],
-) -> Result<u32, Refusal> {
+) -> Result<Outlay, Refusal> {
     let sizes = [
         (PLATES, plates.len()),
         (CUTS, cuts.len()),
@@ -175,11 +175,11 @@ pub fn fold(
         let listing = model(&job, &sizes)?;
         let set = layout_lines::test(&job, &lines, 1)?;
         let contents = [
-            listing.plate_words(),
+            listing.plate_words(&job),
             listing.cut_words(),
             folding::fold(&job, &listing, &set),
         ];
-        Ok((set.len() as u32, contents))
+        Ok((layout::outlay(&job, &set), contents))
     };
     hand_back(answer(), [plates, cuts, counts])
 }

@@ -1,5 +1,5 @@
 //! The fold text: job and layouts as lines, answered by the lines of a plan (document 01,
-//! "Texts"; document 02, One and Five).
+//! "Texts"; document 02, One, Five and Six).
 
 use crate::columns::refusal_text;
 use crate::folding::fold;
@@ -24,20 +24,20 @@ fn answer(text: &[u8]) -> Result<Vec<u8>, Refusal> {
     let (job, lines) = read(text)?;
     job.admit()?;
     let listing = Listing::walk(&job, FULL)?;
-    let first = job.items.len() + 2;
+    let first = 1 + job.sizes.len() + job.items.len() + 1;
     let set = layout_lines::test(&job, &lines, first)?;
     let counts = fold(&job, &listing, &set);
     Ok(plan_lines::written(&listing, &counts))
 }
 
-/// The line row: kinds 1 and 2, and then any number of kind 7.
+/// The line row: kinds 1, 10 and 2, and then any number of kind 7.
 fn read(text: &[u8]) -> Result<(Job, Vec<Placement>), Refusal> {
     let mut lines = Lines::new(text);
     let job = lines.job()?;
     let mut layouts = Vec::new();
     while !lines.is_at_end() {
         let line = lines.line_of(7)?;
-        let placement = Placement::from_numbers(line.values, job.items.len());
+        let placement = Placement::from_numbers(line.values, &job);
         let placement = placement.ok_or(line.outside_limits())?;
         job.ensure_permitted(placement.position, line.number)?;
         layouts.push(placement);

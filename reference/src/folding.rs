@@ -1,5 +1,5 @@
 //! Folding: from a set of layouts to the counts of a plan (document 01, "Layouts and folding",
-//! second paragraph).
+//! second paragraph; document 02, Six).
 
 use crate::job::Job;
 use crate::layout::{leading_stack, Board, Strip};
@@ -33,8 +33,8 @@ pub fn fold(job: &Job, listing: &Listing, set: &[Board]) -> Vec<u16> {
         counts: vec![0; listing.cuts.len()],
     };
     for board in set {
-        let mut plate = Some(0);
-        for strip in board {
+        let mut plate = Some(board.size);
+        for strip in &board.strips {
             plate = counting.strip(plate, &ordered(job, strip));
         }
     }

@@ -1,5 +1,6 @@
 //! Layout lines: reading them from words, and the layouts row of the table "Where each number is
-//! given" (document 01), with the blade between neighbours (document 02, Four).
+//! given" (document 01), with the blade between neighbours (document 02, Four) and a size for each
+//! board (Six).
 
 use crate::job::Job;
 use crate::layout::{
@@ -12,8 +13,9 @@ use crate::refusal::{
     ensure, Refusal, NOT_NEXT_IN_TURN, NOT_OF_THE_FORM, OUTSIDE_LIMITS, PAST_THE_BOARD,
     POSITION_WRONG, STAGE_RULE, TOTAL_TOO_HIGH,
 };
+use crate::size::Size;
 
-/// Reads layout words, eight to a line. A line cut short is 1, naming it; then a value outside
+/// Reads layout words, nine to a line. A line cut short is 1, naming it; then a value outside
 /// its limits is 2, naming its line; then a type turned without leave, or a square one turned, is
 /// 19, naming its line.
 pub fn lines_of_words(words: &[u16], job: &Job) -> Result<Vec<Placement>, Refusal> {
@@ -26,7 +28,7 @@ pub fn lines_of_words(words: &[u16], job: &Job) -> Result<Vec<Placement>, Refusa
     let mut read = Vec::with_capacity(lines.len());
     for (number, line) in (1..).zip(lines) {
         let numbers = std::array::from_fn(|k| u32::from(line[k]));
-        let line = Placement::from_numbers(numbers, job.items.len());
+        let line = Placement::from_numbers(numbers, job);
         read.push(line.ok_or(Refusal::new(OUTSIDE_LIMITS, number))?);
     }
     for (number, line) in (1..).zip(&read) {
@@ -36,7 +38,7 @@ pub fn lines_of_words(words: &[u16], job: &Job) -> Result<Vec<Placement>, Refusa
 }
 
 /// The layouts row, over lines that are counted from `first`, and the set that they describe:
-/// 10 over 4,000 lines; 15 not the next in turn; 16 stage rule; 17 past the board; 18 x or y
+/// 10 over 4,000 lines; 15 not the next in turn, or of another size than its board's first line; 16 stage rule; 17 past the board; 18 x or y
 /// wrong; then 11, an item type that lies there less often than demanded.
 pub fn test(job: &Job, lines: &[Placement], first: usize) -> Result<Vec<Board>, Refusal> {
     ensure(lines.len() <= MOST_PIECES as usize, TOTAL_TOO_HIGH, 0)?;
@@ -45,10 +47,13 @@ pub fn test(job: &Job, lines: &[Placement], first: usize) -> Result<Vec<Board>, 
         ensure(in_turn, NOT_NEXT_IN_TURN, first + index)?;
     }
     let set = set_of(lines);
-    for (line, _, strip) in strips_with_lines(&set, first) {
+    let numbered = with_lines(&set, first);
+    for &(line, strip) in numbered.iter().flat_map(|(_, strips)| strips) {
         ensure(keeps_stage_rule(job, strip), STAGE_RULE, line)?;
     }
-    ensure_inside(job, &set, first)?;
+    for (board, strips) in &numbered {
+        ensure_inside(job, job.size(board.size), strips)?;
+    }
     for (index, (line, true_line)) in lines.iter().zip(placements(job, &set)).enumerate() {
         ensure(*line == true_line, POSITION_WRONG, first + index)?;
     }
@@ -61,16 +66,17 @@ pub fn test(job: &Job, lines: &[Placement], first: usize) -> Result<Vec<Board>, 
 }
 
 /// Whether a line is the next in turn after the lines before it: the next place, or place 1 of
-/// the next stack, the next strip or the next board; the first line is 1, 1, 1, 1.
+/// the next stack or the next strip, of the same size, since the board has the size of its first line;
+/// or place 1 of the next board, of any size. The first line is 1, 1, 1, 1.
 fn follows(before: &[Placement], line: &Placement) -> bool {
     let turn = (line.board, line.strip, line.stack, line.place);
     let Some(last) = before.last() else {
         return turn == (1, 1, 1, 1);
     };
-    turn == (last.board, last.strip, last.stack, last.place + 1)
+    let on_board = turn == (last.board, last.strip, last.stack, last.place + 1)
         || turn == (last.board, last.strip, last.stack + 1, 1)
-        || turn == (last.board, last.strip + 1, 1, 1)
-        || turn == (last.board + 1, 1, 1, 1)
+        || turn == (last.board, last.strip + 1, 1, 1);
+    on_board && line.size == last.size || turn == (last.board + 1, 1, 1, 1)
 }
 
 /// The set of layouts that lines in turn describe. x and y play no part.
@@ -78,13 +84,17 @@ pub fn set_of(lines: &[Placement]) -> Vec<Board> {
     let mut set: Vec<Board> = Vec::new();
     for line in lines {
         if usize::from(line.board) > set.len() {
-            set.push(Board::new());
+            set.push(Board {
+                size: line.size,
+                strips: Vec::new(),
+            });
         }
         let board = set.last_mut().expect("line 1 begins a board");
-        if usize::from(line.strip) > board.len() {
-            board.push(Strip::new());
+        if usize::from(line.strip) > board.strips.len() {
+            board.strips.push(Strip::new());
         }
-        let strip = board.last_mut().expect("a board begins with a strip");
+        let strips = &mut board.strips;
+        let strip = strips.last_mut().expect("a board begins with a strip");
         if usize::from(line.stack) > strip.len() {
             strip.push(Vec::new());
         }
@@ -94,29 +104,30 @@ pub fn set_of(lines: &[Placement]) -> Vec<Board> {
     set
 }
 
-/// All strips of a set in turn, each with the number of its first line and with whether it is
-/// the lowest of its board.
-fn strips_with_lines(set: &[Board], first: usize) -> impl Iterator<Item = (usize, bool, &Strip)> {
-    let strips = set.iter().flat_map(|board| board.iter().enumerate());
-    strips.scan(first, |next, (index, strip)| {
-        let line = *next;
-        *next += strip.iter().map(Vec::len).sum::<usize>();
-        Some((line, index == 0, strip))
-    })
+/// All boards of a set, each as its strips in turn with the number of the first line of each.
+fn with_lines(set: &[Board], first: usize) -> Vec<(&Board, Vec<(usize, &Strip)>)> {
+    let mut next = first;
+    let mut numbered = Vec::with_capacity(set.len());
+    for board in set {
+        let mut strips = Vec::with_capacity(board.strips.len());
+        for strip in &board.strips {
+            strips.push((next, strip));
+            next += strip.iter().map(Vec::len).sum::<usize>();
+        }
+        numbered.push((board, strips));
+    }
+    numbered
 }
 
-/// Refuses with 17 the first strip whose stacks reach past the board's width or whose own top
-/// edge lies above the board's height: the strips below it with the blade after each of them, and
-/// its own height.
-fn ensure_inside(job: &Job, set: &[Board], first: usize) -> Result<(), Refusal> {
+/// Refuses with 17 the first strip of a board whose stacks reach past the width of the board's size,
+/// or whose own top edge lies above its height: the strips below it with the blade after each of
+/// them, and its own height.
+fn ensure_inside(job: &Job, size: &Size, strips: &[(usize, &Strip)]) -> Result<(), Refusal> {
     let mut below = 0;
-    for (line, lowest, strip) in strips_with_lines(set, first) {
-        if lowest {
-            below = 0;
-        }
+    for &(line, strip) in strips {
         let top = below + strip_height(job, strip);
         let inside =
-            strip_width(job, strip) <= u32::from(job.width) && top <= u32::from(job.height);
+            strip_width(job, strip) <= u32::from(size.width) && top <= u32::from(size.height);
         ensure(inside, PAST_THE_BOARD, line)?;
         below = top + u32::from(job.blade);
     }

@@ -1,7 +1,7 @@
 //! Reference implementation of the beam saw plan engine, written from document 01 and requests One to
-//! Five of document 02.
+//! Six of document 02.
 //!
-//! Layers, bottom up: the job and its limits; plates, cuts and their listing; plans, prices,
+//! Layers, bottom up: the job with its board sizes, and its limits; plates, cuts and their listing; plans, prices,
 //! layouts, unfolding with its offcuts and their balance, and folding as structures; the five calls
 //! over words; the two texts. Beside them: the published instances and the jobs at the limits, with plans for them.
 
@@ -27,6 +27,7 @@ pub mod position;
 pub mod prices;
 pub mod refusal;
 pub mod saw_text;
+pub mod size;
 pub mod swath;
 pub mod text_lines;
 pub mod unfolding;
@@ -40,8 +41,10 @@ pub use layout::{Board, Placement, Stack, Strip};
 pub use listing::{Cut, Listing};
 pub use mode::Mode;
 pub use offcut::{Lengths, Offcut};
+pub use plan::Outlay;
 pub use plate::Plate;
 pub use position::{Position, Sides};
 pub use prices::{Bound, Prices};
 pub use refusal::Refusal;
 pub use saw_text::saw_text;
+pub use size::Size;

@@ -1,5 +1,5 @@
-//! The limits of document 01, each with the section that sets it, and of document 02, One, Two
-//! and Four.
+//! The limits of document 01, each with the section that sets it, and of document 02, One, Two,
+//! Four and Six.
 
 use std::ops::RangeInclusive;
 
@@ -16,7 +16,7 @@ pub const DEMAND: RangeInclusive<u32> = 1..=4_000;
 /// ("The job", "Plan", "Where each number is given").
 pub const MOST_PIECES: u32 = 4_000;
 
-/// Plate types of a listing, type 0 among them ("Plates and cuts").
+/// Plate types of a listing, the board sizes among them ("Plates and cuts"; document 02, Six).
 pub const MOST_PLATE_TYPES: usize = 2_048;
 
 /// Cuts of a listing ("Plates and cuts").
@@ -51,6 +51,12 @@ pub const LENGTH: RangeInclusive<u32> = 1..=10_000;
 
 /// Width of the blade in millimetres (document 02, Four).
 pub const BLADE: RangeInclusive<u32> = 0..=20;
+
+/// Number of board sizes of a job, t (document 02, Six).
+pub const SIZES: RangeInclusive<u32> = 1..=6;
+
+/// Cost of a board of a size (document 02, Six).
+pub const COST: RangeInclusive<u32> = 1..=999;
 
 /// The line of a text that is refused whatever it holds ("Texts").
 pub const FORBIDDEN_LINE: usize = 100_000;

@@ -1,5 +1,5 @@
 //! The listing: the walk that numbers plate types and cuts (document 01, "Plates and cuts";
-//! document 02, One and Four).
+//! document 02, One, Four and Six).
 
 use crate::job::Job;
 use crate::limits::{MOST_CUTS, MOST_PLATE_TYPES};
@@ -18,7 +18,7 @@ pub struct Cut {
     pub right: Option<u16>,
 }
 
-/// The most plate types (type 0 among them) and cuts that a walk may meet: those of document 01,
+/// The most plate types (the sizes among them) and cuts that a walk may meet: those of document 01,
 /// or lower ones.
 #[derive(Debug, Clone, Copy, PartialEq, Eq)]
 pub struct Limits {
@@ -32,13 +32,17 @@ pub const FULL: Limits = Limits {
     cuts: MOST_CUTS,
 };
 
-/// Plate types numbered from 0 and cuts numbered from 1, in the order of the walk.
+/// Plate types numbered from 0, the sizes first and then the residual types, and cuts numbered from
+/// 1, both in the order of the walk.
 #[derive(Debug, Clone, PartialEq, Eq)]
 pub struct Listing {
     pub plates: Vec<Plate>,
     pub cuts: Vec<Cut>,
+    /// How many of the plate types are sizes: the first ones.
+    pub sizes: usize,
     /// For each plate type the index of its first cut, and one entry more: all cuts.
-    /// The cuts on one plate type are consecutive, since the walk goes plate by plate.
+    /// The cuts on one plate type are consecutive, since the walk goes plate by plate; a size that
+    /// no item fits has none.
     first: Vec<usize>,
 }
 
@@ -77,13 +81,25 @@ impl Listing {
         Ok(Listing {
             plates,
             cuts,
+            sizes: job.sizes.len(),
             first,
         })
     }
 
-    /// The number of residual types: plate types without type 0.
+    /// The residual types: plate types without the sizes. The first has the number of sizes as its
+    /// own.
+    pub fn residuals(&self) -> &[Plate] {
+        &self.plates[self.sizes..]
+    }
+
+    /// The number of residual types.
     pub fn residual_types(&self) -> usize {
-        self.plates.len() - 1
+        self.residuals().len()
+    }
+
+    /// Whether a plate type is a size.
+    pub fn is_size(&self, plate: u16) -> bool {
+        usize::from(plate) < self.sizes
     }
 
     /// The indices (from 0) of the cuts on a plate type.
@@ -103,10 +119,12 @@ impl Listing {
         found.ok().map(|offset| on.start + offset)
     }
 
-    /// The plates as words: width, height, stage of each.
-    pub fn plate_words(&self) -> Vec<u16> {
-        let record = |plate: &Plate| [plate.width, plate.height, plate.stage];
-        self.plates.iter().flat_map(record).collect()
+    /// The plates as words: width, height, stage and cost of each, the cost 0 for a residual type.
+    pub fn plate_words(&self, job: &Job) -> Vec<u16> {
+        let costs = job.sizes.iter().map(|size| size.cost);
+        let costs = costs.chain(std::iter::repeat(0));
+        let record = |(plate, cost): (&Plate, u16)| [plate.width, plate.height, plate.stage, cost];
+        self.plates.iter().zip(costs).flat_map(record).collect()
     }
 
     /// The cuts as words: plate, item, top and right of each, 0 for a residual not kept. The item
@@ -121,7 +139,8 @@ impl Listing {
     }
 }
 
-/// The plate types met so far, with the number of each.
+/// The plate types met so far, with the number of each residual type. A residual equal to a size is
+/// a residual type all the same, so that none is sought among the sizes.
 struct MetPlates<'a> {
     job: &'a Job,
     most: usize,
@@ -130,14 +149,14 @@ struct MetPlates<'a> {
 }
 
 impl<'a> MetPlates<'a> {
-    /// Type 0 alone.
+    /// The sizes alone, each with a number of its own, whether or not an item fits it and whether or
+    /// not another is equal.
     fn new(job: &'a Job, most: usize) -> Self {
-        let board = job.board_plate();
         MetPlates {
             job,
             most,
-            plates: vec![board],
-            numbers: HashMap::from([(board, 0)]),
+            plates: job.sizes.iter().map(|size| size.plate()).collect(),
+            numbers: HashMap::new(),
         }
     }
 

@@ -1,4 +1,4 @@
-//! Plans: the test of a count for each cut (document 01, "Plan").
+//! Plans: the test of a count for each cut (document 01, "Plan"; document 02, Six).
 
 use crate::job::Job;
 use crate::limits::MOST_PIECES;
@@ -6,6 +6,28 @@ use crate::listing::Listing;
 use crate::refusal::{
     ensure, Refusal, NO_SUCH_CUT, PLATE_TYPE_OVERDRAWN, TOTAL_TOO_HIGH, TYPE_SHORT,
 };
+
+/// What a plan or a set of layouts takes from stock: its boards, and the sum of their costs.
+#[derive(Debug, Clone, Copy, PartialEq, Eq)]
+pub struct Outlay {
+    pub boards: u32,
+    pub cost: u32,
+}
+
+impl Outlay {
+    /// The outlay for so many boards of each size.
+    pub fn of(job: &Job, boards: &[u32]) -> Outlay {
+        let costs = job.sizes.iter().map(|size| u32::from(size.cost));
+        Outlay {
+            boards: boards.iter().sum(),
+            cost: boards
+                .iter()
+                .zip(costs)
+                .map(|(many, cost)| many * cost)
+                .sum(),
+        }
+    }
+}
 
 /// The counts of the listing's cuts among count words. A nonzero word past the last cut is 8,
 /// naming the cut that it would count.
@@ -17,11 +39,12 @@ pub fn counts_of_words<'a>(listing: &Listing, words: &'a [u16]) -> Result<&'a [u
     }
 }
 
-/// Tests a plan, one count for each cut, and gives the number of boards that it opens.
+/// Tests a plan, one count for each cut, and gives what it takes from stock: of each size as many
+/// boards as there are counts on it.
 /// A total above 4,000 is 10; an item type cut less often than demanded, in
 /// both turns together, is 11; a residual type
 /// cut more often than it arises is 12.
-pub fn test(job: &Job, listing: &Listing, counts: &[u16]) -> Result<u32, Refusal> {
+pub fn test(job: &Job, listing: &Listing, counts: &[u16]) -> Result<Outlay, Refusal> {
     let mut total = 0;
     let mut obtained = vec![0; job.items.len() + 1];
     let mut drawn = vec![0; listing.plates.len()];
@@ -37,10 +60,10 @@ pub fn test(job: &Job, listing: &Listing, counts: &[u16]) -> Result<u32, Refusal
     }
     ensure(total <= MOST_PIECES, TOTAL_TOO_HIGH, 0)?;
     ensure_demands(job, &obtained)?;
-    for plate in 1..listing.plates.len() {
+    for plate in listing.sizes..listing.plates.len() {
         ensure(drawn[plate] <= arisen[plate], PLATE_TYPE_OVERDRAWN, plate)?;
     }
-    Ok(drawn[0])
+    Ok(Outlay::of(job, &drawn[..listing.sizes]))
 }
 
 /// Refuses with 11 the lowest item type obtained less often than demanded. The numbers obtained

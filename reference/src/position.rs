@@ -16,6 +16,13 @@ pub struct Sides {
     pub height: u16,
 }
 
+impl Sides {
+    /// Width times height.
+    pub fn area(&self) -> u64 {
+        u64::from(self.width) * u64::from(self.height)
+    }
+}
+
 impl Position {
     /// The type as it stands in the job.
     pub fn unturned(item: u16) -> Position {

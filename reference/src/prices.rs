@@ -1,4 +1,5 @@
-//! Prices: the test of a price list and the bound that it gives (document 01, "Prices").
+//! Prices: the test of a price list and the bound that it gives (document 01, "Prices";
+//! document 02, Six).
 
 use crate::job::Job;
 use crate::limits::{DENOMINATOR, PRICE};
@@ -13,7 +14,7 @@ pub struct Prices {
     pub residuals: Vec<u16>,
 }
 
-/// The bound on the boards: a sum over a denominator, not reduced and not rounded.
+/// The bound on the cost of boards: a sum over a denominator, not reduced and not rounded.
 #[derive(Debug, Clone, Copy, PartialEq, Eq)]
 pub struct Bound {
     pub sum: u32,
@@ -21,12 +22,12 @@ pub struct Bound {
 }
 
 impl Bound {
-    /// The bound that stands for no prices: sum 0, D 1 ("Texts"). It makes no plan the fewest.
+    /// The bound that stands for no prices: sum 0, D 1 ("Texts"). It makes no plan the cheapest.
     pub const NONE: Bound = Bound { sum: 0, d: 1 };
 
-    /// Whether no plan opens fewer boards: (boards - 1) times D is below the sum.
-    pub fn is_fewest(&self, boards: u32) -> bool {
-        let one_less = u64::from(boards.saturating_sub(1));
+    /// Whether no plan costs less: (cost - 1) times D is below the sum. The product passes 32 bits.
+    pub fn is_cheapest(&self, cost: u32) -> bool {
+        let one_less = u64::from(cost.saturating_sub(1));
         one_less * u64::from(self.d) < u64::from(self.sum)
     }
 }
@@ -62,8 +63,8 @@ impl Prices {
     }
 
     /// Tests the prices and gives their bound. An n or m that is not the model's is 13; a cut
-    /// whose item and kept residuals cost more than D on type 0, or than the plate cut on a
-    /// residual type, is 14.
+    /// whose item and kept residuals are priced above D times the cost of a size, or above the plate
+    /// cut on a residual type, is 14.
     pub fn test(&self, job: &Job, listing: &Listing) -> Result<Bound, Refusal> {
         let matching =
             self.items.len() == job.items.len() && self.residuals.len() == listing.residual_types();
@@ -71,9 +72,10 @@ impl Prices {
         for (number, cut) in (1..).zip(&listing.cuts) {
             let item = self.item(cut.position.item);
             let kept: u32 = (cut.top.iter().chain(&cut.right))
-                .map(|&residual| self.limit(residual))
+                .map(|&residual| self.limit(job, residual))
                 .sum();
-            ensure(item + kept <= self.limit(cut.plate), CUT_OVER_LIMIT, number)?;
+            let limit = self.limit(job, cut.plate);
+            ensure(item + kept <= limit, CUT_OVER_LIMIT, number)?;
         }
         let priced = (1..).zip(&job.items);
         let sum = priced.map(|(number, item)| self.item(number) * u32::from(item.demand));
@@ -88,11 +90,13 @@ impl Prices {
         u32::from(self.items[usize::from(number) - 1])
     }
 
-    /// What may be spent on a plate type: D on type 0, the type's own price on a residual type.
-    fn limit(&self, plate: u16) -> u32 {
-        match plate {
-            0 => u32::from(self.denominator),
-            residual => u32::from(self.residuals[usize::from(residual) - 1]),
+    /// What may be spent on a plate type: D times its cost on a size, the type's own price on a
+    /// residual type.
+    fn limit(&self, job: &Job, plate: u16) -> u32 {
+        let plate = usize::from(plate);
+        match job.sizes.get(plate) {
+            Some(size) => u32::from(self.denominator) * u32::from(size.cost),
+            None => u32::from(self.residuals[plate - job.sizes.len()]),
         }
     }
 }

@@ -12,7 +12,7 @@ pub struct Refusal {
 pub const NOT_OF_THE_FORM: u32 = 1;
 /// A value outside its limits.
 pub const OUTSIDE_LIMITS: u32 = 2;
-/// An item of which no permitted position fits the board.
+/// An item of which no permitted position fits any size.
 pub const ITEM_TOO_LARGE: u32 = 3;
 /// Demands that add up to more than 4,000.
 pub const DEMANDS_TOO_HIGH: u32 = 4;
@@ -36,7 +36,8 @@ pub const PLATE_TYPE_OVERDRAWN: u32 = 12;
 pub const PRICES_NOT_THE_MODELS: u32 = 13;
 /// A cut over its limit of price.
 pub const CUT_OVER_LIMIT: u32 = 14;
-/// Board, strip, stack, place not the next in turn.
+/// Board, strip, stack, place not the next in turn, or a size that is not the one of the board's
+/// first line.
 pub const NOT_NEXT_IN_TURN: u32 = 15;
 /// A strip that breaks the stage rule.
 pub const STAGE_RULE: u32 = 16;

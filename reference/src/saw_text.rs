@@ -1,11 +1,11 @@
 //! The saw text: job, plan and prices as lines, answered by placements and a bound (document 01,
-//! "Texts"; document 02, Five).
+//! "Texts"; document 02, Five and Six).
 
 use crate::columns::{refusal_text, write_line};
 use crate::job::Job;
 use crate::limits::{DENOMINATOR, ITEM_TYPES, PRICE, RESIDUAL_TYPES};
 use crate::listing::{Listing, FULL};
-use crate::plan;
+use crate::plan::{self, Outlay};
 use crate::plan_lines::{self, PlanLine};
 use crate::prices::{Bound, Prices};
 use crate::refusal::Refusal;
@@ -20,7 +20,7 @@ pub fn saw_text(text: &[u8]) -> Vec<u8> {
     }
 }
 
-/// What a saw text says: kinds 1 and 2, kind 3, and kinds 4 to 6 if they are there.
+/// What a saw text says: kinds 1, 10 and 2, kind 3, and kinds 4 to 6 if they are there.
 struct SawText {
     job: Job,
     plan: Vec<PlanLine>,
@@ -33,16 +33,16 @@ fn answer(text: &[u8]) -> Result<Vec<u8>, Refusal> {
     job.admit()?;
     let listing = Listing::walk(&job, FULL)?;
     let counts = plan_lines::counts(&listing, &plan)?;
-    plan::test(&job, &listing, &counts)?;
+    let outlay = plan::test(&job, &listing, &counts)?;
     let bound = match prices {
         Some(prices) => prices.test(&job, &listing)?,
         None => Bound::NONE,
     };
     let unfolding = unfold(&job, &listing, &counts);
-    Ok(output(&unfolding, bound))
+    Ok(output(&unfolding, outlay, bound))
 }
 
-/// The line row: kinds 1 and 2, any number of kind 3, and then nothing or kinds 4, 5 and 6.
+/// The line row: kinds 1, 10 and 2, any number of kind 3, and then nothing or kinds 4, 5 and 6.
 fn read(text: &[u8]) -> Result<SawText, Refusal> {
     let mut lines = Lines::new(text);
     let job = lines.job()?;
@@ -52,7 +52,7 @@ fn read(text: &[u8]) -> Result<SawText, Refusal> {
         let line = lines.line()?;
         match line.kind {
             3 if prices.is_none() => plan.push(PlanLine::read(line, &job)?),
-            4 if prices.is_none() => prices = Some(read_prices(&mut lines, line)?),
+            4 if prices.is_none() => prices = Some(read_prices(&mut lines, line, &job)?),
             _ => return Err(line.out_of_order()),
         }
     }
@@ -60,8 +60,9 @@ fn read(text: &[u8]) -> Result<SawText, Refusal> {
 }
 
 /// The prices that a line of kind 4 announces: as many lines of kinds 5 and 6 as it says,
-/// whether or not that is the model's number.
-fn read_prices(lines: &mut Lines, head: Line) -> Result<Prices, Refusal> {
+/// whether or not that is the model's number. Item types are numbered from 1, residual types as
+/// plate types are, after the sizes.
+fn read_prices(lines: &mut Lines, head: Line, job: &Job) -> Result<Prices, Refusal> {
     let [denominator, types, residual_types, ..] = head.values;
     let within = DENOMINATOR.contains(&denominator)
         && ITEM_TYPES.contains(&types)
@@ -71,15 +72,20 @@ fn read_prices(lines: &mut Lines, head: Line) -> Result<Prices, Refusal> {
     }
     Ok(Prices {
         denominator: denominator as u16,
-        items: read_price_lines(lines, 5, types)?,
-        residuals: read_price_lines(lines, 6, residual_types)?,
+        items: read_price_lines(lines, 5, 1, types)?,
+        residuals: read_price_lines(lines, 6, job.sizes.len() as u32, residual_types)?,
     })
 }
 
-/// The prices of lines of one kind, numbered from 1 to the last.
-fn read_price_lines(lines: &mut Lines, kind: u32, last: u32) -> Result<Vec<u16>, Refusal> {
-    let mut prices = Vec::with_capacity(last as usize);
-    for running in 1..=last {
+/// The prices of so many lines of one kind, numbered from the first.
+fn read_price_lines(
+    lines: &mut Lines,
+    kind: u32,
+    first: u32,
+    many: u32,
+) -> Result<Vec<u16>, Refusal> {
+    let mut prices = Vec::with_capacity(many as usize);
+    for running in first..first + many {
         let line = lines.running_line(kind, running)?;
         let price = line.values[1];
         if !PRICE.contains(&price) {
@@ -91,14 +97,13 @@ fn read_price_lines(lines: &mut Lines, kind: u32, last: u32) -> Result<Vec<u16>,
 }
 
 /// Lines of kind 7, one for each item, and the line of kind 8.
-fn output(unfolding: &Unfolding, bound: Bound) -> Vec<u8> {
+fn output(unfolding: &Unfolding, outlay: Outlay, bound: Bound) -> Vec<u8> {
     let mut out = Vec::new();
     for placement in &unfolding.placements {
         let numbers = placement.words().map(u32::from);
         write_line(&mut out, &[&[7], &numbers[..]].concat());
     }
-    let boards = u32::from(unfolding.boards);
-    let fewest = u32::from(bound.is_fewest(boards));
-    write_line(&mut out, &[8, boards, bound.sum, bound.d, fewest]);
+    let cheapest = u32::from(bound.is_cheapest(outlay.cost));
+    write_line(&mut out, &[8, outlay.cost, bound.sum, bound.d, cheapest]);
     out
 }

@@ -1,14 +1,16 @@
 //! Lines of a text: their form, their numbering, and the kinds that both texts begin with
-//! (document 01, "Texts"; document 02, One, Four and Five).
+//! (document 01, "Texts"; document 02, One, Four, Five and Six).
 
 use crate::columns::{read_group, COLUMNS};
 use crate::job::{Head, Item, Job, HEAD_NUMBERS, ITEM_NUMBERS};
+use crate::layout::PLACEMENT_NUMBERS;
 use crate::limits::FORBIDDEN_LINE;
 use crate::plan_lines::PLAN_NUMBERS;
 use crate::refusal::{Refusal, NOT_OF_THE_FORM, OUTSIDE_LIMITS};
+use crate::size::{Size, SIZE_NUMBERS};
 
 /// The most numbers after the kind on a line.
-const MOST_VALUES: usize = 8;
+pub const MOST_VALUES: usize = PLACEMENT_NUMBERS;
 
 /// A line of the form: its number in the text, its kind, and the numbers after the kind, of which
 /// a kind uses as many as it has.
@@ -39,7 +41,8 @@ fn values_of_kind(kind: u32) -> Option<usize> {
         3 => Some(PLAN_NUMBERS),
         4 => Some(3),
         5 | 6 => Some(2),
-        7 => Some(8),
+        7 => Some(PLACEMENT_NUMBERS),
+        10 => Some(1 + SIZE_NUMBERS),
         _ => None,
     }
 }
@@ -95,11 +98,18 @@ impl<'a> Lines<'a> {
         }
     }
 
-    /// Reads the lines of kinds 1 and 2, with which both texts begin.
+    /// Reads the lines of kinds 1, 10 and 2, with which both texts begin.
     pub fn job(&mut self) -> Result<Job, Refusal> {
         let line = self.line_of(1)?;
         let head = Head::from_numbers(std::array::from_fn(|k| line.values[k]))
             .ok_or(line.outside_limits())?;
+        let mut sizes = Vec::with_capacity(usize::from(head.sizes));
+        for number in 0..head.sizes {
+            let line = self.running_line(10, u32::from(number))?;
+            let [_, width, height, cost, ..] = line.values;
+            let size = Size::from_numbers([width, height, cost]);
+            sizes.push(size.ok_or(line.outside_limits())?);
+        }
         let mut items = Vec::with_capacity(usize::from(head.types));
         for number in 1..=head.types {
             let line = self.running_line(2, u32::from(number))?;
@@ -107,7 +117,7 @@ impl<'a> Lines<'a> {
             let item = Item::from_numbers([width, height, demand, leave]);
             items.push(item.ok_or(line.outside_limits())?);
         }
-        Ok(Job::new(head, items))
+        Ok(Job::new(head, sizes, items))
     }
 }
 

@@ -1,5 +1,6 @@
 //! Unfolding: from the counts of a plan to the items' places on boards (document 01, "Unfolding"),
-//! and to the pieces left over (document 02, Two); residuals lie beyond the blade (Four).
+//! and to the pieces left over (document 02, Two); residuals lie beyond the blade (Four), and boards are
+//! opened size by size (Six).
 
 use crate::job::Job;
 use crate::layout::Placement;
@@ -7,13 +8,14 @@ use crate::listing::Listing;
 use crate::offcut::Offcut;
 
 /// The placements of an unfolding, each with the index (from 0) of the cut that it is from, the
-/// pieces left over in their order, the boards opened, and the counts that were not spent.
+/// pieces left over in their order, the size of each board opened, and the counts that were not
+/// spent.
 #[derive(Debug, Clone, PartialEq, Eq)]
 pub struct Unfolding {
     pub placements: Vec<Placement>,
     pub cuts: Vec<usize>,
     pub offcuts: Vec<Offcut>,
-    pub boards: u16,
+    pub sizes: Vec<u16>,
     pub left: Vec<u16>,
 }
 
@@ -46,10 +48,10 @@ struct Waiting {
 }
 
 impl Waiting {
-    /// A board just opened: one piece of type 0, and nothing else.
-    fn board() -> Waiting {
+    /// A board of a size just opened: one piece of the size's plate type, and nothing else.
+    fn board(size: u16) -> Waiting {
         let whole = Piece {
-            plate: 0,
+            plate: size,
             x: 0,
             y: 0,
         };
@@ -72,10 +74,11 @@ impl Waiting {
     }
 }
 
-/// Board, strip, stack and place of the item laid last.
+/// Board with its size, strip, stack and place of the item laid last.
 #[derive(Debug, Clone, Copy)]
 struct Turn {
     board: u16,
+    size: u16,
     strip: u16,
     stack: u16,
     place: u16,
@@ -93,32 +96,36 @@ impl Turn {
     }
 }
 
-/// Unfolds an accepted plan: opens boards one after another until the counts on type 0 are spent.
+/// Unfolds an accepted plan: size by size in rising number, opens boards of the size one after another
+/// until the counts on it are spent.
 pub fn unfold(job: &Job, listing: &Listing, counts: &[u16]) -> Unfolding {
     let mut unfolding = Unfolding {
         placements: Vec::new(),
         cuts: Vec::new(),
         offcuts: Vec::new(),
-        boards: 0,
+        sizes: Vec::new(),
         left: counts.to_vec(),
     };
-    while lowest_left(listing, &unfolding.left, 0).is_some() {
-        unfolding.boards += 1;
-        unfold_board(job, listing, &mut unfolding);
+    for size in 0..listing.sizes as u16 {
+        while lowest_left(listing, &unfolding.left, size).is_some() {
+            unfolding.sizes.push(size);
+            unfold_board(job, listing, size, &mut unfolding);
+        }
     }
     unfolding
 }
 
-/// Cuts up one board: the piece of the highest stage is taken until nothing waits; the lowest
+/// Cuts up one board of a size: the piece of the highest stage is taken until nothing waits; the lowest
 /// cut on its type with a count left is done, and without one the piece is left over, an offcut.
-fn unfold_board(job: &Job, listing: &Listing, unfolding: &mut Unfolding) {
+fn unfold_board(job: &Job, listing: &Listing, size: u16, unfolding: &mut Unfolding) {
     let mut turn = Turn {
-        board: unfolding.boards,
+        board: unfolding.sizes.len() as u16,
+        size,
         strip: 0,
         stack: 0,
         place: 0,
     };
-    let mut waiting = Waiting::board();
+    let mut waiting = Waiting::board(size);
     while let Some(piece) = waiting.take_highest() {
         let Some(index) = lowest_left(listing, &unfolding.left, piece.plate) else {
             unfolding.offcuts.push(piece.left_over(listing, turn.board));
@@ -130,6 +137,7 @@ fn unfold_board(job: &Job, listing: &Listing, unfolding: &mut Unfolding) {
         turn.advance(listing.plates[usize::from(piece.plate)].stage);
         unfolding.placements.push(Placement {
             board: turn.board,
+            size: turn.size,
             strip: turn.strip,
             stack: turn.stack,
             place: turn.place,

@@ -16,7 +16,7 @@ maxWord = 4294967295
 abbrev pub placeWord : ℕ → ℕ
 placeWord place = cond (ltb place maxWord) place maxWord
 
--- a value that the call does not have is 0
+-- accepted, with a first and a second value; or refused, with a number and a place
 abbrev pub answerWords : Answer → List ℕ
 answerWords (given results) = 0 ∷ getD results 0 0 ∷ getD results 1 0 ∷ []
 answerWords (refused number place) = number ∷ placeWord place ∷ 0 ∷ []

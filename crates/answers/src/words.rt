@@ -7,7 +7,7 @@ ghost use Rattle.answers.specs.AnswerWords.{placeWord, answerWords, four
 // The largest number of a word of 32 bits; `AnswerWords` has the same as `maxWord`.
 const MAX_WORD: u32 = 4294967295;
 
-// Accepted, with a first and a second value, which is 0 where the call has one value alone.
+// Accepted, with a first and a second value.
 pub fn accept(answer: &mut [u32; 3], first: u32, second: u32)
     ensures { λ _. ⌜ now (answer .exit) ≡ answerWords (given (first ∷ second ∷ [])) ⌝ }
 {

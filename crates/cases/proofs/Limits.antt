@@ -1,8 +1,8 @@
 -- The limits of words, by computation.
 use mathlib.Core.Path.{refl}
 use Rattle.cases.specs.Calls.{plates, cuts, counts, placements, offcuts, listing, plan, prices, unfolding′, folding}
-use Rattle.cases.specs.Jobs.{jobA, jobT, alone}
-use Rattle.cases.specs.Limits.{JobLimits, ModelLimits, PlanLimits, LayoutLimits, oneType, fortyTypes, fullDemands}
+use Rattle.cases.specs.Jobs.{jobA, alone}
+use Rattle.cases.specs.Limits.{JobLimits, ModelLimits, PlanLimits, LayoutLimits, oneType, fortyTypes, fullDemands, twoSizesT}
 use Rattle.cases.proofs.Opened.{computed}
 
 pub jobLimits : JobLimits
@@ -53,7 +53,7 @@ planLimits =
     }
 
 pub layoutLimits : LayoutLimits
-unfolding computed plates cuts counts folding jobA jobT
+unfolding computed plates cuts counts folding jobA twoSizesT
 layoutLimits =
     record {
       values-greatest = refl;
@@ -67,6 +67,7 @@ layoutLimits =
       place-high = refl;
       type-zero = refl;
       type-high = refl;
+      size-high = refl;
       x-high = refl;
       y-high = refl;
       lines-most = refl;

@@ -18,6 +18,6 @@ textFaults =
       lowest-not-rising = refl;
       plan-before-prices = refl;
       types-and-residuals = refl;
-      not-fewest = refl;
-      not-fewest-equal = refl;
+      not-cheapest = refl;
+      not-cheapest-equal = refl;
     }

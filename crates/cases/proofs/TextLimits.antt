@@ -11,6 +11,8 @@ jobLines =
     record {
       greatest = refl;
       greatest-fold = refl;
+      greatest-type = refl;
+      greatest-type-fold = refl;
       least = refl;
       least-fold = refl;
       stages-low = refl;
@@ -20,6 +22,10 @@ jobLines =
       width-high = refl;
       height-zero = refl;
       height-high = refl;
+      sizes-zero = refl;
+      sizes-high = refl;
+      cost-zero = refl;
+      cost-high = refl;
       types-zero = refl;
       types-high = refl;
       blade-high = refl;
@@ -66,6 +72,7 @@ foldLines =
       strip-high = refl;
       stack-high = refl;
       place-high = refl;
+      size-high = refl;
       y-high = refl;
       turn-high = refl;
     }
@@ -85,6 +92,7 @@ unfolding computed
 rooms =
     record {
       job-line = refl;
+      size-line = refl;
       type-line = refl;
       plan-line = refl;
       prices-line = refl;

@@ -10,5 +10,5 @@ unfoldOrder =
     record {
       highest-stage = refl;
       all-boards = refl;
-      boards-of-type-0 = refl;
+      boards-of-sizes = refl;
     }

@@ -11,7 +11,13 @@ use Rattle.cases.specs.Jobs.{job6, plan6}
 -- Table 4: six residual types after the board
 unfoldable pub plates6 : List ℕ
 plates6 =
-    6 ∷ 6 ∷ 1 ∷ 6 ∷ 3 ∷ 1 ∷ 2 ∷ 3 ∷ 2 ∷ 6 ∷ 4 ∷ 1 ∷ 4 ∷ 2 ∷ 2 ∷ 6 ∷ 2 ∷ 1 ∷ 2 ∷ 2 ∷ 2 ∷ []
+    (6 ∷ 6 ∷ 1 ∷ 1 ∷ [])
+    ++ (6 ∷ 3 ∷ 1 ∷ 0 ∷ [])
+    ++ (2 ∷ 3 ∷ 2 ∷ 0 ∷ [])
+    ++ (6 ∷ 4 ∷ 1 ∷ 0 ∷ [])
+    ++ (4 ∷ 2 ∷ 2 ∷ 0 ∷ [])
+    ++ (6 ∷ 2 ∷ 1 ∷ 0 ∷ [])
+    ++ (2 ∷ 2 ∷ 2 ∷ 0 ∷ [])
 
 -- Fig. 8: ten cuts
 unfoldable pub cuts6 : List ℕ
@@ -29,7 +35,7 @@ cuts6 =
 
 pub record Example : Type 0 where
   pub listed : listing job6 ≡ succeeds (6 ∷ 10 ∷ []) plates6 cuts6 []
-  pub accepted : plan job6 plan6 ≡ succeeds (3 ∷ []) plates6 cuts6 []
+  pub accepted : plan job6 plan6 ≡ succeeds (3 ∷ 3 ∷ []) plates6 cuts6 []
   -- three boards, ten pieces, every count spent
   pub unfolded : unfolding′ job6 plan6 .answer ≡ given (3 ∷ 10 ∷ 3 ∷ [])
   pub spent : unfoldingOf job6 plan6 .last .counts ≡ replicate 10 0

@@ -9,17 +9,17 @@ use Rattle.plan.specs.PriceCall.{priceAnswer}
 use Rattle.layouts.specs.UnfoldCall.{unfoldAnswer}
 use Rattle.layouts.specs.FoldCall.{foldAnswer}
 use Rattle.cases.specs.Calls.{plates, cuts, counts, listing, plan, prices, unfolding′, folding}
-use Rattle.cases.specs.Jobs.{jobA, jobB, linesA, alone}
+use Rattle.cases.specs.Jobs.{onBoard, jobA, jobB, linesA, alone}
 use Rattle.cases.specs.Readings.{jobE}
 use Rattle.cases.specs.Refusals.{shortPlates, shortCuts, shortCounts, shortPlacements}
 
 -- job words with stages 4
 unfoldable pub fourStages : List ℕ
-fourStages = 4 ∷ 0 ∷ 9 ∷ 7 ∷ 1 ∷ 0 ∷ 3 ∷ 3 ∷ 1 ∷ 0 ∷ []
+fourStages = onBoard 4 0 9 7 1 0 (3 ∷ 3 ∷ 1 ∷ 0 ∷ [])
 
 -- three item types, of which 2 and 3 are larger than the board
 unfoldable pub twoLarge : List ℕ
-twoLarge = 2 ∷ 0 ∷ 9 ∷ 7 ∷ 3 ∷ 0 ∷ 3 ∷ 3 ∷ 1 ∷ 0 ∷ 3 ∷ 8 ∷ 1 ∷ 0 ∷ 10 ∷ 3 ∷ 1 ∷ 0 ∷ []
+twoLarge = onBoard 2 0 9 7 3 0 (3 ∷ 3 ∷ 1 ∷ 0 ∷ 3 ∷ 8 ∷ 1 ∷ 0 ∷ 10 ∷ 3 ∷ 1 ∷ 0 ∷ [])
 
 -- the rows line, job and buffers
 pub record WordFaults : Type 0 where
@@ -56,45 +56,45 @@ pub record PlanFaults : Type 0 where
 
 -- on job A two items of 3 by 3 in one stack, which two stages do not allow, and a line past them that leaves strip 2 out
 unfoldable pub stackThenTurn : List ℕ
-stackThenTurn = (1 ∷ 1 ∷ 1 ∷ 1 ∷ 2 ∷ 0 ∷ 0 ∷ 0 ∷ []) ++ (1 ∷ 1 ∷ 1 ∷ 2 ∷ 2 ∷ 0 ∷ 3 ∷ 0 ∷ []) ++ (1 ∷ 3 ∷ 1 ∷ 1 ∷ 2 ∷ 0 ∷ 6 ∷ 0 ∷ [])
+stackThenTurn = (1 ∷ 0 ∷ 1 ∷ 1 ∷ 1 ∷ 2 ∷ 0 ∷ 0 ∷ 0 ∷ []) ++ (1 ∷ 0 ∷ 1 ∷ 1 ∷ 2 ∷ 2 ∷ 0 ∷ 3 ∷ 0 ∷ []) ++ (1 ∷ 0 ∷ 3 ∷ 1 ∷ 1 ∷ 2 ∷ 0 ∷ 6 ∷ 0 ∷ [])
 
 -- on job B a full board, its second stack of two items, and a strip above it
 unfoldable pub stripTooHigh : List ℕ
 stripTooHigh =
-    (1 ∷ 1 ∷ 1 ∷ 1 ∷ 1 ∷ 0 ∷ 0 ∷ 0 ∷ [])
-    ++ (1 ∷ 1 ∷ 2 ∷ 1 ∷ 2 ∷ 3 ∷ 0 ∷ 0 ∷ [])
-    ++ (1 ∷ 1 ∷ 2 ∷ 2 ∷ 2 ∷ 3 ∷ 2 ∷ 0 ∷ [])
-    ++ (1 ∷ 2 ∷ 1 ∷ 1 ∷ 2 ∷ 0 ∷ 5 ∷ 0 ∷ [])
+    (1 ∷ 0 ∷ 1 ∷ 1 ∷ 1 ∷ 1 ∷ 0 ∷ 0 ∷ 0 ∷ [])
+    ++ (1 ∷ 0 ∷ 1 ∷ 2 ∷ 1 ∷ 2 ∷ 3 ∷ 0 ∷ 0 ∷ [])
+    ++ (1 ∷ 0 ∷ 1 ∷ 2 ∷ 2 ∷ 2 ∷ 3 ∷ 2 ∷ 0 ∷ [])
+    ++ (1 ∷ 0 ∷ 2 ∷ 1 ∷ 1 ∷ 2 ∷ 0 ∷ 5 ∷ 0 ∷ [])
 
 -- on job A a first board too high by its second strip, and a second board too wide
 unfoldable pub highThenWide : List ℕ
 highThenWide =
-    (1 ∷ 1 ∷ 1 ∷ 1 ∷ 1 ∷ 0 ∷ 0 ∷ 0 ∷ [])
-    ++ (1 ∷ 2 ∷ 1 ∷ 1 ∷ 1 ∷ 0 ∷ 4 ∷ 0 ∷ [])
-    ++ (2 ∷ 1 ∷ 1 ∷ 1 ∷ 1 ∷ 0 ∷ 0 ∷ 0 ∷ [])
-    ++ (2 ∷ 1 ∷ 2 ∷ 1 ∷ 1 ∷ 5 ∷ 0 ∷ 0 ∷ [])
+    (1 ∷ 0 ∷ 1 ∷ 1 ∷ 1 ∷ 1 ∷ 0 ∷ 0 ∷ 0 ∷ [])
+    ++ (1 ∷ 0 ∷ 2 ∷ 1 ∷ 1 ∷ 1 ∷ 0 ∷ 4 ∷ 0 ∷ [])
+    ++ (2 ∷ 0 ∷ 1 ∷ 1 ∷ 1 ∷ 1 ∷ 0 ∷ 0 ∷ 0 ∷ [])
+    ++ (2 ∷ 0 ∷ 1 ∷ 2 ∷ 1 ∷ 1 ∷ 5 ∷ 0 ∷ 0 ∷ [])
 
 -- on job A two boards, each a stack of two items
 unfoldable pub twoStacks : List ℕ
 twoStacks =
-    (1 ∷ 1 ∷ 1 ∷ 1 ∷ 2 ∷ 0 ∷ 0 ∷ 0 ∷ [])
-    ++ (1 ∷ 2 ∷ 1 ∷ 1 ∷ 2 ∷ 0 ∷ 3 ∷ 0 ∷ [])
-    ++ (1 ∷ 2 ∷ 1 ∷ 2 ∷ 2 ∷ 0 ∷ 6 ∷ 0 ∷ [])
-    ++ (2 ∷ 1 ∷ 1 ∷ 1 ∷ 2 ∷ 0 ∷ 0 ∷ 0 ∷ [])
-    ++ (2 ∷ 1 ∷ 1 ∷ 2 ∷ 2 ∷ 0 ∷ 3 ∷ 0 ∷ [])
+    (1 ∷ 0 ∷ 1 ∷ 1 ∷ 1 ∷ 2 ∷ 0 ∷ 0 ∷ 0 ∷ [])
+    ++ (1 ∷ 0 ∷ 2 ∷ 1 ∷ 1 ∷ 2 ∷ 0 ∷ 3 ∷ 0 ∷ [])
+    ++ (1 ∷ 0 ∷ 2 ∷ 1 ∷ 2 ∷ 2 ∷ 0 ∷ 6 ∷ 0 ∷ [])
+    ++ (2 ∷ 0 ∷ 1 ∷ 1 ∷ 1 ∷ 2 ∷ 0 ∷ 0 ∷ 0 ∷ [])
+    ++ (2 ∷ 0 ∷ 1 ∷ 1 ∷ 2 ∷ 2 ∷ 0 ∷ 3 ∷ 0 ∷ [])
 
 -- the first line of job A's boards, and one line more, of item type 2
 unfoldable pub secondLine : ℕ → ℕ → ℕ → ℕ → List ℕ
-secondLine b s k p = (1 ∷ 1 ∷ 1 ∷ 1 ∷ 1 ∷ 0 ∷ 0 ∷ 0 ∷ []) ++ (b ∷ s ∷ k ∷ p ∷ 2 ∷ 0 ∷ 0 ∷ 0 ∷ [])
+secondLine b s k p = (1 ∷ 0 ∷ 1 ∷ 1 ∷ 1 ∷ 1 ∷ 0 ∷ 0 ∷ 0 ∷ []) ++ (b ∷ 0 ∷ s ∷ k ∷ p ∷ 2 ∷ 0 ∷ 0 ∷ 0 ∷ [])
 
 -- the row layouts
 pub record LayoutFaults : Type 0 where
   -- 16 before 15
   pub turn-before-stage : folding jobA stackThenTurn .answer ≡ refused 15 3
   -- a first line that is the second place, stack, strip or board
-  pub first-place : folding jobA (1 ∷ 1 ∷ 1 ∷ 2 ∷ 1 ∷ 0 ∷ 0 ∷ 0 ∷ []) .answer ≡ refused 15 1
-  pub first-strip : folding jobA (1 ∷ 2 ∷ 1 ∷ 1 ∷ 1 ∷ 0 ∷ 0 ∷ 0 ∷ []) .answer ≡ refused 15 1
-  pub first-board : folding jobA (2 ∷ 1 ∷ 1 ∷ 1 ∷ 1 ∷ 0 ∷ 0 ∷ 0 ∷ []) .answer ≡ refused 15 1
+  pub first-place : folding jobA (1 ∷ 0 ∷ 1 ∷ 1 ∷ 2 ∷ 1 ∷ 0 ∷ 0 ∷ 0 ∷ []) .answer ≡ refused 15 1
+  pub first-strip : folding jobA (1 ∷ 0 ∷ 2 ∷ 1 ∷ 1 ∷ 1 ∷ 0 ∷ 0 ∷ 0 ∷ []) .answer ≡ refused 15 1
+  pub first-board : folding jobA (2 ∷ 0 ∷ 1 ∷ 1 ∷ 1 ∷ 1 ∷ 0 ∷ 0 ∷ 0 ∷ []) .answer ≡ refused 15 1
   -- a line that is the same again, or leaves one out
   pub same-turn : folding jobA (secondLine 1 1 1 1) .answer ≡ refused 15 2
   pub place-left-out : folding jobA (secondLine 1 1 1 3) .answer ≡ refused 15 2
@@ -118,9 +118,9 @@ pub record LayoutFaults : Type 0 where
   pub lowest-past : folding jobA highThenWide .answer ≡ refused 17 2
   -- 18 that names the last line
   pub lowest-position :
-      folding jobA ((1 ∷ 1 ∷ 1 ∷ 1 ∷ 1 ∷ 0 ∷ 0 ∷ 0 ∷ []) ++ (1 ∷ 1 ∷ 2 ∷ 1 ∷ 2 ∷ 4 ∷ 0 ∷ 0 ∷ []) ++ (2 ∷ 1 ∷ 1 ∷ 1 ∷ 1 ∷ 0 ∷ 1 ∷ 0 ∷ [])) .answer
+      folding jobA ((1 ∷ 0 ∷ 1 ∷ 1 ∷ 1 ∷ 1 ∷ 0 ∷ 0 ∷ 0 ∷ []) ++ (1 ∷ 0 ∷ 1 ∷ 2 ∷ 1 ∷ 2 ∷ 4 ∷ 0 ∷ 0 ∷ []) ++ (2 ∷ 0 ∷ 1 ∷ 1 ∷ 1 ∷ 1 ∷ 0 ∷ 1 ∷ 0 ∷ [])) .answer
       ≡ refused 18 2
   -- 3E without its rule: a stack of 7 by 2 and above it 5 by 2
   pub widths-in-stack :
-      folding jobE ((1 ∷ 1 ∷ 1 ∷ 1 ∷ 1 ∷ 0 ∷ 0 ∷ 0 ∷ []) ++ (1 ∷ 1 ∷ 2 ∷ 1 ∷ 2 ∷ 2 ∷ 0 ∷ 0 ∷ []) ++ (1 ∷ 1 ∷ 2 ∷ 2 ∷ 3 ∷ 2 ∷ 2 ∷ 0 ∷ [])) .answer
+      folding jobE ((1 ∷ 0 ∷ 1 ∷ 1 ∷ 1 ∷ 1 ∷ 0 ∷ 0 ∷ 0 ∷ []) ++ (1 ∷ 0 ∷ 1 ∷ 2 ∷ 1 ∷ 2 ∷ 2 ∷ 0 ∷ 0 ∷ []) ++ (1 ∷ 0 ∷ 1 ∷ 2 ∷ 2 ∷ 3 ∷ 2 ∷ 2 ∷ 0 ∷ [])) .answer
       ≡ refused 16 1

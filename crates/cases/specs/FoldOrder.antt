@@ -4,11 +4,12 @@ use mathlib.Core.List.{List, [], _∷_, _++_}
 use Prim.Native.Nat.{ℕ}
 use Rattle.columns.specs.Line.{lineOf}
 use Rattle.texts.specs.FoldText.{foldText}
+use Rattle.cases.specs.TextsA.{headLines}
 
 -- 3N, 6 by 4: 2 by 4, 1 by 4 and 1 by 2, one of each
 unfoldable pub jobLinesH : List ℕ
 jobLinesH =
-    lineOf (1 ∷ 3 ∷ 0 ∷ 6 ∷ 4 ∷ 3 ∷ 0 ∷ [])
+    headLines 3 0 6 4 3 0
     ++ lineOf (2 ∷ 1 ∷ 2 ∷ 4 ∷ 1 ∷ 0 ∷ [])
     ++ lineOf (2 ∷ 2 ∷ 1 ∷ 4 ∷ 1 ∷ 0 ∷ [])
     ++ lineOf (2 ∷ 3 ∷ 1 ∷ 2 ∷ 1 ∷ 0 ∷ [])
@@ -16,7 +17,7 @@ jobLinesH =
 -- 3N, 5 by 4: 2 by 4 once, 2 by 1 and 2 by 2 once each
 unfoldable pub jobLinesI : List ℕ
 jobLinesI =
-    lineOf (1 ∷ 3 ∷ 0 ∷ 5 ∷ 4 ∷ 3 ∷ 0 ∷ [])
+    headLines 3 0 5 4 3 0
     ++ lineOf (2 ∷ 1 ∷ 2 ∷ 4 ∷ 1 ∷ 0 ∷ [])
     ++ lineOf (2 ∷ 2 ∷ 2 ∷ 1 ∷ 1 ∷ 0 ∷ [])
     ++ lineOf (2 ∷ 3 ∷ 2 ∷ 2 ∷ 1 ∷ 0 ∷ [])
@@ -24,7 +25,7 @@ jobLinesI =
 -- 2N, 6 by 4: 1 by 4 and 3 by 2, one of each
 unfoldable pub jobLinesK : List ℕ
 jobLinesK =
-    lineOf (1 ∷ 2 ∷ 0 ∷ 6 ∷ 4 ∷ 2 ∷ 0 ∷ [])
+    headLines 2 0 6 4 2 0
     ++ lineOf (2 ∷ 1 ∷ 1 ∷ 4 ∷ 1 ∷ 0 ∷ [])
     ++ lineOf (2 ∷ 2 ∷ 3 ∷ 2 ∷ 1 ∷ 0 ∷ [])
 
@@ -33,17 +34,17 @@ pub record FoldOrder : Type 0 where
   pub high-before-wide :
       foldText
       (jobLinesK
-      ++ lineOf (7 ∷ 1 ∷ 1 ∷ 1 ∷ 1 ∷ 2 ∷ 0 ∷ 0 ∷ 0 ∷ [])
-      ++ lineOf (7 ∷ 1 ∷ 1 ∷ 2 ∷ 1 ∷ 1 ∷ 3 ∷ 0 ∷ 0 ∷ []))
+      ++ lineOf (7 ∷ 1 ∷ 0 ∷ 1 ∷ 1 ∷ 1 ∷ 2 ∷ 0 ∷ 0 ∷ 0 ∷ [])
+      ++ lineOf (7 ∷ 1 ∷ 0 ∷ 1 ∷ 2 ∷ 1 ∷ 1 ∷ 3 ∷ 0 ∷ 0 ∷ []))
       ≡ lineOf (3 ∷ 0 ∷ 1 ∷ 1 ∷ 6 ∷ 4 ∷ 1 ∷ 0 ∷ [])
       ++ lineOf (3 ∷ 1 ∷ 2 ∷ 1 ∷ 5 ∷ 4 ∷ 2 ∷ 0 ∷ [])
   -- the rightmost stack of the strip's height moved to the front, or the widest, or the low stack left there: 1 by 2, then 1 by 4, then 2 by 4
   pub leftmost-to-front :
       foldText
       (jobLinesH
-      ++ lineOf (7 ∷ 1 ∷ 1 ∷ 1 ∷ 1 ∷ 3 ∷ 0 ∷ 0 ∷ 0 ∷ [])
-      ++ lineOf (7 ∷ 1 ∷ 1 ∷ 2 ∷ 1 ∷ 2 ∷ 1 ∷ 0 ∷ 0 ∷ [])
-      ++ lineOf (7 ∷ 1 ∷ 1 ∷ 3 ∷ 1 ∷ 1 ∷ 2 ∷ 0 ∷ 0 ∷ []))
+      ++ lineOf (7 ∷ 1 ∷ 0 ∷ 1 ∷ 1 ∷ 1 ∷ 3 ∷ 0 ∷ 0 ∷ 0 ∷ [])
+      ++ lineOf (7 ∷ 1 ∷ 0 ∷ 1 ∷ 2 ∷ 1 ∷ 2 ∷ 1 ∷ 0 ∷ 0 ∷ [])
+      ++ lineOf (7 ∷ 1 ∷ 0 ∷ 1 ∷ 3 ∷ 1 ∷ 1 ∷ 2 ∷ 0 ∷ 0 ∷ []))
       ≡ lineOf (3 ∷ 0 ∷ 2 ∷ 1 ∷ 6 ∷ 4 ∷ 1 ∷ 0 ∷ [])
       ++ lineOf (3 ∷ 1 ∷ 1 ∷ 1 ∷ 4 ∷ 4 ∷ 2 ∷ 0 ∷ [])
       ++ lineOf (3 ∷ 2 ∷ 3 ∷ 1 ∷ 5 ∷ 4 ∷ 2 ∷ 0 ∷ [])
@@ -51,10 +52,10 @@ pub record FoldOrder : Type 0 where
   pub single-to-front :
       foldText
       (jobLinesH
-      ++ lineOf (7 ∷ 1 ∷ 1 ∷ 1 ∷ 1 ∷ 3 ∷ 0 ∷ 0 ∷ 0 ∷ [])
-      ++ lineOf (7 ∷ 1 ∷ 1 ∷ 1 ∷ 2 ∷ 3 ∷ 0 ∷ 2 ∷ 0 ∷ [])
-      ++ lineOf (7 ∷ 1 ∷ 1 ∷ 2 ∷ 1 ∷ 2 ∷ 1 ∷ 0 ∷ 0 ∷ [])
-      ++ lineOf (7 ∷ 1 ∷ 1 ∷ 3 ∷ 1 ∷ 1 ∷ 2 ∷ 0 ∷ 0 ∷ []))
+      ++ lineOf (7 ∷ 1 ∷ 0 ∷ 1 ∷ 1 ∷ 1 ∷ 3 ∷ 0 ∷ 0 ∷ 0 ∷ [])
+      ++ lineOf (7 ∷ 1 ∷ 0 ∷ 1 ∷ 1 ∷ 2 ∷ 3 ∷ 0 ∷ 2 ∷ 0 ∷ [])
+      ++ lineOf (7 ∷ 1 ∷ 0 ∷ 1 ∷ 2 ∷ 1 ∷ 2 ∷ 1 ∷ 0 ∷ 0 ∷ [])
+      ++ lineOf (7 ∷ 1 ∷ 0 ∷ 1 ∷ 3 ∷ 1 ∷ 1 ∷ 2 ∷ 0 ∷ 0 ∷ []))
       ≡ lineOf (3 ∷ 0 ∷ 2 ∷ 1 ∷ 6 ∷ 4 ∷ 1 ∷ 0 ∷ [])
       ++ lineOf (3 ∷ 1 ∷ 1 ∷ 1 ∷ 4 ∷ 4 ∷ 2 ∷ 0 ∷ [])
       ++ lineOf (3 ∷ 2 ∷ 3 ∷ 1 ∷ 5 ∷ 4 ∷ 2 ∷ 0 ∷ [])
@@ -63,9 +64,9 @@ pub record FoldOrder : Type 0 where
   pub equally-wide :
       foldText
       (jobLinesI
-      ++ lineOf (7 ∷ 1 ∷ 1 ∷ 1 ∷ 1 ∷ 1 ∷ 0 ∷ 0 ∷ 0 ∷ [])
-      ++ lineOf (7 ∷ 1 ∷ 1 ∷ 2 ∷ 1 ∷ 2 ∷ 2 ∷ 0 ∷ 0 ∷ [])
-      ++ lineOf (7 ∷ 1 ∷ 1 ∷ 2 ∷ 2 ∷ 3 ∷ 2 ∷ 1 ∷ 0 ∷ []))
+      ++ lineOf (7 ∷ 1 ∷ 0 ∷ 1 ∷ 1 ∷ 1 ∷ 1 ∷ 0 ∷ 0 ∷ 0 ∷ [])
+      ++ lineOf (7 ∷ 1 ∷ 0 ∷ 1 ∷ 2 ∷ 1 ∷ 2 ∷ 2 ∷ 0 ∷ 0 ∷ [])
+      ++ lineOf (7 ∷ 1 ∷ 0 ∷ 1 ∷ 2 ∷ 2 ∷ 3 ∷ 2 ∷ 1 ∷ 0 ∷ []))
       ≡ lineOf (3 ∷ 0 ∷ 1 ∷ 1 ∷ 5 ∷ 4 ∷ 1 ∷ 0 ∷ [])
       ++ lineOf (3 ∷ 1 ∷ 2 ∷ 1 ∷ 3 ∷ 4 ∷ 2 ∷ 0 ∷ [])
       ++ lineOf (3 ∷ 6 ∷ 3 ∷ 1 ∷ 2 ∷ 3 ∷ 3 ∷ 0 ∷ [])

@@ -4,14 +4,15 @@ use mathlib.Core.List.{List, [], _∷_}
 use Prim.Native.Nat.{ℕ}
 use Rattle.job.specs.Buffers.{given}
 use Rattle.cases.specs.Calls.{listing}
+use Rattle.cases.specs.Jobs.{onBoard}
 
 -- 2N, 4 by 4: 2 by 4 and 2 by 2; at stage 2 the item of 2 by 2 leaves a height of 2 above it
 unfoldable pub lowStrip : List ℕ
-lowStrip = 2 ∷ 0 ∷ 4 ∷ 4 ∷ 2 ∷ 0 ∷ 2 ∷ 4 ∷ 1 ∷ 0 ∷ 2 ∷ 2 ∷ 1 ∷ 0 ∷ []
+lowStrip = onBoard 2 0 4 4 2 0 (2 ∷ 4 ∷ 1 ∷ 0 ∷ 2 ∷ 2 ∷ 1 ∷ 0 ∷ [])
 
 -- 3N, 7 by 5: 4 by 2, 3 by 5 and 2 by 2; at stage 3 the item of 2 by 2 leaves a width of 2 beside it
 unfoldable pub narrowStack : List ℕ
-narrowStack = 3 ∷ 0 ∷ 7 ∷ 5 ∷ 3 ∷ 0 ∷ 4 ∷ 2 ∷ 1 ∷ 0 ∷ 3 ∷ 5 ∷ 1 ∷ 0 ∷ 2 ∷ 2 ∷ 1 ∷ 0 ∷ []
+narrowStack = onBoard 3 0 7 5 3 0 (4 ∷ 2 ∷ 1 ∷ 0 ∷ 3 ∷ 5 ∷ 1 ∷ 0 ∷ 2 ∷ 2 ∷ 1 ∷ 0 ∷ [])
 
 pub record Leavings : Type 0 where
   -- a top of a two-stage strip that is kept: "what lies above is waste"

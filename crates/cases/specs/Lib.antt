@@ -27,3 +27,5 @@ pub mod Blade
 pub mod Swath
 pub mod BladeTexts
 pub mod ShownPlates
+pub mod BoardSizes
+pub mod BoardSizeTexts

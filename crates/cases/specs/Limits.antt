@@ -2,25 +2,29 @@
 -- They stand here as figures, not by the names that definitions give them; each field says what it shuts out.
 use Prim.Native.Nat.{ℕ}
 use mathlib.Core.Path.{_≡_}
-use mathlib.Core.List.{List, [], _∷_, _++_}
+use mathlib.Core.List.{List, [], _∷_}
 use lib.ListN.{replicate}
 use Rattle.job.specs.Buffers.{given, refused}
 use Rattle.job.specs.Job.{Job, jobOf}
 use Rattle.listing.specs.Listing.{going, stopped, walk, walkWithin, listingOf}
 use Rattle.cases.specs.Calls.{listing, plan, prices, unfolding′, folding}
-use Rattle.cases.specs.Jobs.{jobA, jobT, alone}
+use Rattle.cases.specs.Jobs.{jobFrom, onBoard, jobA, itemsT, alone}
 
 -- job words of one item type without leave and a blade of 0: stages, exact, W, H, and the type's width, height and demand
 unfoldable pub oneType : ℕ → ℕ → ℕ → ℕ → ℕ → ℕ → ℕ → List ℕ
-oneType stages exact w h wi hi d = stages ∷ exact ∷ w ∷ h ∷ 1 ∷ 0 ∷ wi ∷ hi ∷ d ∷ 0 ∷ []
+oneType stages exact w h wi hi d = onBoard stages exact w h 1 0 (wi ∷ hi ∷ d ∷ 0 ∷ [])
 
 -- 40 item types of 1 by 1 on a board of 1 by 1, each demanded once, with leave, which a square has no use of
 unfoldable pub fortyTypes : List ℕ
-fortyTypes = (2 ∷ 0 ∷ 1 ∷ 1 ∷ 40 ∷ 0 ∷ []) ++ replicate 160 1
+fortyTypes = onBoard 2 0 1 1 40 0 (replicate 160 1)
+
+-- job T on two sizes of 9 by 7
+unfoldable pub twoSizesT : List ℕ
+twoSizesT = jobFrom 2 0 2 2 0 (9 ∷ 7 ∷ 1 ∷ 9 ∷ 7 ∷ 1 ∷ []) itemsT
 
 -- two item types of the board's size, demanded 3,999 times and once
 unfoldable pub fullDemands : List ℕ
-fullDemands = 2 ∷ 0 ∷ 9 ∷ 7 ∷ 2 ∷ 0 ∷ 9 ∷ 7 ∷ 3999 ∷ 0 ∷ 9 ∷ 7 ∷ 1 ∷ 0 ∷ []
+fullDemands = onBoard 2 0 9 7 2 0 (9 ∷ 7 ∷ 3999 ∷ 0 ∷ 9 ∷ 7 ∷ 1 ∷ 0 ∷ [])
 
 -- "Board W by H, each 1 to 10,000. Item types 1 to n, n from 1 to 40, each with width, height (1 to 10,000) and demand (1 to 4,000)"
 pub record JobLimits : Type 0 where
@@ -49,11 +53,11 @@ pub record JobLimits : Type 0 where
   -- "the demands add up to at most 4,000": a limit of 3,999
   pub demands-greatest : listing fullDemands .answer ≡ given (0 ∷ 2 ∷ [])
 
--- "at most 2,048 plate types, type 0 among them, and 8,192 cuts"
+-- "at most 2,048 plate types, type 0 among them, and 8,192 cuts"; the sizes among them (request Six)
 pub record ModelLimits : Type 0 where
   -- limits of 2,047 or 2,049 plate types, of 8,191 or 8,193 cuts, or the two exchanged
   pub limits : (job : Job) → walk job ≡ walkWithin 2048 8192 job
-  -- a limit that is itself refused: job A has 6 plate types, type 0 among them, and 8 cuts
+  -- a limit that is itself refused: job A has 6 plate types, its size among them, and 8 cuts
   pub at-both-limits : walkWithin 6 8 (jobOf jobA) ≡ going (listingOf (jobOf jobA))
   -- "first met in the walk": always 7 first, or always 6; both limits are passed by job A, the plate types' by its first pair, the cuts' by its second
   pub types-met-first : walkWithin 2 7 (jobOf jobA) ≡ stopped 6
@@ -62,7 +66,7 @@ pub record ModelLimits : Type 0 where
 -- "a count for each cut, all together at most 4,000"; "a denominator D, 1 to 9,999, and a price 0 to 9,999"
 pub record PlanLimits : Type 0 where
   -- a total limit of 3,999, or of 4,001
-  pub total-greatest : plan (alone 9 7) (4000 ∷ []) .answer ≡ given (4000 ∷ [])
+  pub total-greatest : plan (alone 9 7) (4000 ∷ []) .answer ≡ given (4000 ∷ 4000 ∷ [])
   pub total-high : plan (alone 9 7) (4001 ∷ []) .answer ≡ refused 10 0
   -- the first word past the last cut, and the lowest of two
   pub past-last-first : plan jobA (0 ∷ 0 ∷ 0 ∷ 0 ∷ 0 ∷ 0 ∷ 0 ∷ 0 ∷ 1 ∷ 1 ∷ []) .answer ≡ refused 8 9
@@ -78,23 +82,25 @@ pub record PlanLimits : Type 0 where
 -- "board, strip, stack, place 1 to 4,000; x, y 0 to 10,000", "type 1 to n", "over 4,000 lines", of layout words
 pub record LayoutLimits : Type 0 where
   -- limits one lower: a line at all its highest values has no fault but its turn
-  pub values-greatest : folding jobA (4000 ∷ 4000 ∷ 4000 ∷ 4000 ∷ 2 ∷ 10000 ∷ 10000 ∷ 0 ∷ []) .answer ≡ refused 15 1
+  pub values-greatest : folding jobA (4000 ∷ 0 ∷ 4000 ∷ 4000 ∷ 4000 ∷ 2 ∷ 10000 ∷ 10000 ∷ 0 ∷ []) .answer ≡ refused 15 1
   -- a board, strip, stack or place 0
-  pub board-zero : folding jobA (0 ∷ 1 ∷ 1 ∷ 1 ∷ 1 ∷ 0 ∷ 0 ∷ 0 ∷ []) .answer ≡ refused 2 1
-  pub strip-zero : folding jobA (1 ∷ 0 ∷ 1 ∷ 1 ∷ 1 ∷ 0 ∷ 0 ∷ 0 ∷ []) .answer ≡ refused 2 1
-  pub stack-zero : folding jobA (1 ∷ 1 ∷ 0 ∷ 1 ∷ 1 ∷ 0 ∷ 0 ∷ 0 ∷ []) .answer ≡ refused 2 1
-  pub place-zero : folding jobA (1 ∷ 1 ∷ 1 ∷ 0 ∷ 1 ∷ 0 ∷ 0 ∷ 0 ∷ []) .answer ≡ refused 2 1
+  pub board-zero : folding jobA (0 ∷ 0 ∷ 1 ∷ 1 ∷ 1 ∷ 1 ∷ 0 ∷ 0 ∷ 0 ∷ []) .answer ≡ refused 2 1
+  pub strip-zero : folding jobA (1 ∷ 0 ∷ 0 ∷ 1 ∷ 1 ∷ 1 ∷ 0 ∷ 0 ∷ 0 ∷ []) .answer ≡ refused 2 1
+  pub stack-zero : folding jobA (1 ∷ 0 ∷ 1 ∷ 0 ∷ 1 ∷ 1 ∷ 0 ∷ 0 ∷ 0 ∷ []) .answer ≡ refused 2 1
+  pub place-zero : folding jobA (1 ∷ 0 ∷ 1 ∷ 1 ∷ 0 ∷ 1 ∷ 0 ∷ 0 ∷ 0 ∷ []) .answer ≡ refused 2 1
   -- a board, strip, stack or place 4,001
-  pub board-high : folding jobA (4001 ∷ 1 ∷ 1 ∷ 1 ∷ 1 ∷ 0 ∷ 0 ∷ 0 ∷ []) .answer ≡ refused 2 1
-  pub strip-high : folding jobA (1 ∷ 4001 ∷ 1 ∷ 1 ∷ 1 ∷ 0 ∷ 0 ∷ 0 ∷ []) .answer ≡ refused 2 1
-  pub stack-high : folding jobA (1 ∷ 1 ∷ 4001 ∷ 1 ∷ 1 ∷ 0 ∷ 0 ∷ 0 ∷ []) .answer ≡ refused 2 1
-  pub place-high : folding jobA (1 ∷ 1 ∷ 1 ∷ 4001 ∷ 1 ∷ 0 ∷ 0 ∷ 0 ∷ []) .answer ≡ refused 2 1
+  pub board-high : folding jobA (4001 ∷ 0 ∷ 1 ∷ 1 ∷ 1 ∷ 1 ∷ 0 ∷ 0 ∷ 0 ∷ []) .answer ≡ refused 2 1
+  pub strip-high : folding jobA (1 ∷ 0 ∷ 4001 ∷ 1 ∷ 1 ∷ 1 ∷ 0 ∷ 0 ∷ 0 ∷ []) .answer ≡ refused 2 1
+  pub stack-high : folding jobA (1 ∷ 0 ∷ 1 ∷ 4001 ∷ 1 ∷ 1 ∷ 0 ∷ 0 ∷ 0 ∷ []) .answer ≡ refused 2 1
+  pub place-high : folding jobA (1 ∷ 0 ∷ 1 ∷ 1 ∷ 4001 ∷ 1 ∷ 0 ∷ 0 ∷ 0 ∷ []) .answer ≡ refused 2 1
   -- a type 0, or n + 1
-  pub type-zero : folding jobA (1 ∷ 1 ∷ 1 ∷ 1 ∷ 0 ∷ 0 ∷ 0 ∷ 0 ∷ []) .answer ≡ refused 2 1
-  pub type-high : folding jobA (1 ∷ 1 ∷ 1 ∷ 1 ∷ 3 ∷ 0 ∷ 0 ∷ 0 ∷ []) .answer ≡ refused 2 1
+  pub type-zero : folding jobA (1 ∷ 0 ∷ 1 ∷ 1 ∷ 1 ∷ 0 ∷ 0 ∷ 0 ∷ 0 ∷ []) .answer ≡ refused 2 1
+  pub type-high : folding jobA (1 ∷ 0 ∷ 1 ∷ 1 ∷ 1 ∷ 3 ∷ 0 ∷ 0 ∷ 0 ∷ []) .answer ≡ refused 2 1
+  -- a size of t (request Six)
+  pub size-high : folding jobA (1 ∷ 1 ∷ 1 ∷ 1 ∷ 1 ∷ 1 ∷ 0 ∷ 0 ∷ 0 ∷ []) .answer ≡ refused 2 1
   -- an x or y of 10,001
-  pub x-high : folding jobA (1 ∷ 1 ∷ 1 ∷ 1 ∷ 1 ∷ 10001 ∷ 0 ∷ 0 ∷ []) .answer ≡ refused 2 1
-  pub y-high : folding jobA (1 ∷ 1 ∷ 1 ∷ 1 ∷ 1 ∷ 0 ∷ 10001 ∷ 0 ∷ []) .answer ≡ refused 2 1
+  pub x-high : folding jobA (1 ∷ 0 ∷ 1 ∷ 1 ∷ 1 ∷ 1 ∷ 10001 ∷ 0 ∷ 0 ∷ []) .answer ≡ refused 2 1
+  pub y-high : folding jobA (1 ∷ 0 ∷ 1 ∷ 1 ∷ 1 ∷ 1 ∷ 0 ∷ 10001 ∷ 0 ∷ []) .answer ≡ refused 2 1
   -- 10 from 4,000 lines on, or from 4,002; the place 0; 10 after 15, which the second line would be
-  pub lines-most : folding jobT (replicate 32000 1) .answer ≡ refused 15 2
-  pub lines-many : folding jobT (replicate 32008 1) .answer ≡ refused 10 0
+  pub lines-most : folding twoSizesT (replicate 36000 1) .answer ≡ refused 15 2
+  pub lines-many : folding twoSizesT (replicate 36009 1) .answer ≡ refused 10 0

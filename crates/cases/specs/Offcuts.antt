@@ -12,7 +12,7 @@ use Rattle.layouts.specs.Offcuts.{eventsOf, cutsOn, offcutsOf}
 use Rattle.layouts.specs.Balance.{itemsOn, offcutsOn, wasteBy, swathBy}
 use Rattle.layouts.specs.UnfoldCall.{unfoldVerdict, unfoldAnswer, offcutsEnd}
 use Rattle.cases.specs.Calls.{plates, cuts, placements, offcuts}
-use Rattle.cases.specs.Jobs.{jobA, planA, jobB, planB, jobT, alone}
+use Rattle.cases.specs.Jobs.{onBoard, jobA, planA, jobB, planB, jobT, alone}
 use Rattle.cases.specs.Readings.{jobC}
 use Rattle.cases.specs.Turned.{planT}
 
@@ -47,25 +47,25 @@ offcutsA a b c = (1 ∷ 6 ∷ 4 ∷ 3 ∷ 3 ∷ a ∷ []) ++ (2 ∷ 5 ∷ 0 ∷ 
 
 -- job A with no demand of type 1, and with item 1 of width 10
 unfoldable pub noDemand : List ℕ
-noDemand = 2 ∷ 0 ∷ 9 ∷ 7 ∷ 2 ∷ 0 ∷ 5 ∷ 4 ∷ 0 ∷ 0 ∷ 3 ∷ 3 ∷ 3 ∷ 0 ∷ []
+noDemand = onBoard 2 0 9 7 2 0 (5 ∷ 4 ∷ 0 ∷ 0 ∷ 3 ∷ 3 ∷ 3 ∷ 0 ∷ [])
 
 unfoldable pub wideItem : List ℕ
-wideItem = 2 ∷ 0 ∷ 9 ∷ 7 ∷ 2 ∷ 0 ∷ 10 ∷ 4 ∷ 2 ∷ 0 ∷ 3 ∷ 3 ∷ 3 ∷ 0 ∷ []
+wideItem = onBoard 2 0 9 7 2 0 (10 ∷ 4 ∷ 2 ∷ 0 ∷ 3 ∷ 3 ∷ 3 ∷ 0 ∷ [])
 
 -- 3N, 6 by 6: 2 by 4 and 2 by 2, once each; a plan that leaves a piece of each stage over
 unfoldable pub eachStage : List ℕ
-eachStage = 3 ∷ 0 ∷ 6 ∷ 6 ∷ 2 ∷ 0 ∷ 2 ∷ 4 ∷ 1 ∷ 0 ∷ 2 ∷ 2 ∷ 1 ∷ 0 ∷ []
+eachStage = onBoard 3 0 6 6 2 0 (2 ∷ 4 ∷ 1 ∷ 0 ∷ 2 ∷ 2 ∷ 1 ∷ 0 ∷ [])
 
 -- 3N, 6 by 6: 3 by 6, 3 by 2 and 2 by 2, once each; a plan of one strip, its second stack of 3 by 2 and above it 2 by 2
 unfoldable pub narrowAbove : List ℕ
-narrowAbove = 3 ∷ 0 ∷ 6 ∷ 6 ∷ 3 ∷ 0 ∷ 3 ∷ 6 ∷ 1 ∷ 0 ∷ 3 ∷ 2 ∷ 1 ∷ 0 ∷ 2 ∷ 2 ∷ 1 ∷ 0 ∷ []
+narrowAbove = onBoard 3 0 6 6 3 0 (3 ∷ 6 ∷ 1 ∷ 0 ∷ 3 ∷ 2 ∷ 1 ∷ 0 ∷ 2 ∷ 2 ∷ 1 ∷ 0 ∷ [])
 
 unfoldable pub narrowPlan : List ℕ
 narrowPlan = (1 ∷ 0 ∷ 0 ∷ 0 ∷ 1 ∷ []) ++ replicate 8 0 ++ (1 ∷ []) ++ replicate 7 0
 
 -- 2N, 2 by 2, 1 by 1 some times, and the plan that opens a board for each
 unfoldable pub ones : ℕ → List ℕ
-ones n = 2 ∷ 0 ∷ 2 ∷ 2 ∷ 1 ∷ 0 ∷ 1 ∷ 1 ∷ n ∷ 0 ∷ []
+ones n = onBoard 2 0 2 2 1 0 (1 ∷ 1 ∷ n ∷ 0 ∷ [])
 
 unfoldable pub apart : ℕ → List ℕ
 apart n = n ∷ 0 ∷ 0 ∷ []

@@ -18,13 +18,13 @@ use Rattle.cases.specs.TextsA.{jobLinesA, planLinesA, priceLinesA, print
 pub record Output : Type 0 where
   -- "Output, whole"
   pub printed : sawText (jobLinesA ++ planLinesA ++ priceLinesA) ≡ printedA ++ resultA
-  -- "without prices: sum 0, D 1, fewest 0"
+  -- "without prices: sum 0, D 1", and cheapest 0 (request Six)
   pub without-prices : sawText (jobLinesA ++ planLinesA) ≡ printedA ++ resultPlain
   -- the printed lines are a fold text, and give the plan's lines back
   pub folded-back : foldText (jobLinesA ++ printedA) ≡ planLinesA
   -- the same at the level of the calls
   pub unfolded : unfolding′ jobA planA ≡ succeeds (2 ∷ 5 ∷ 3 ∷ []) platesA cutsA (filled placementsSize linesA)
-  pub folded : folding jobA linesA ≡ succeeds (2 ∷ []) platesA cutsA (filled countsSize planA)
+  pub folded : folding jobA linesA ≡ succeeds (2 ∷ 2 ∷ []) platesA cutsA (filled countsSize planA)
   -- what demand 3 says of these layouts
   pub rules : layoutRules (jobOf jobA) (setOf linesA) ≡ true
   pub demands : meetsDemands (jobOf jobA) (setOf linesA) ≡ true

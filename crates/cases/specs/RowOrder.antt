@@ -32,18 +32,18 @@ fromTheTop [] = pass
 fromTheTop (pass ∷ rows) = fromTheTop rows
 fromTheTop (refuse number place ∷ rows) = refuse number place
 
--- the number of a text's first line after the job's: one line 1, and n lines 2
+-- the number of a text's first line after the job's: one line 1, t lines 10 (request Six), and n lines 2
 abbrev pub firstAfterJob : List ℕ → ℕ
-firstAfterJob ws = suc (suc (getD ws 4 0))
+firstAfterJob ws = suc (suc (getD ws 2 0 + getD ws 3 0))
 
 -- the numbers within each row
 pub record WithinRows : Type 0 where
-  -- job words: 1, then 2 of the board, then 2 of the types
+  -- job words: 1, then 2 of the head and the sizes (request Six), then 2 of the types
   pub job-words :
       (ws : List ℕ)
       → jobWords ws
       ≡ fromTheTop
-      (refuseIf (not (eqb (length ws) (6 + 4 * getD ws 4 0))) 1 0
+      (refuseIf (not (eqb (length ws) (5 + 3 * getD ws 2 0 + 4 * getD ws 3 0))) 1 0
       ∷ refuseIf (not (boardRight ws)) 2 0
       ∷ lowest 2 (λ _ it. not (itemRight it)) 1 (jobOf ws .items)
       ∷ [])
@@ -52,7 +52,7 @@ pub record WithinRows : Type 0 where
       (job : Job) (ws : List ℕ)
       → layoutWords job ws
       ≡ fromTheTop
-      (refuseIf (not (eqb (length ws % 8) 0)) 1 (suc (length ws / 8))
+      (refuseIf (not (eqb (length ws % 9) 0)) 1 (suc (length ws / 9))
       ∷ lowest 2 (λ _ r. not (rowRight job r)) 1 (linesIn ws)
       ∷ lowest 19 (λ _ r. not (permitted job (r .item))) 1 (rowsOf ws)
       ∷ [])
@@ -88,7 +88,7 @@ pub record WithinRows : Type 0 where
       ≡ fromTheTop
       (refuseIf (ltb 4000 (total ns)) 10 0
       ∷ lowest 11 (short l ns) 1 (job .items)
-      ∷ lowest 12 (overdrawn l ns) 1 (drop 1 (l .plates))
+      ∷ lowest 12 (overdrawn l ns) (l .sizes) (drop (l .sizes) (l .plates))
       ∷ [])
   -- the prices of a text: 13, 14
   pub prices :
@@ -96,7 +96,7 @@ pub record WithinRows : Type 0 where
       → priceLinesRow job l (some ps)
       ≡ fromTheTop
       (modelSized job l (ps .types) (ps .residuals)
-      ∷ lowest 14 (λ _ c. overLimit (pricesOf job (ps .words)) c) 1 (l .cuts)
+      ∷ lowest 14 (λ _ c. overLimit job (pricesOf job (ps .words)) c) 1 (l .cuts)
       ∷ [])
   -- "the layouts row runs 10, 15, 16, 17, 18, then 11", over lines that are numbered from k
   pub layouts :
@@ -120,7 +120,7 @@ pub record RowsOfCalls : Type 0 where
       ≡ fromTheTop
       (jobWords ws
       ∷ admission (jobOf ws)
-      ∷ sized 1 6144 plates
+      ∷ sized 1 8192 plates
       ∷ sized 2 32768 cuts
       ∷ modelRow (jobOf ws)
       ∷ [])
@@ -131,7 +131,7 @@ pub record RowsOfCalls : Type 0 where
       ≡ fromTheTop
       (jobWords ws
       ∷ admission (jobOf ws)
-      ∷ sized 1 6144 plates
+      ∷ sized 1 8192 plates
       ∷ sized 2 32768 cuts
       ∷ sized 3 8192 counts
       ∷ modelRow (jobOf ws)
@@ -146,11 +146,11 @@ pub record RowsOfCalls : Type 0 where
       (jobWords ws
       ∷ priceWords prices
       ∷ admission (jobOf ws)
-      ∷ sized 1 6144 plates
+      ∷ sized 1 8192 plates
       ∷ sized 2 32768 cuts
       ∷ modelRow (jobOf ws)
       ∷ pricesSized (jobOf ws) (listingOf (jobOf ws)) prices
-      ∷ pricesRow (listingOf (jobOf ws)) (pricesOf (jobOf ws) prices)
+      ∷ pricesRow (jobOf ws) (listingOf (jobOf ws)) (pricesOf (jobOf ws) prices)
       ∷ [])
   -- as the plan test, with request Two's lengths in the line row, after the job's words, and buffers 4 and 5
   pub unfolding′ :
@@ -160,10 +160,10 @@ pub record RowsOfCalls : Type 0 where
       (jobWords ws
       ∷ lengthsRow first second
       ∷ admission (jobOf ws)
-      ∷ sized 1 6144 plates
+      ∷ sized 1 8192 plates
       ∷ sized 2 32768 cuts
       ∷ sized 3 8192 counts
-      ∷ sized 4 32000 placements
+      ∷ sized 4 36000 placements
       ∷ sized 5 48000 offcuts
       ∷ modelRow (jobOf ws)
       ∷ countsRow (listingOf (jobOf ws)) counts
@@ -177,7 +177,7 @@ pub record RowsOfCalls : Type 0 where
       (jobWords ws
       ∷ layoutWords (jobOf ws) layouts
       ∷ admission (jobOf ws)
-      ∷ sized 1 6144 plates
+      ∷ sized 1 8192 plates
       ∷ sized 2 32768 cuts
       ∷ sized 3 8192 counts
       ∷ modelRow (jobOf ws)

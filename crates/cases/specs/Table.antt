@@ -9,9 +9,9 @@ pub record Table : Type 0 where
   -- job A: 5 residual types, 8 cuts
   pub a : listing jobA ≡ succeeds (5 ∷ 8 ∷ []) platesA cutsA []
   -- its plan: 2 boards
-  pub b : plan jobA planA ≡ succeeds (2 ∷ []) platesA cutsA []
+  pub b : plan jobA planA ≡ succeeds (2 ∷ 2 ∷ []) platesA cutsA []
   -- cut 4 at 2: accepted; at 3: 12, plate 2
-  pub c : plan jobA (2 ∷ 0 ∷ 1 ∷ 2 ∷ 0 ∷ 0 ∷ 1 ∷ 0 ∷ []) ≡ succeeds (2 ∷ []) platesA cutsA []
+  pub c : plan jobA (2 ∷ 0 ∷ 1 ∷ 2 ∷ 0 ∷ 0 ∷ 1 ∷ 0 ∷ []) ≡ succeeds (2 ∷ 2 ∷ []) platesA cutsA []
   pub d : plan jobA (2 ∷ 0 ∷ 1 ∷ 3 ∷ 0 ∷ 0 ∷ 1 ∷ 0 ∷ []) ≡ refuses 12 2 []
   -- cuts 1, 4, 7 at 2, 2, 1 alone: 12, plate 4
   pub e : plan jobA (2 ∷ 0 ∷ 0 ∷ 2 ∷ 0 ∷ 0 ∷ 1 ∷ 0 ∷ []) ≡ refuses 12 4 []
@@ -30,5 +30,5 @@ pub record Table : Type 0 where
   -- counts 1 0 1 0 0 1: one board, positions (0,0), (3,0), (3,2)
   pub l : unfolding′ jobB planB ≡ succeeds (1 ∷ 3 ∷ 0 ∷ []) platesB cutsB (filled placementsSize linesB)
   -- an item of 9 by 7 on job A's board is admitted; one of 10 by 7 is 3
-  pub m : listing (alone 9 7) ≡ succeeds (0 ∷ 1 ∷ []) (9 ∷ 7 ∷ 1 ∷ []) (0 ∷ 2 ∷ 0 ∷ 0 ∷ []) []
+  pub m : listing (alone 9 7) ≡ succeeds (0 ∷ 1 ∷ []) (9 ∷ 7 ∷ 1 ∷ 1 ∷ []) (0 ∷ 2 ∷ 0 ∷ 0 ∷ []) []
   pub m-larger : listing (alone 10 7) ≡ refuses 3 1 []

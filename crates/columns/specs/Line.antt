@@ -49,7 +49,7 @@ unfoldable pub readLine : List ℕ → Option (List ℕ)
 readLine bs =
     let k = length bs / groupBytes in elim (eqb (length bs) (lineBytes k)) [ true ↦ numbersOf k bs | false ↦ none ]
 
--- the answer of `line_at`: the numbers, then zeros up to nine; all zeros where there are none
+-- the answer of `line_at`: the numbers, then zeros up to ten; all zeros where there are none
 abbrev pub malformedLine : Line
 malformedLine = record { good = false; numbers = replicate mostNumbers 0 }
 
@@ -57,8 +57,8 @@ abbrev pub lineFrom : Option (List ℕ) → Line
 lineFrom (some ns) = record { good = true; numbers = ns ++ replicate (mostNumbers - length ns) 0 }
 lineFrom none = malformedLine
 
--- what `complete_line` says of bytes bs: the line that they begin with has k numbers, at most nine, which stand in an array before what was behind them; or
--- they begin with the line of no number of numbers up to nine
+-- what `complete_line` says of bytes bs: the line that they begin with has k numbers, at most ten, which stand in an array before what was behind them; or
+-- they begin with the line of no number of numbers up to ten
 abbrev pub CompleteAs : List ℕ → List ℕ → List ℕ → Complete → Type 0
 CompleteAs bs before after (Numbers k) =
     (k ≤ mostNumbers) × ((ns : List ℕ) × (numbersOf k bs ≡ some ns) × (after ≡ ns ++ drop k before))

@@ -13,7 +13,7 @@ groupBytes = leadBytes + 1
 
 -- the most numbers of a line, those of kind 7
 abbrev pub mostNumbers : ℕ
-mostNumbers = 9
+mostNumbers = 10
 
 -- the bytes of a line of k numbers, byte 10 included
 abbrev pub lineBytes : ℕ → ℕ

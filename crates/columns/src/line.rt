@@ -17,7 +17,7 @@ pub struct Line {
     pub numbers: [u32; MOST_NUMBERS],
 }
 
-// How many numbers the line has that stands at a position; or no line of at most nine numbers stands there.
+// How many numbers the line has that stands at a position; or no line of at most ten numbers stands there.
 pub enum Complete {
     Numbers(usize),
     Nothing,

@@ -10,4 +10,4 @@ pub const LEAD: usize = GROUP - 1;
 pub const FRONT: usize = LEAD / 2;
 
 // The most numbers of a line.
-pub const MOST_NUMBERS: usize = 9;
+pub const MOST_NUMBERS: usize = 10;

@@ -8,7 +8,7 @@ use lib.ListN.{length}
 use Rattle.job.specs.Sizes.{maxPieces, wordsOfPlacement}
 use Rattle.job.specs.Verdict.{Verdict, refuse, refuseIf, lowest}
 use Rattle.job.specs.Job.{Job, permitted}
-use Rattle.layouts.specs.Placement.{Turn, turn, Placement, linesOf}
+use Rattle.layouts.specs.Placement.{Turn, opened, turn, Placement, linesOf}
 use Rattle.layouts.specs.Lines.{linesIn, rowsOf, layoutWords, rowRight, sameTurn, follows, inTurn, turns, grouped}
 use Rattle.layouts.specs.LayoutsRow.{Laid, laidSet, lowestStrip, breaksStage, pastBoard, positioned, lacks, layoutsRow}
 use Rattle.engine.proofs.Numbers.{Above, above-pass, above-refuse, above-if, above-then, above-lowest}
@@ -30,7 +30,7 @@ in-turn-above k t (r ∷ rs) = refused-where-false (follows t (r .turn)) 15 k (o
 turns-above : (k : ℕ) (rs : List Placement) → Above (turns k rs)
 unfolding turns
 turns-above k [] = above-pass
-turns-above k (r ∷ rs) = refused-where-false (sameTurn (r .turn) (turn 1 1 1 1)) 15 k (omega arith) (in-turn-above (suc k) (r .turn) rs)
+turns-above k (r ∷ rs) = refused-where-false (sameTurn (r .turn) (turn (opened 1 (r .turn .board .size)) 1 1 1)) 15 k (omega arith) (in-turn-above (suc k) (r .turn) rs)
 
 strips-above : (number : ℕ) (bad : Laid → Bool) (ss : List Laid) → 1 ≤ number → Above (lowestStrip number bad ss)
 unfolding lowestStrip

@@ -50,7 +50,7 @@ module _ {A : Type 0} where
 pub words-above : (ws : List ℕ) → Above (jobWords ws)
 unfolding jobWords
 words-above ws =
-    let wrong-length = not (eqb (length ws) (jobSize (getD ws 4 0))) in
+    let wrong-length = not (eqb (length ws) (jobSize (getD ws 2 0) (getD ws 3 0))) in
     let types = lowest 2 (λ _ it. not (itemRight it)) 1 (jobOf ws .items) in
     above-then (refuseIf wrong-length 1 0) (refuseIf (not (boardRight ws)) 2 0 then types) (above-if wrong-length 1 0 (omega arith))
     (above-then (refuseIf (not (boardRight ws)) 2 0) types (above-if (not (boardRight ws)) 2 0 (omega arith)) (above-lowest 2 _ 1 (jobOf ws .items) (omega arith)))
@@ -81,10 +81,10 @@ pub plan-above : (job : Job) (l : Listing) (ns : List ℕ) → Above (countsRow 
 unfolding countsRow planRow
 plan-above job l ns =
     let short-row = lowest 11 (short l ns) 1 (job .items) in
-    let overdrawn-row = lowest 12 (overdrawn l ns) 1 (drop 1 (l .plates)) in
+    let overdrawn-row = lowest 12 (overdrawn l ns) (l .sizes) (drop (l .sizes) (l .plates)) in
     above-then (countsRow l ns) (planRow job l ns) (above-lowest 8 _ _ _ (omega arith))
     (above-then (refuseIf (ltb maxPieces (total ns)) 10 0) (short-row then overdrawn-row) (above-if (ltb maxPieces (total ns)) 10 0 (omega arith))
-    (above-then short-row overdrawn-row (above-lowest 11 (short l ns) 1 (job .items) (omega arith)) (above-lowest 12 (overdrawn l ns) 1 (drop 1 (l .plates)) (omega arith))))
+    (above-then short-row overdrawn-row (above-lowest 11 (short l ns) 1 (job .items) (omega arith)) (above-lowest 12 (overdrawn l ns) (l .sizes) (drop (l .sizes) (l .plates)) (omega arith))))
 
 pub price-words-above : (ws : List ℕ) → Above (priceWords ws)
 unfolding priceWords
@@ -94,9 +94,9 @@ price-words-above (d ∷ prices) =
     let high = lowest 2 (λ _ price. ltb maxPrice price) 2 prices in
     above-then (refuseIf out 2 1) high (above-if out 2 1 (omega arith)) (above-lowest 2 _ 2 prices (omega arith))
 
-pub prices-above : (job : Job) (l : Listing) (ws : List ℕ) (ps : Prices) → Above (pricesSized job l ws then pricesRow l ps)
+pub prices-above : (job : Job) (l : Listing) (ws : List ℕ) (ps : Prices) → Above (pricesSized job l ws then pricesRow job l ps)
 unfolding pricesSized pricesRow
 prices-above job l ws ps =
-    above-then (pricesSized job l ws) (pricesRow l ps)
+    above-then (pricesSized job l ws) (pricesRow job l ps)
     (above-if (not (eqb (length ws) (1 + length (job .items) + residualTypes l))) 13 0 (omega arith))
     (above-lowest 14 _ 1 (l .cuts) (omega arith))

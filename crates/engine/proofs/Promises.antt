@@ -2,14 +2,17 @@
 use mathlib.Core.Path.{_≡_, refl, ap}
 use mathlib.Core.Logic.{_↔_}
 use mathlib.Core.List.{List, [], _∷_}
-use Prim.Native.Nat.{ℕ}
+use Prim.Native.Nat.{ℕ, _≤_}
 use native.Mathlib.Omega.{arith}
-use lib.ListN.{getD}
-use Rattle.job.specs.Sizes.{platesSize, cutsSize, countsSize, placementsSize, offcutsSize}
+use lib.ListN.{length, getD}
+use Rattle.job.specs.Sizes.{wordsOfHead, platesSize, cutsSize, countsSize, placementsSize, offcutsSize}
 use Rattle.job.specs.Verdict.{Verdict, pass, refuse}
 use Rattle.job.specs.Buffers.{given, refused, answer, sized}
 use Rattle.job.specs.Job.{jobOf, jobWords, admission}
-use Rattle.job.proofs.CodeEnds.{refused-not, refused-refuse}
+use Rattle.job.proofs.Verdicts.{then-first}
+use Rattle.job.proofs.SizeWords.{sizes-length}
+use Rattle.job.proofs.CodeAdmission.{passed-length}
+use Rattle.job.proofs.CodeEnds.{refused-not, refused-refuse, given-pass}
 use Rattle.job.proofs.Decides.{Passes}
 use Rattle.listing.specs.Listing.{modelRow, listingOf}
 use Rattle.listing.specs.ListCall.{listVerdict, listAnswer}
@@ -76,6 +79,17 @@ module _ (ws plates cuts : List ℕ) where
   pub list-refused : (words : List ℕ) {number place : ℕ} → refused number place ≡ listAnswer ws plates cuts → words ≡ answerWords (refused number place) → WordsAccept words → ⊥
   unfolding listAnswer
   list-refused words e w = none-refused (listVerdict ws plates cuts) _ words list-above e (first-word w)
+
+  -- where it is accepted, the job's words have passed: the head has its words, and there are as many sizes as it says
+  list-words : (results : List ℕ) → given results ≡ listAnswer ws plates cuts → jobWords ws ≡ pass
+  unfolding listAnswer listVerdict
+  list-words results e = then-first (jobWords ws) _ (given-pass (listVerdict ws plates cuts) _ e)
+
+  pub list-head : (results : List ℕ) → given results ≡ listAnswer ws plates cuts → wordsOfHead ≤ length ws
+  list-head results e = omega (arith, passed-length ws (list-words results e))
+
+  pub list-sizes : (results : List ℕ) → given results ≡ listAnswer ws plates cuts → length (jobOf ws .sizes) ≡ getD ws 2 0
+  list-sizes results e = sizes-length ws (omega (arith, passed-length ws (list-words results e)))
 
 module _ (ws counts plates cuts : List ℕ) where
   test-above : Above (planVerdict ws counts plates cuts)
@@ -166,5 +180,5 @@ module _ (ws layouts plates cuts counts : List ℕ) where
   fold-refused words e w = none-refused (foldVerdict ws layouts plates cuts counts) _ words fold-above e (first-word w)
 
 -- the folding's promise, where it accepts
-pub fold-accepted : (words : List ℕ) (r : FoldAnswer) {n : ℕ} (promise : ℕ → Type 0) → r ≡ Folded n → OnFolded r promise → words ≡ answerWords (given (n ∷ 0 ∷ [])) → WhereAccepted words (λ boards _. promise boards)
+pub fold-accepted : (words : List ℕ) (r : FoldAnswer) {n cost : ℕ} (promise : ℕ → ℕ → Type 0) → r ≡ Folded n cost → OnFolded r promise → words ≡ answerWords (given (n ∷ cost ∷ [])) → WhereAccepted words promise
 fold-accepted words r promise told h w = rw w (λ zero. rw told at h)

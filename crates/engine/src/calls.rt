@@ -19,6 +19,7 @@ use answers::words::refuse;
 use answers::words::refuse_four;
 use fold_call::call::FoldAnswer;
 use fold_call::call::fold;
+use job::head::head_of;
 use listing_call::call::Listed;
 use listing_call::call::list;
 use plan_test::call::test_plan;
@@ -38,14 +39,15 @@ pub extern "C" fn saw_list(job: &[u16], plates: &mut [u16], cuts: &mut [u16], an
 {
     match list(job, plates, cuts) {
         Listed::Done(m, k) => {
-            let residuals = m.residuals();
+            let head = head_of(job);
+            let residuals = m.residuals(head.sizes);
             accept(answer, residuals as u32, k.0 as u32)
         }
         Listed::Refused(number, place) => refuse(answer, number, place),
     }
 }
 
-// The plan test: the value is the number of boards. It accepts exactly where all that `PlanRight` names is right.
+// The plan test: the values are the number of boards and their cost. It accepts exactly where all that `PlanRight` names is right.
 #[no_mangle]
 pub extern "C" fn saw_test_plan(
     job: &[u16],
@@ -60,13 +62,13 @@ pub extern "C" fn saw_test_plan(
     ensures { λ _. ⌜ WordsAccept (now (answer .exit)) ↔ PlanRight (now (job .entry)) (now (counts .entry)) (now (plates .entry)) (now (cuts .entry)) ⌝ }
 {
     match test_plan(job, counts, plates, cuts) {
-        PlanAnswer::Accepted(boards) => accept(answer, boards as u32, 0),
+        PlanAnswer::Accepted(boards, cost) => accept(answer, boards as u32, cost),
         PlanAnswer::Refused(number, place) => refuse(answer, number, place),
     }
 }
 
 // The price test: the values are the sum of price times demand and D. It accepts exactly where all that `PricesRight` names is right; then the values bound
-// every set of layouts, by demand 3.
+// the cost of every set of layouts, by demand 3.
 #[no_mangle]
 pub extern "C" fn saw_test_prices(
     job: &[u16],
@@ -126,7 +128,7 @@ pub extern "C" fn saw_unfold(
     }
 }
 
-// The folding call: the value is the number of boards. Where it is accepted the value, the layouts and the counts are what
+// The folding call: the values are the number of boards and their cost. Where it is accepted the values, the layouts and the counts are what
 // demand 3 says.
 #[no_mangle]
 pub extern "C" fn saw_fold(
@@ -141,10 +143,10 @@ pub extern "C" fn saw_fold(
     ensures { λ _. ⌜ now (plates .exit) ≡ platesEnd (foldVerdict (now (job .entry)) (now (layouts .entry)) (now (plates .entry)) (now (cuts .entry)) (now (counts .entry))) (now (job .entry)) (now (plates .entry)) ⌝ }
     ensures { λ _. ⌜ now (cuts .exit) ≡ cutsEnd (foldVerdict (now (job .entry)) (now (layouts .entry)) (now (plates .entry)) (now (cuts .entry)) (now (counts .entry))) (now (job .entry)) (now (cuts .entry)) ⌝ }
     ensures { λ _. ⌜ now (counts .exit) ≡ countsEnd (foldVerdict (now (job .entry)) (now (layouts .entry)) (now (plates .entry)) (now (cuts .entry)) (now (counts .entry))) (now (job .entry)) (now (layouts .entry)) (now (counts .entry)) ⌝ }
-    ensures { λ _. ⌜ WhereAccepted (now (answer .exit)) (λ boards _. FoldPromise (now (job .entry)) (now (layouts .entry)) (now (counts .exit)) boards) ⌝ }
+    ensures { λ _. ⌜ WhereAccepted (now (answer .exit)) (FoldPromise (now (job .entry)) (now (layouts .entry)) (now (counts .exit))) ⌝ }
 {
     match fold(job, layouts, plates, cuts, counts) {
-        FoldAnswer::Folded(boards) => accept(answer, boards as u32, 0),
+        FoldAnswer::Folded(boards, cost) => accept(answer, boards as u32, cost),
         FoldAnswer::Refused(number, place) => refuse(answer, number, place),
     }
 }

@@ -11,7 +11,7 @@ use job::sizes::PLACEMENTS_SIZE;
 use job::sizes::PLATES_SIZE;
 use job::sizes::PRICES_SIZE;
 
-// The saw text: lines 7 and line 8, or line 9. The longest answer has 328,046 bytes.
+// The saw text: lines 7 and line 8, or line 9. The longest answer has 364,046 bytes.
 #[no_mangle]
 pub extern "C" fn saw_text(text: &[u8], out: &mut [u8]) -> usize
     ensures { λ n. ⌜ TextAnswer longestSaw (sawText (now (text .entry))) (now (out .entry)) n (now (out .exit)) ⌝ }

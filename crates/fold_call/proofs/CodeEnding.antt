@@ -18,7 +18,7 @@ use Rattle.listing.specs.Listing.{modelRow, listingOf}
 use Rattle.listing.specs.ListCall.{platesEnd, cutsEnd}
 use Rattle.listing.proofs.Limits.{model-not5}
 use Rattle.listing_call.proofs.CodeEnding.{Left}
-use Rattle.layouts.specs.Placement.{Turn, Placement, linesOf}
+use Rattle.layouts.specs.Placement.{opened, Turn, turn, Placement, linesOf, setCost}
 use Rattle.layouts.specs.Lines.{rowsOf, layoutWords, sameTurn, follows, inTurn, turns, grouped, setOf}
 use Rattle.layouts.specs.LayoutsRow.{Laid, laidSet, lowestStrip, breaksStage, pastBoard, positioned, lacks, layoutsRow}
 use Rattle.layouts.specs.Fold.{setCuts, folded}
@@ -30,7 +30,7 @@ use Rattle.fold_call.specs.declared.call.FoldAnswer.{FoldAnswer}
 use Rattle.fold_call.specs.declared.call.FoldAnswer.the-variants.{Folded, Refused}
 use Rattle.fold_call.specs.FoldSays.{saysOf, OnSuccess, foldTail, Ended}
 use Rattle.fold_call.proofs.Passed.{words-passed, job-passed, listed-model}
-use Rattle.fold_call.proofs.Filling.{filled-count, filled-boards, filled-accepted}
+use Rattle.fold_call.proofs.Filling.{filled-count, filled-boards, filled-each, filled-cost, filled-accepted}
 
 -- the checks of the layouts row do not refuse with 5
 in-turn-not5 : (k : ℕ) (t : Turn) (rs : List Placement) → Not5 (inTurn k t rs)
@@ -45,7 +45,7 @@ in-turn-not5 k t (r ∷ rs) = go (follows t (r .turn)) (in-turn-not5 (suc k) (r 
 turns-not5 : (k : ℕ) (rs : List Placement) → Not5 (turns k rs)
 unfolding turns
 turns-not5 k [] = not5-pass
-turns-not5 k (r ∷ rs) = go (sameTurn (r .turn) (record { board = 1; strip = 1; stack = 1; place = 1 })) (in-turn-not5 (suc k) (r .turn) rs)
+turns-not5 k (r ∷ rs) = go (sameTurn (r .turn) (turn (opened 1 (r .turn .board .size)) 1 1 1)) (in-turn-not5 (suc k) (r .turn) rs)
   where
     go : (b : Bool) → Not5 (inTurn (suc k) (r .turn) rs) → Not5 (elim b [ false ↦ refuse 15 k | true ↦ inTurn (suc k) (r .turn) rs ])
     go true n = n
@@ -116,10 +116,10 @@ module _ (ws layouts plates cuts counts : List ℕ) where
           cleared-end plates′ cuts′ counts′ (foldTail (jobOf ws) layouts) (rw model e) (rw model (row-not5 (jobOf ws) (rowsOf layouts)))
 
       -- every row passes
-      pub row-passed : {n : ℕ} → row ≡ pass → n ≡ length (setOf layouts) → plates′ ≡ platesEnd (modelRow (jobOf ws)) ws plates → cuts′ ≡ cutsEnd (modelRow (jobOf ws)) ws cuts → counts′ ≡ filled (length counts) (folded (jobOf ws) (listingOf (jobOf ws)) (setOf layouts)) → Ended (foldTail (jobOf ws) layouts) ws layouts plates cuts counts (given (n ∷ [])) plates′ cuts′ counts′
+      pub row-passed : {n cost : ℕ} → row ≡ pass → n ≡ length (setOf layouts) → cost ≡ setCost (jobOf ws) (setOf layouts) → plates′ ≡ platesEnd (modelRow (jobOf ws)) ws plates → cuts′ ≡ cutsEnd (modelRow (jobOf ws)) ws cuts → counts′ ≡ filled (length counts) (folded (jobOf ws) (listingOf (jobOf ws)) (setOf layouts)) → Ended (foldTail (jobOf ws) layouts) ws layouts plates cuts counts (given (n ∷ cost ∷ [])) plates′ cuts′ counts′
       unfolding countsEnd
-      row-passed e a p c q =
-          rw (model, e) (record { answered = rw a; plates-end = rw model at p; cuts-end = rw model at c; counts-end = q })
+      row-passed e a b p c q =
+          rw (model, e) (record { answered = rw (a, b); plates-end = rw model at p; cuts-end = rw model at c; counts-end = q })
 
   -- the rows before the model: the words of job and layouts, the job, and then the lent buffers
   abbrev checks : Verdict
@@ -183,8 +183,8 @@ module _ (ws layouts plates cuts counts : List ℕ) where
       unfolding folded
       plan-length = tally-length (length (listingOf (jobOf ws) .cuts)) 1 (setCuts (jobOf ws) (listingOf (jobOf ws)) (setOf layouts))
 
-      folds-so : {n : ℕ} → n ≡ length (setOf layouts) → FoldPromise ws layouts (filled (length counts) plan) n
-      folds-so shown =
+      folds-so : {n cost : ℕ} → n ≡ length (setOf layouts) → cost ≡ setCost (jobOf ws) (setOf layouts) → FoldPromise ws layouts (filled (length counts) plan) n cost
+      folds-so shown dear =
           let d = demand3 .every-listed ws listed in
           let only = d .folds-only layouts plates cuts counts (fold-rows ∙ then-both rowsBefore (foldTail (jobOf ws) layouts) e tail) in
           let f = d .folds (setOf layouts) (only .0) .folds-to in
@@ -193,10 +193,13 @@ module _ (ws layouts plates cuts counts : List ℕ) where
             named = only .0;
             lines = only .1;
             boards-given = shown;
+            cost-given = dear;
             folds-to =
                 record {
                   accepted = filled-accepted (J ws) (L ws) plan (length counts) plan-length h (f .accepted);
                   as-many = filled-boards (J ws) (L ws) plan (length counts) plan-length h ∙ f .as-many;
+                  as-many-each = λ j p. filled-each (J ws) (L ws) plan (length counts) plan-length h j ∙ f .as-many-each j p;
+                  same-cost = filled-cost (J ws) (L ws) plan (length counts) plan-length h ∙ f .same-cost;
                   as-often = λ i. filled-count (J ws) (L ws) plan (length counts) plan-length h _ ∙ f .as-often i;
                   turns-as-often = λ q. filled-count (J ws) (L ws) plan (length counts) plan-length h _ ∙ f .turns-as-often q;
                 };
@@ -208,10 +211,14 @@ module _ (ws layouts plates cuts counts : List ℕ) where
     before-pass r plates′ cuts′ counts′ h =
         rw (fold-rows ∙ then-passed rowsBefore (foldTail (jobOf ws) layouts) e) (h .answered, (h .plates-end, (h .cuts-end, (h .counts-end, promised r (h .answered) (h .counts-end)))))
       where
-        promised : (r : FoldAnswer) → saysOf r ≡ answer (foldTail (jobOf ws) layouts) (length (setOf layouts) ∷ []) → counts′ ≡ countsEnd (foldTail (jobOf ws) layouts) ws layouts counts → OnSuccess r (FoldPromise ws layouts counts′)
+        -- the results of a call that succeeds
+        results : List ℕ
+        results = length (setOf layouts) ∷ setCost (jobOf ws) (setOf layouts) ∷ []
+
+        promised : (r : FoldAnswer) → saysOf r ≡ answer (foldTail (jobOf ws) layouts) results → counts′ ≡ countsEnd (foldTail (jobOf ws) layouts) ws layouts counts → OnSuccess r (FoldPromise ws layouts counts′)
         promised (Refused number place) q c = tt
-        promised (Folded n) q c =
-            let v : foldTail (jobOf ws) layouts ≡ pass = given-pass (foldTail (jobOf ws) layouts) (length (setOf layouts) ∷ []) q in
+        promised (Folded n cost) q c =
+            let v : foldTail (jobOf ws) layouts ≡ pass = given-pass (foldTail (jobOf ws) layouts) results q in
             let z : counts′ ≡ filled (length counts) (folded (jobOf ws) (listingOf (jobOf ws)) (setOf layouts)) = rw v at c in
-            let a : given (n ∷ []) ≡ given (length (setOf layouts) ∷ []) = rw v at q in
-            rw z (folds-so v (cc))
+            let a : given (n ∷ cost ∷ []) ≡ given results = rw v at q in
+            rw z (folds-so v (cc) (cc))

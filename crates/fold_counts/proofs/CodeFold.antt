@@ -2,7 +2,7 @@
 use Prim.Native.Nat.{ℕ, _+_, _*_, _≤_, _<_}
 use native.Mathlib.Omega.{arith}
 use mathlib.Core.Path.{_≡_, refl, sym, ap, _∙_}
-use mathlib.Core.Bool.{Bool, true, false, cond}
+use mathlib.Core.Bool.{Bool, true, false}
 use mathlib.Core.List.{List, [], _∷_, _++_, append-assoc, append-nil}
 use lib.Dec.{ltb}
 use lib.ListN.{length, getD, drop, replicate, length-append, List·getD-eq-default}
@@ -20,13 +20,13 @@ use Rattle.listing.specs.Holds.{Holds}
 use Rattle.listing.proofs.CodeHolds.{held-word, cleared}
 use Rattle.layouts.specs.Layout.{Strip, stripHeight, fullStack, stageRule}
 use Rattle.layouts.specs.Placement.{itemsOfStrip}
-use Rattle.layouts.specs.Lines.{begun, grouped, rowsOf, setOf}
+use Rattle.layouts.specs.Lines.{grouped, rowsOf, setOf}
 use Rattle.layouts.specs.Fold.{firstOf, ordered, cutOf, stripCuts, setCuts, folded}
 use Rattle.layouts.proofs.patterns.Order.{ordered-three}
 use Rattle.listing.proofs.CodeCuts.{length-cutsFrom}
 use Rattle.placement.proofs.Rows.{rows-end}
-use Rattle.layouts_strips.specs.Begun.{beginsStrip}
-use Rattle.layouts_strips.specs.First.{stripOf}
+use Rattle.layouts_strips.specs.First.{sizeNamed, stripOf, stripPlate}
+use Rattle.layouts_strips.proofs.CodeFirst.{first-size}
 use Rattle.fold_counts.specs.Lent.{CutsLent, Counting, stripRoom}
 use Rattle.fold_counts.specs.Strip.{stripBegun, stripAbove, setFrom, EachStaged, others}
 use Rattle.fold_counts.proofs.Fronts.{front-others, begun-one, above-one}
@@ -70,9 +70,9 @@ pub record FoldAt (job : Job) (l : Listing) (ws : List ℕ) (k a j : ℕ) (count
   pub staged : EachStaged job (grouped (drop a (rowsOf ws)))
 
 module _ (job : Job) (l : Listing) (ws : List ℕ) (k : ℕ) where
-  pub fold-begin : {counts : List ℕ} → Holds counts (tally k 1 []) → EachStaged job (setOf ws) → FoldAt job l ws k 0 0 counts
+  pub fold-begin : {counts : List ℕ} → Holds counts (tally k 1 []) → EachStaged job (setOf ws) → {j : ℕ} → j ≡ sizeNamed (rowsOf ws) → FoldAt job l ws k 0 j counts
   unfolding setOf
-  fold-begin h s = record { done = []; held = h; rest = sym (set-start job l (grouped (rowsOf ws))); few = omega arith; staged = s }
+  fold-begin h s e = record { done = []; held = h; rest = rw (e, ← first-size (rowsOf ws)) (sym (set-start job l (grouped (rowsOf ws)))); few = omega arith; staged = s }
 
   module _ (lines : ℕ) (words : length ws ≡ wordsOfPlacement * lines) where
     pub fold-rule : {a j : ℕ} {counts : List ℕ} → a < lines → FoldAt job l ws k a j counts → stageRule job (stripOf (drop a (rowsOf ws))) ≡ true
@@ -88,7 +88,7 @@ module _ (job : Job) (l : Listing) (ws : List ℕ) (k : ℕ) where
         → end ≡ a + length (itemsOfStrip (stripOf (drop a (rowsOf ws))))
         → ((ks : List ℕ) → Holds counts (tally k 1 ks) → Holds counts′ (tally k 1 (ks ++ stripBegun l j (ordered job (stripOf (drop a (rowsOf ws)))))))
         → above ≡ stripAbove l j (ordered job (stripOf (drop a (rowsOf ws))))
-        → j′ ≡ cond (beginsStrip (begun (drop end (rowsOf ws)))) above 0
+        → j′ ≡ stripPlate (drop end (rowsOf ws)) above
         → FoldAt job l ws k end j′ counts′
     fold-step {a} {j} end j′ counts′ above h at e more f g =
         let s = stripOf (drop a (rowsOf ws)) in
@@ -96,7 +96,7 @@ module _ (job : Job) (l : Listing) (ws : List ℕ) (k : ℕ) where
         record {
           done = at .done ++ begun-cuts;
           held = more (at .done) (at .held);
-          rest = rw (g, f) (append-assoc (at .done) begun-cuts (setFrom job l (cond (beginsStrip (begun (drop end (rowsOf ws)))) (stripAbove l j (ordered job s)) 0) (grouped (drop end (rowsOf ws)))) ∙ ap (λ (ms : List ℕ). at .done ++ ms) (sym (line-cuts job l ws lines a end words h e j)) ∙ at .rest);
+          rest = rw (g, f) (append-assoc (at .done) begun-cuts (setFrom job l (stripPlate (drop end (rowsOf ws)) (stripAbove l j (ordered job s))) (grouped (drop end (rowsOf ws)))) ∙ ap (λ (ms : List ℕ). at .done ++ ms) (sym (line-cuts job l ws lines a end words h e j)) ∙ at .rest);
           few = omega (arith, length-append (at .done) begun-cuts, ordered-number job l j s, at .few);
           staged = line-staged job l ws lines a end words h e (at .staged) .1;
         }

@@ -6,7 +6,7 @@ use mathlib.Core.List.{List, [], _∷_, flatMap}
 use mathlib.Core.Option.{Option, none, some}
 use lib.ListN.{length, take, drop}
 use Rattle.job.specs.Job.{Job}
-use Rattle.layouts.specs.Layout.{Stack, Strip, Board}
+use Rattle.layouts.specs.Layout.{Stack, Strip, Sheet, sheet}
 use Rattle.layouts.specs.Placement.{Placement, itemsOfStrip}
 use Rattle.layouts.specs.Lines.{Level, stack, strip, board, begun, inStrip, inBoard, inSet, beside, before, grouped, rowsOf}
 use Rattle.layouts.specs.Rules.{Filled}
@@ -37,28 +37,28 @@ whenStrip (some stack) xs = xs
 whenStrip (some strip) xs = []
 whenStrip (some board) xs = []
 
-first-in : (i : ℕ) (bs : List Board) → firstStrip (inSet i bs) ≡ inStrip i (firstStrip bs)
+first-in : (z i : ℕ) (bs : List Sheet) → firstStrip (inSet z i bs) ≡ inStrip i (firstStrip bs)
 unfolding inSet inBoard inStrip
-first-in i [] = refl
-first-in i ([] ∷ bs) = refl
-first-in i ((s ∷ ss) ∷ bs) = refl
+first-in z i [] = refl
+first-in z i (sheet j [] ∷ bs) = refl
+first-in z i (sheet j (s ∷ ss) ∷ bs) = refl
 
-first-before : (v : Level) (i : ℕ) (bs : List Board) → itemsOfStrip (firstStrip (before v (i ∷ []) bs)) ≡ i ∷ whenStrip (some v) (itemsOfStrip (firstStrip bs))
+first-before : (z : ℕ) (v : Level) (i : ℕ) (bs : List Sheet) → itemsOfStrip (firstStrip (before z v (i ∷ []) bs)) ≡ i ∷ whenStrip (some v) (itemsOfStrip (firstStrip bs))
 unfolding before beside itemsOfStrip flatMap
-first-before stack i [] = refl
-first-before strip i [] = refl
-first-before board i [] = refl
-first-before stack i ([] ∷ bs) = refl
-first-before stack i ((s ∷ b) ∷ bs) = refl
-first-before strip i (b ∷ bs) = refl
-first-before board i (b ∷ bs) = refl
+first-before z stack i [] = refl
+first-before z strip i [] = refl
+first-before z board i [] = refl
+first-before z stack i (sheet j [] ∷ bs) = refl
+first-before z stack i (sheet j (s ∷ b) ∷ bs) = refl
+first-before z strip i (sheet j b ∷ bs) = refl
+first-before z board i (b ∷ bs) = refl
 
 strip-items : (r : Placement) (rs : List Placement) → itemsOfStrip (stripOf (r ∷ rs)) ≡ r .item ∷ whenStrip (begun rs) (itemsOfStrip (stripOf rs))
 strip-items r rs = go (begun rs) refl
   where
     go : (o : Option Level) → begun rs ≡ o → itemsOfStrip (stripOf (r ∷ rs)) ≡ r .item ∷ whenStrip o (itemsOfStrip (stripOf rs))
-    go none e = ap (λ (bs : List Board). itemsOfStrip (firstStrip bs)) (grouped-on r rs e) ∙ ap itemsOfStrip (first-in (r .item) (grouped rs)) ∙ items-in (r .item) (firstStrip (grouped rs))
-    go (some v) e = ap (λ (bs : List Board). itemsOfStrip (firstStrip bs)) (grouped-new r rs v e) ∙ first-before v (r .item) (grouped rs)
+    go none e = ap (λ (bs : List Sheet). itemsOfStrip (firstStrip bs)) (grouped-on r rs e) ∙ ap itemsOfStrip (first-in (r .turn .board .size) (r .item) (grouped rs)) ∙ items-in (r .item) (firstStrip (grouped rs))
+    go (some v) e = ap (λ (bs : List Sheet). itemsOfStrip (firstStrip bs)) (grouped-new r rs v e) ∙ first-before (r .turn .board .size) v (r .item) (grouped rs)
 
 no-strip : itemsOfStrip (stripOf []) ≡ []
 unfolding grouped itemsOfStrip flatMap

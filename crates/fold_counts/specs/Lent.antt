@@ -5,7 +5,7 @@ use mathlib.Core.List.{List}
 use lib.ListN.{length}
 use Rattle.job.specs.Sizes.{maxSide, maxPieces, wordsOfCut, jobSize}
 use Rattle.job.specs.Lists.{tally}
-use Rattle.job.specs.Job.{jobOf, typeOf, positionAt}
+use Rattle.job.specs.Job.{boardSizes, jobOf, typeOf, positionAt}
 use Rattle.listing.specs.Listing.{Listing}
 use Rattle.listing.specs.Holds.{Holds}
 use Rattle.listing.specs.CutRead.{cutsRead}
@@ -21,7 +21,7 @@ pub record CutsLent (l : Listing) (cuts : List ℕ) (k : ℕ) : Type 0 where
 -- layout words of a number of lines, at most 4,000, whose item types are the job's; the sides of these, in both turns, are within their limits
 pub record LinesLent (ws layouts : List ℕ) (lines : ℕ) : Type 0 where
   pub lines-lent : LentLines ws layouts lines
-  pub sides : (q : ℕ) → 1 ≤ typeOf q → jobSize (typeOf q) ≤ length ws → (positionAt (jobOf ws) q .width ≤ maxSide) × (positionAt (jobOf ws) q .height ≤ maxSide)
+  pub sides : (q : ℕ) → 1 ≤ typeOf q → jobSize (boardSizes ws) (typeOf q) ≤ length ws → (positionAt (jobOf ws) q .width ≤ maxSide) × (positionAt (jobOf ws) q .height ≤ maxSide)
 
 -- the buffer has a count for each of k cuts: how often it was done so far; n more can be counted
 pub record Counting (counts : List ℕ) (k n : ℕ) : Type 0 where

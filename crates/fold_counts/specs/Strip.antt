@@ -5,7 +5,7 @@ use mathlib.Core.Bool.{Bool, true, cond}
 use mathlib.Core.List.{List, [], _∷_, _++_, map}
 use Rattle.job.specs.Job.{Job}
 use Rattle.listing.specs.Listing.{Listing, cutAt}
-use Rattle.layouts.specs.Layout.{Strip, Board, widthOf, fullStack, stageRule}
+use Rattle.layouts.specs.Layout.{Strip, Sheet, sheet, stripsOf, widthOf, fullStack, stageRule}
 use Rattle.layouts.specs.Rules.{Every}
 use Rattle.layouts.specs.Fold.{falling, without, ordered, cutOf, stripCuts, boardCuts, setCuts}
 use Rattle.fold_counts.specs.Chain.{chainCuts, chainRest}
@@ -24,13 +24,13 @@ module _ (l : Listing) where
   stripAbove j ((i ∷ is) ∷ ks) = cutAt l (cutOf l j i) .top
 
 -- the cuts of a set whose first board goes on from plate type j
-unfoldable pub setFrom : Job → Listing → ℕ → List Board → List ℕ
+unfoldable pub setFrom : Job → Listing → ℕ → List Sheet → List ℕ
 setFrom job l j [] = []
-setFrom job l j (b ∷ bs) = boardCuts l j (map (ordered job) b) ++ setCuts job l bs
+setFrom job l j (sheet z b ∷ bs) = boardCuts l j (map (ordered job) b) ++ setCuts job l bs
 
 -- each strip of a set keeps the stage rule
-abbrev pub EachStaged : Job → List Board → Type 0
-EachStaged job bs = Every (Every (λ s. stageRule job s ≡ true)) bs
+abbrev pub EachStaged : Job → List Sheet → Type 0
+EachStaged job bs = Every (λ b. Every (λ s. stageRule job s ≡ true) (stripsOf b)) bs
 
 -- the stacks of a three-stage strip of height h, each by falling width, but for the one that comes to the front if that is still to be passed
 abbrev pub others : Job → ℕ → Bool → Strip → Strip

@@ -1,10 +1,9 @@
 // The fold: the cuts of a set of layouts, strip after strip, counted.
 ghost use mathlib.Core.Path.{_≡_};
-ghost use mathlib.Core.Bool.{true, cond};
+ghost use mathlib.Core.Bool.{true};
 ghost use mathlib.Core.List.{List, _++_};
-ghost use Prim.Native.Nat.{ℕ, _+_, _*_, _≤_, _<_};
+ghost use Prim.Native.Nat.{ℕ, _+_, _≤_, _<_};
 ghost use lib.ListN.{length, drop};
-ghost use Rattle.job.specs.Sizes.{wordsOfPlacement};
 ghost use Rattle.job.specs.Lists.{tally};
 ghost use Rattle.job.specs.Buffers.{filled};
 ghost use Rattle.job.specs.Mode.{three as threeStages};
@@ -13,9 +12,8 @@ ghost use Rattle.listing.specs.Listing.{listingOf};
 ghost use Rattle.listing.specs.Holds.{Holds};
 ghost use Rattle.layouts.specs.Layout.{stripHeight, stageRule};
 ghost use Rattle.layouts.specs.Placement.{itemsOfStrip};
-ghost use Rattle.layouts.specs.Lines.{rowsOf, begun, setOf};
+ghost use Rattle.layouts.specs.Lines.{rowsOf, setOf};
 ghost use Rattle.layouts.specs.Fold.{ordered, folded};
-ghost use Rattle.layouts_strips.specs.Begun.{beginsStrip};
 ghost use Rattle.layouts_strips.specs.First.{stripOf};
 ghost use Rattle.fold_counts.specs.Lent.{CutsLent, LinesLent, Counting, stripRoom};
 ghost use Rattle.fold_counts.specs.Strip.{stripBegun, stripAbove, EachStaged};
@@ -27,7 +25,8 @@ use job::counters::CutNumber;
 use job::counters::PlateType;
 use job::mode::Mode;
 use job::words::clear;
-use layouts_strips::begins::begins_strip;
+use layouts_strips::begins::size_named;
+use layouts_strips::begins::strip_plate;
 use layouts_strips::strip::strip_at;
 
 // The line behind the last of a strip, and the plate type that the next strip of the board is cut from.
@@ -93,18 +92,8 @@ fn fold_strip(
     StripFolded { end, board }
 }
 
-// The plate type that the strip behind a lines is cut from: what is left above the strip below it, or a board of its own.
-fn next_board(layouts: &[u16], lines: usize, a: usize, above: PlateType) -> PlateType
-    requires { ⌜ (length (now layouts) ≡ wordsOfPlacement * lines) × (a ≤ lines) ⌝ }
-    ensures { λ r. ⌜ r .0 ≡ cond (beginsStrip (begun (drop a (rowsOf (now (layouts .entry)))))) (above .0) 0 ⌝ }
-{
-    if begins_strip(layouts, lines, a) {
-        return above;
-    }
-    PlateType(0)
-}
-
-// Counts the cuts of a set of layouts that keeps the stage rules, in folding's order, over the k cuts of the job's listing.
+// Counts the cuts of a set of layouts that keeps the stage rules, in folding's order, over the k cuts of the job's listing. The first strip of a board is
+// cut from the plate type of its size, a further one from what is left above the strip below it.
 pub fn fold_into(
     job: &[u16],
     layouts: &[u16],
@@ -122,11 +111,11 @@ pub fn fold_into(
     clear(counts);
     let three = mode.three();
     let mut a: usize = 0;
-    let mut board = PlateType(0);
+    let mut board = size_named(layouts, lines, 0);
     while a < lines {
         let r = fold_strip(job, layouts, lines, a, three, cuts, k, board, counts);
         let above = r.board;
         a = r.end;
-        board = next_board(layouts, lines, a, above);
+        board = strip_plate(layouts, lines, a, above);
     }
 }

@@ -44,7 +44,7 @@ pub record AnswerLeft (text : List ℕ) (b : Lent) (n : ℕ) (b′ : Lent) : Typ
   pub output : b′ .out ≡ put (b .out) 0 (foldText text)
   pub job-left : b′ .job ≡ filled (length (b .job)) (readOf text .state .job)
   pub layouts-left : b′ .layouts ≡ filled (length (b .layouts)) (take layoutsSize (readOf text .state .layouts))
-  pub plates-left : b′ .plates ≡ leftIn (verdictAt (readOf text)) (length (b .plates)) (plateWords (listingOf (jobOf (readOf text .state .job)) .plates))
+  pub plates-left : b′ .plates ≡ leftIn (verdictAt (readOf text)) (length (b .plates)) (plateWords (jobOf (readOf text .state .job)) (listingOf (jobOf (readOf text .state .job)) .plates))
   pub cuts-left : b′ .cuts ≡ leftIn (verdictAt (readOf text)) (length (b .cuts)) (cutWords (listingOf (jobOf (readOf text .state .job)) .cuts))
   pub counts-left : b′ .counts ≡ leftIn (verdictAt (readOf text)) (length (b .counts)) (folded (jobOf (readOf text .state .job)) (listingOf (jobOf (readOf text .state .job))) (setOf (readOf text .state .layouts)))
 

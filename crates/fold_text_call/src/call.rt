@@ -13,8 +13,8 @@ use fold_text_reader::fold::start;
 
 // Answers a fold text as the fold program does: its lines 3, or one line 9 alone, at the start of the output. The number of bytes is handed back, and
 // the bytes behind them stay. The job ends as the text's words, the layouts as those of its first 4,000 lines 7, plates and cuts as the listing, counts
-// as the plan, with zeros behind; where the text is refused every word of the last three is 0. Where a lent buffer is shorter than its full size, 166
-// words of the job, 32,000 of layouts, 6,144 of plates, 32,768 of cuts, 8,192 counts, or the output than 292,000 bytes, nothing changes, and 0 is
+// as the plan, with zeros behind; where the text is refused every word of the last three is 0. Where a lent buffer is shorter than its full size, 183
+// words of the job, 36,000 of layouts, 8,192 of plates, 32,768 of cuts, 8,192 counts, or the output than 292,000 bytes, nothing changes, and 0 is
 // handed back.
 pub fn fold_text(
     text: &[u8],

@@ -62,7 +62,7 @@ module _ (ws ls plates cuts : List ℕ) (k : ℕ) (lent : ListedLent ws plates c
   -- the plate types that are read are the listing's
   plates-are : plateRead plates ≡ plateAt (listingOf (jobOf ws))
   unfolding plateAt
-  plates-are = λ i j. held-plate (listingOf (jobOf ws) .plates) (lent .plates-hold) j i
+  plates-are = λ i j. held-plate (jobOf ws) (listingOf (jobOf ws) .plates) (lent .plates-hold) j i
 
   module _ (size : ℕ) (counts : List ℕ) (e : counts ≡ filled size plan) where
     pub lines-are : countLines (plateRead plates) (cutsRead k cuts) counts ≡ foldLines (foldOf body ws ls)

@@ -1,11 +1,11 @@
 -- The job and the model of a fold text that ends, listed: what the listing says of the text's rows, and the words that are kept.
 use Prim.Native.Nat.{ℕ, _+_, _*_, _≤_, _<_}
 use native.Mathlib.Omega.{arith}
-use mathlib.Core.Path.{_≡_, refl, sym, ap, _∙_, subst}
+use mathlib.Core.Path.{_≡_, refl, sym, ap, ap₂, _∙_, subst}
 use mathlib.Core.List.{List}
 use lib.ListN.{length, take}
 use lib.Seq.{take-all, length-take-le}
-use Rattle.job.specs.Sizes.{wordsOfPlacement, maxTypes, jobSize, longestJob}
+use Rattle.job.specs.Sizes.{wordsOfPlacement, maxSizes, maxTypes, jobSize, longestJob}
 use Rattle.job.specs.Verdict.{pass, refuse, _then_}
 use Rattle.job.specs.Buffers.{sized, platesSize, cutsSize}
 use Rattle.job.specs.Job.{Job, jobOf, jobWords, admission, maxPieces}
@@ -21,14 +21,14 @@ use Rattle.listing.proofs.CodeCuts.{length-cutsFrom, cut-read}
 use Rattle.listing.specs.ListCall.{listVerdict, listAnswer, platesEnd, cutsEnd}
 use Rattle.listing_call.specs.declared.call.Listed.{Listed}
 use Rattle.listing_call.specs.declared.call.Listed.the-variants.{Done, Refused}
-use Rattle.listing_call.specs.ListSays.{saysOf, SomePlate}
-use Rattle.listing_call.proofs.CodeEnding.{some-types}
+use Rattle.listing_call.specs.ListSays.{saysOf, SizesListed}
+use Rattle.listing_call.proofs.CodeEnding.{sizes-listed}
 use Rattle.plan_test.proofs.CodeListed.{Ready, ready}
 use Rattle.layouts.specs.Lines.{rowsOf, layoutWords}
 use Rattle.layouts.specs.LayoutsRow.{layoutsRow}
 use Rattle.layouts_row.proofs.CodeRows.{too-many}
 use Rattle.fold_call.proofs.Passed.{listed-cuts}
-use Rattle.texts.specs.JobLines.{typesOf, bodyLine}
+use Rattle.texts.specs.JobLines.{boardSizes, typesOf, bodyLine}
 use Rattle.texts.specs.FoldText.{Fold, foldRows}
 use Rattle.fold_text_reader.specs.FoldKept.{layoutsSize}
 use Rattle.texts_reading.specs.TextEnd.{jobModelRow}
@@ -36,16 +36,16 @@ use Rattle.texts_reading.proofs.JobKept.{held-take, words-kept, list-refused}
 use Rattle.fold_text_ending.specs.FoldEnd.{lastRows, ListedLent, WholeKept, Answered}
 
 -- each of k cuts that are lent is on one of m plate types
-on-plate : (ws cuts : List ℕ) (n m k : ℕ) → CutsSound ws cuts n m k → (c : ℕ) → c < k → cutRead cuts c .plate < m
-on-plate ws cuts n m k lent c h = omega (arith, ap (λ (x : Cut). x .plate) (cut-read k c cuts h), lent .sound .each c (rw length-cutsFrom h) .on-plate)
+on-plate : (ws cuts : List ℕ) (t n m k : ℕ) → CutsSound ws cuts t n m k → (c : ℕ) → c < k → cutRead cuts c .plate < m
+on-plate ws cuts t n m k lent c h = omega (arith, ap (λ (x : Cut). x .plate) (cut-read k c cuts h), lent .sound .each c (rw length-cutsFrom h) .on-plate)
 
 -- what the listing call says and leaves, lent buffers of full size
-module _ (ws plates cuts plates′ cuts′ : List ℕ) (np : length plates′ ≡ length plates) (nc : length cuts′ ≡ length cuts) (ps : platesSize ≤ length plates) (cs : cutsSize ≤ length cuts) (a : Listed) (some : SomePlate a) (says : saysOf a ≡ listAnswer ws plates cuts) (pe : plates′ ≡ platesEnd (listVerdict ws plates cuts) ws plates) (ce : cuts′ ≡ cutsEnd (listVerdict ws plates cuts) ws cuts) where
+module _ (ws plates cuts plates′ cuts′ : List ℕ) (np : length plates′ ≡ length plates) (nc : length cuts′ ≡ length cuts) (ps : platesSize ≤ length plates) (cs : cutsSize ≤ length cuts) (a : Listed) (all : SizesListed (jobOf ws) a) (says : saysOf (jobOf ws) a ≡ listAnswer ws plates cuts) (pe : plates′ ≡ platesEnd (listVerdict ws plates cuts) ws plates) (ce : cuts′ ≡ cutsEnd (listVerdict ws plates cuts) ws cuts) where
   pub listed-so : (m : PlateTypes) (k : CutNumber) → a ≡ Done m k → ListedLent ws plates′ cuts′ (k .0)
   unfolding listAnswer listVerdict platesEnd cutsEnd
   listed-so m k e =
       let job = jobOf ws in
-      let told = sym (ap saysOf e) ∙ says in
+      let told = sym (ap (saysOf (jobOf ws)) e) ∙ says in
       let v = given-pass (listVerdict ws plates cuts) _ told in
       let v1 = then-second (jobWords ws) _ v in
       let v2 = then-second (admission job) _ v1 in
@@ -53,7 +53,7 @@ module _ (ws plates cuts plates′ cuts′ : List ℕ) (np : length plates′ �
       let p : modelRow job ≡ pass = then-second (sized 2 cutsSize cuts) _ v3 in
       let w : jobWords ws ≡ pass = then-first (jobWords ws) _ v in
       let a′ : admission job ≡ pass = then-first (admission job) _ v1 in
-      let r : Ready ws cuts′ (typesOf ws) (m .0) (k .0) = ready ws cuts cuts′ (typesOf ws) (m .0) (k .0) w a′ refl (rw p (rw v at told)) (some-types e some) (rw p (rw v at ce)) nc cs in
+      let r : Ready ws cuts′ (boardSizes ws) (typesOf ws) (m .0) (k .0) = ready ws cuts cuts′ (boardSizes ws) (typesOf ws) (m .0) (k .0) w a′ refl refl (rw p (rw v at told)) (sizes-listed job e all) (rw p (rw v at ce)) nc cs in
       record {
         words = w;
         admitted = a′;
@@ -62,21 +62,21 @@ module _ (ws plates cuts plates′ cuts′ : List ℕ) (np : length plates′ �
         cuts-hold = record { words = rw nc (rw v at ce) };
         lent = listed-cuts ws w a′ p r;
         few-cuts = r .lent .few-cuts;
-        plates-there = λ c h. omega (arith, on-plate ws cuts′ (typesOf ws) (m .0) (k .0) (r .lent) c h, r .lent .few-plates, np, ps);
+        plates-there = λ c h. omega (arith, on-plate ws cuts′ (boardSizes ws) (typesOf ws) (m .0) (k .0) (r .lent) c h, r .lent .few-plates, np, ps);
       }
 
   pub rows-refused : (number place : ℕ) → a ≡ Refused number place → jobWords ws ≡ pass → jobModelRow ws ≡ refuse number place
   unfolding listAnswer
   rows-refused number place e w =
-      list-refused ws plates cuts ps cs w (refused-refuse (listVerdict ws plates cuts) _ (sym (ap saysOf e) ∙ says))
+      list-refused ws plates cuts ps cs w (refused-refuse (listVerdict ws plates cuts) _ (sym (ap (saysOf (jobOf ws)) e) ∙ says))
 
--- the words of a job of n types in the buffer that keeps them
-module _ (job : List ℕ) (n : ℕ) where
-  pub words-are : (ws : List ℕ) → n ≡ typesOf job → Holds job ws → jobWords ws ≡ pass → take (jobSize n) job ≡ ws
-  words-are ws e held passed = ap (λ (m : ℕ). take (jobSize m) job) e ∙ words-kept job ws held passed
+-- the words of a job of t sizes and n types in the buffer that keeps them
+module _ (job : List ℕ) (t n : ℕ) where
+  pub words-are : (ws : List ℕ) → t ≡ boardSizes job → n ≡ typesOf job → Holds job ws → jobWords ws ≡ pass → take (jobSize t n) job ≡ ws
+  words-are ws z e held passed = ap (λ (m : ℕ). take m job) (ap₂ jobSize z e) ∙ words-kept job ws held passed
 
-  pub words-there : n ≤ maxTypes → longestJob ≤ length job → jobSize n ≡ length (take (jobSize n) job)
-  words-there h l = sym (length-take-le (jobSize n) job (omega arith))
+  pub words-there : t ≤ maxSizes → n ≤ maxTypes → longestJob ≤ length job → jobSize t n ≡ length (take (jobSize t n) job)
+  words-there z h l = sym (length-take-le (jobSize t n) job (omega arith))
 
 -- the lines 7, where at most 4,000 are kept
 module _ (ws ls layouts : List ℕ) (rows : ℕ) (size : length ls ≡ wordsOfPlacement * rows) where
@@ -87,9 +87,9 @@ module _ (ws ls layouts : List ℕ) (rows : ℕ) (size : length ls ≡ wordsOfPl
   pub lines-many : (k : ℕ) (job : Job) → layoutWords job ls ≡ pass → maxPieces < rows → layoutsRow k job (rowsOf ls) ≡ refuse 10 0
   lines-many k job p h = sym (too-many k job ls p (omega arith))
 
--- the first line after the job's, of n types
-pub first-line : (ws ls : List ℕ) {n : ℕ} → n ≡ typesOf ws → layoutsRow (n + 2) (jobOf ws) (rowsOf ls) ≡ layoutsRow (bodyLine ws) (jobOf ws) (rowsOf ls)
-first-line ws ls e = ap (λ (k : ℕ). layoutsRow k (jobOf ws) (rowsOf ls)) (omega arith)
+-- the first line after the job's, of t sizes and n types
+pub first-line : (ws ls : List ℕ) {t n : ℕ} → t ≡ boardSizes ws → n ≡ typesOf ws → layoutsRow (t + n + 2) (jobOf ws) (rowsOf ls) ≡ layoutsRow (bodyLine ws) (jobOf ws) (rowsOf ls)
+first-line ws ls z e = ap (λ (k : ℕ). layoutsRow k (jobOf ws) (rowsOf ls)) (omega arith)
 
 -- the answer to words that are the text's
 pub by-words :

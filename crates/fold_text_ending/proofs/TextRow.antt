@@ -1,7 +1,7 @@
 -- The line row of a fold text that ends, by what is kept of where it stands.
 use mathlib.Core.Path.{_≡_, refl, sym, ap, _∙_}
 use mathlib.Core.Bool.{Bool, true, false}
-use Rattle.texts.specs.JobLines.{Place, first, types, body, itemPrices, platePrices, done}
+use Rattle.texts.specs.JobLines.{Place, first, sizes, types, body, itemPrices, platePrices, done}
 use Rattle.texts.specs.Reader.{Reader, textRow}
 use Rattle.texts.specs.FoldText.{Fold, foldComplete, foldGrammar}
 use Rattle.texts_reading.specs.declared.text.TextReader.{TextReader}
@@ -16,8 +16,9 @@ complete-place s = go (s .place)
   where
     go :
         (p : Place)
-        → elim p [ first ↦ false | types i ↦ false | body ↦ true | itemPrices i ↦ false | platePrices j ↦ false | done ↦ false ] ≡ mayEnd p
+        → elim p [ first ↦ false | sizes j ↦ false | types i ↦ false | body ↦ true | itemPrices i ↦ false | platePrices j ↦ false | done ↦ false ] ≡ mayEnd p
     go first = refl
+    go (sizes j) = refl
     go (types i) = refl
     go body = refl
     go (itemPrices i) = refl

@@ -22,6 +22,6 @@ verdictAt r = textRow foldGrammar r then foldRows (r .state)
 pub record Finished (r : Reader Fold) (out plates cuts counts : List ℕ) (n : ℕ) (out′ plates′ cuts′ counts′ : List ℕ) : Type 0 where
   pub size : n ≡ length (foldWritten r)
   pub output : out′ ≡ put out 0 (foldWritten r)
-  pub plates-left : plates′ ≡ leftIn (verdictAt r) (length plates) (plateWords (listingOf (jobOf (r .state .job)) .plates))
+  pub plates-left : plates′ ≡ leftIn (verdictAt r) (length plates) (plateWords (jobOf (r .state .job)) (listingOf (jobOf (r .state .job)) .plates))
   pub cuts-left : cuts′ ≡ leftIn (verdictAt r) (length cuts) (cutWords (listingOf (jobOf (r .state .job)) .cuts))
   pub counts-left : counts′ ≡ leftIn (verdictAt r) (length counts) (folded (jobOf (r .state .job)) (listingOf (jobOf (r .state .job))) (setOf (r .state .layouts)))

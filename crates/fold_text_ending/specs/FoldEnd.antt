@@ -35,7 +35,7 @@ pub record ListedLent (ws plates cuts : List ℕ) (k : ℕ) : Type 0 where
   pub words : jobWords ws ≡ pass
   pub admitted : admission (jobOf ws) ≡ pass
   pub modelled : modelRow (jobOf ws) ≡ pass
-  pub plates-hold : Holds plates (plateWords (listingOf (jobOf ws) .plates))
+  pub plates-hold : Holds plates (plateWords (jobOf ws) (listingOf (jobOf ws) .plates))
   pub cuts-hold : Holds cuts (cutWords (listingOf (jobOf ws) .cuts))
   pub lent : CutsLent (listingOf (jobOf ws)) cuts k
   pub few-cuts : k ≤ maxCuts
@@ -64,7 +64,7 @@ leftIn (refuse number place) size ws = replicate size 0
 -- the answer by a verdict: the bytes written at the start of the output, how many they are, and the listing and the plan in lent buffers of some sizes
 pub record Answered (v : Verdict) (ws ls out : List ℕ) (plates cuts counts n : ℕ) (out′ plates′ cuts′ counts′ : List ℕ) : Type 0 where
   pub wrote : Wrote out 0 (written v (foldLines (foldOf body ws ls))) n out′
-  pub plates-left : plates′ ≡ leftIn v plates (plateWords (listingOf (jobOf ws) .plates))
+  pub plates-left : plates′ ≡ leftIn v plates (plateWords (jobOf ws) (listingOf (jobOf ws) .plates))
   pub cuts-left : cuts′ ≡ leftIn v cuts (cutWords (listingOf (jobOf ws) .cuts))
   pub counts-left : counts′ ≡ leftIn v counts (folded (jobOf ws) (listingOf (jobOf ws)) (setOf ls))
 

@@ -29,10 +29,12 @@ use job::sizes::CUTS_SIZE;
 use job::sizes::HEAD_WORDS;
 use job::sizes::ITEM_WORDS;
 use job::sizes::JOB_SIZE;
+use job::sizes::MAX_SIZES;
 use job::sizes::MAX_TYPES;
 use job::sizes::PLACEMENT_WORDS;
 use job::sizes::PLACEMENTS_SIZE;
 use job::sizes::PLATES_SIZE;
+use job::sizes::SIZE_WORDS;
 use listing_call::call::Listed;
 use listing_call::call::list;
 use texts_reading::text::TextReader;
@@ -77,11 +79,15 @@ fn answer_job(
     ensures { λ r. ⌜ ((ws ls : List ℕ) → WholeKept ws ls rows (now (job .entry)) (now (layouts .entry)) → Answered (lastRows ws ls) ws ls (now (out .entry)) (length (now (plates .entry))) (length (now (cuts .entry))) (length (now (counts .entry))) r (now (out .exit)) (now (plates .exit)) (now (cuts .exit)) (now (counts .exit))) ⌝ }
 {
     let head = head_of(job);
+    let t = head.sizes;
     let n = head.types;
+    if t.0 > MAX_SIZES {
+        return 0;
+    }
     if n.0 > MAX_TYPES {
         return 0;
     }
-    let words = HEAD_WORDS + ITEM_WORDS * (n.0 as usize);
+    let words = HEAD_WORDS + SIZE_WORDS * (t.0 as usize) + ITEM_WORDS * (n.0 as usize);
     match list(&job[..words], plates, cuts) {
         Listed::Refused(number, place) => { refuse(plates, cuts, counts, out, number, place) }
         Listed::Done(_, k) => answer_listed(

@@ -14,7 +14,7 @@ use fold_text_reader::fold::FoldReader;
 
 // What the fold program writes where its text ends: a line 3 for each cut that is counted, or one line 9 alone. The number of bytes is handed back, and
 // the bytes behind them stay. Plates and cuts end as the listing and counts as the plan, with zeros behind; where the text is refused every word of
-// them is 0. Where a lent buffer is shorter than its full size, 166 words of the job, 32,000 of layouts, 6,144 of plates, 32,768 of cuts, 8,192 counts,
+// them is 0. Where a lent buffer is shorter than its full size, 183 words of the job, 36,000 of layouts, 8,192 of plates, 32,768 of cuts, 8,192 counts,
 // or the output than 292,000 bytes, nothing is written, and 0 is handed back.
 pub fn finish(
     reader: FoldReader,

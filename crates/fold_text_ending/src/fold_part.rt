@@ -86,7 +86,7 @@ pub fn answer_rows(
     ensures { λ r. ⌜ (layoutWords (jobOf (now (job .entry))) (now (layouts .entry)) ≡ pass → Answered (layoutsRow (bodyLine (now (job .entry))) (jobOf (now (job .entry))) (rowsOf (now (layouts .entry)))) (now (job .entry)) (now (layouts .entry)) (now (out .entry)) (length (now (plates .entry))) (length (now (cuts .entry))) (length (now (counts .entry))) r (now (out .exit)) (now (plates .exit)) (now (cuts .exit)) (now (counts .exit))) ⌝ }
 {
     let head = head_of(job);
-    let first = head.types.0 as usize + 2;
+    let first = head.sizes.0 as usize + head.types.0 as usize + 2;
     match layout_checks(job, layouts) {
         Row::Refuses(number, place) => refuse(plates, cuts, counts, out, number, place),
         Row::Passes => match layouts_row(job, layouts, first) {

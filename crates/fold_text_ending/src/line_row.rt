@@ -17,6 +17,7 @@ fn may_end(place: Place) -> bool
 {
     match place {
         Place::First => false,
+        Place::Sizes(_) => false,
         Place::Types(_) => false,
         Place::Body => true,
         Place::ItemPrices(_) => false,

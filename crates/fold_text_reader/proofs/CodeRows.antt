@@ -11,7 +11,7 @@ use Rattle.columns.specs.Group.{put}
 use Rattle.texts_reading.proofs.CodeWords.{put-held, part-rest}
 use Rattle.fold_text_reader.specs.FoldKept.{layoutsSize}
 
--- 32,000 words
+-- 36,000 words
 pub size-is : layoutsSize ≡ placementsSize
 unfolding layoutsSize
 size-is = refl

@@ -1,17 +1,17 @@
 -- Document 01, "Texts": what the code keeps of a fold text so far, in its state and in lent words.
-use Prim.Native.Nat.{ℕ, _*_, _≤_}
+use Prim.Native.Nat.{ℕ, _*_, _≤_, _<_}
 use mathlib.Core.Path.{_≡_}
 use mathlib.Core.List.{List, []}
 use lib.ListN.{length, take, replicate}
-use Rattle.job.specs.Sizes.{wordsOfPlacement, jobSize, longestJob, wordOfType}
-use Rattle.job.specs.Job.{maxTypes}
+use Rattle.job.specs.Sizes.{wordsOfPlacement, wordsBefore, jobSize, longestJob, wordOfType}
+use Rattle.job.specs.Job.{maxSizes, maxTypes}
 use Rattle.job.specs.Buffers.{placementsSize}
 use Rattle.listing.specs.Holds.{Holds}
 use Rattle.texts.specs.Reader.{Reader, started, fed}
-use Rattle.texts.specs.JobLines.{typesOf}
+use Rattle.texts.specs.JobLines.{boardSizes, typesOf}
 use Rattle.texts.specs.FoldText.{Fold, foldGrammar}
 use Rattle.texts_reading.specs.declared.text.Place.{Place}
-use Rattle.texts_reading.specs.declared.text.Place.the-variants.{First, Types, Body, ItemPrices, PlatePrices, Done}
+use Rattle.texts_reading.specs.declared.text.Place.the-variants.{First, Sizes, Types, Body, ItemPrices, PlatePrices, Done}
 use Rattle.texts_reading.specs.Standing.{TextAt, TextKept, TextReady}
 use Rattle.fold_text_reader.specs.declared.fold.FoldReader.{FoldReader}
 
@@ -19,18 +19,19 @@ use Rattle.fold_text_reader.specs.declared.fold.FoldReader.{FoldReader}
 unfoldable pub layoutsSize : ℕ
 layoutsSize = placementsSize
 
--- the words of a job in the buffer that keeps them: as many as its own number of types says
+-- the words of a job in the buffer that keeps them: as many as its own numbers of sizes and of types say
 abbrev pub heldWords : List ℕ → List ℕ
-heldWords job = take (jobSize (typesOf job)) job
+heldWords job = take (jobSize (boardSizes job) (typesOf job)) job
 
--- the state's own numbers for what comes next: n is the job's word for the number of types, and `rows` counts the lines of kind 7
-abbrev pub PlaceReady : Place → ℕ → ℕ → Type 0
-PlaceReady First n rows = rows ≡ 0
-PlaceReady (Types i) n rows = (1 ≤ i .0) × (i .0 ≤ n) × (n ≤ maxTypes) × (rows ≡ 0)
-PlaceReady Body n rows = n ≤ maxTypes
-PlaceReady (ItemPrices i) n rows = ⊥
-PlaceReady (PlatePrices j) n rows = ⊥
-PlaceReady Done n rows = ⊥
+-- the state's own numbers for what comes next: t and n are the job's words for the numbers of sizes and of types, and `rows` counts the lines of kind 7
+abbrev pub PlaceReady : Place → ℕ → ℕ → ℕ → Type 0
+PlaceReady First t n rows = rows ≡ 0
+PlaceReady (Sizes j) t n rows = (j .0 < t) × (t ≤ maxSizes) × (1 ≤ n) × (n ≤ maxTypes) × (rows ≡ 0)
+PlaceReady (Types i) t n rows = (1 ≤ i .0) × (i .0 ≤ n) × (n ≤ maxTypes) × (t ≤ maxSizes) × (rows ≡ 0)
+PlaceReady Body t n rows = (t ≤ maxSizes) × (n ≤ maxTypes)
+PlaceReady (ItemPrices i) t n rows = ⊥
+PlaceReady (PlatePrices j) t n rows = ⊥
+PlaceReady Done t n rows = ⊥
 
 -- the state's own numbers are sound, and the lent words are of full size
 pub record FoldReady (f : FoldReader) (job layouts : List ℕ) : Type 0 where
@@ -38,13 +39,14 @@ pub record FoldReady (f : FoldReader) (job layouts : List ℕ) : Type 0 where
   pub few : f .rows ≤ f .text .lines
   pub job-size : longestJob ≤ length job
   pub layouts-size : layoutsSize ≤ length layouts
-  pub place : PlaceReady (f .text .place) (typesOf job) (f .rows)
+  pub place : PlaceReady (f .text .place) (boardSizes job) (typesOf job) (f .rows)
 
 -- how many words the job has so far
 abbrev pub WordsSoFar : Place → List ℕ → Type 0
 WordsSoFar First ws = ws ≡ []
-WordsSoFar (Types i) ws = length ws ≡ wordOfType (i .0)
-WordsSoFar Body ws = length ws ≡ jobSize (typesOf ws)
+WordsSoFar (Sizes j) ws = length ws ≡ wordsBefore (j .0)
+WordsSoFar (Types i) ws = length ws ≡ wordOfType (boardSizes ws) (i .0)
+WordsSoFar Body ws = length ws ≡ jobSize (boardSizes ws) (typesOf ws)
 WordsSoFar (ItemPrices i) ws = ⊥
 WordsSoFar (PlatePrices j) ws = ⊥
 WordsSoFar Done ws = ⊥

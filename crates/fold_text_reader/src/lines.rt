@@ -1,27 +1,30 @@
-// The lines of a fold text: kinds 1, 2 and 7.
+// The lines of a fold text: kinds 1, 10, 2 and 7.
 ghost use mathlib.Core.Path.{_≡_};
 ghost use mathlib.Core.List.{List, [], _∷_, _++_};
 ghost use mathlib.Core.Option.{some};
 ghost use Prim.Native.Nat.{ℕ, suc, _*_, _≤_, _<_};
 ghost use lib.ListN.{length, getD, take, drop};
-ghost use Rattle.job.specs.Sizes.{maxTypes, wordsOfPlacement, longestJob};
+ghost use Rattle.job.specs.Sizes.{maxSizes, maxTypes, wordsOfPlacement, longestJob};
 ghost use Rattle.listing.specs.Holds.{Holds};
 ghost use Rattle.texts.specs.Shape.{layoutLine, numbersRow};
 ghost use Rattle.texts.specs.Reader.{maxLines, lineRead};
-ghost use Rattle.texts.specs.JobLines.{typesOf};
+ghost use Rattle.texts.specs.JobLines.{boardSizes, typesOf};
 ghost use Rattle.texts.specs.FoldText.{foldGrammar};
 ghost use Rattle.texts_reading.specs.Judged.{lineVerdict};
 ghost use Rattle.texts_reading.specs.Standing.{TextAt};
 ghost use Rattle.fold_text_reader.specs.FoldKept.{layoutsSize, heldWords, FoldReady, Step};
 use crate::fold::FoldReader;
 use job::counters::ItemType;
+use job::counters::PlateType;
 use job::head::head_of;
 use job::sizes::HEAD_WORDS;
 use job::sizes::ITEM_WORDS;
 use job::sizes::MAX_PIECES;
 use job::sizes::PLACEMENT_WORDS;
+use job::sizes::SIZE_WORDS;
 use texts_reading::job_lines::read_first;
 use texts_reading::job_lines::read_item;
+use texts_reading::job_lines::read_size;
 use texts_reading::kinds::layout_line;
 use texts_reading::text::Place;
 use texts_reading::words::put_words;
@@ -40,13 +43,15 @@ fn keep_row(layouts: &mut [u16], rows: u32, numbers: &[u32])
     put_words(layouts, PLACEMENT_WORDS * (rows as usize), &numbers[1..]);
 }
 
-// The refusal of a line of kind 7, 0 where there is none, by the words of its job: as many as its own number of types says.
+// The refusal of a line of kind 7, 0 where there is none, by the words of its job: as many as its own numbers of sizes and of types say.
 fn layout_refusal(numbers: &[u32], job: &[u16]) -> u16
-    requires { ⌜ (longestJob ≤ length (now job)) × (typesOf (now job) ≤ maxTypes) ⌝ }
+    requires { ⌜ (longestJob ≤ length (now job)) × ((boardSizes (now job) ≤ maxSizes) × (typesOf (now job) ≤ maxTypes)) ⌝ }
     ensures { λ r. ⌜ ((line : ℕ) → lineVerdict r line ≡ numbersRow line (layoutLine (heldWords (now (job .entry))) ∷ []) (now (numbers .entry))) ⌝ }
 {
     let head = head_of(job);
-    let words = HEAD_WORDS + ITEM_WORDS * (head.types.0 as usize);
+    let words = HEAD_WORDS
+        + SIZE_WORDS * (head.sizes.0 as usize)
+        + ITEM_WORDS * (head.types.0 as usize);
     layout_line(numbers, &job[..words])
 }
 
@@ -73,7 +78,31 @@ impl FoldReader {
             return self.refused(refusal);
         }
         FoldReader {
-            text: text.admitted(Place::Types(ItemType(1))),
+            text: text.admitted(Place::Sizes(PlateType(0))),
+            rows: 0,
+        }
+    }
+
+    // Line 10 of size j.
+    fn size(self, j: PlateType, numbers: &[u32], job: &mut [u16]) -> FoldReader
+        requires { ⌜ (self .text .place ≡ Place.Sizes j) × ((self .text .lines < maxLines) × (longestJob ≤ length (now job))) ⌝ }
+        requires { ⌜ j .0 < maxSizes ⌝ }
+        ensures { λ r. ⌜ ((layouts : List ℕ) → FoldReady self (now (job .entry)) layouts → Step (λ q. lineRead foldGrammar q (some (now (numbers .entry)))) self (now (job .entry)) layouts r (now (job .exit)) layouts) ⌝ }
+    {
+        let text = self.text;
+        let refusal = read_size(numbers, j, job);
+        if refusal != 0 {
+            return self.refused(refusal);
+        }
+        let head = head_of(job);
+        if head.sizes.0 == j.0 + 1 {
+            return FoldReader {
+                text: text.admitted(Place::Types(ItemType(1))),
+                rows: 0,
+            };
+        }
+        FoldReader {
+            text: text.admitted(Place::Sizes(PlateType(j.0 + 1))),
             rows: 0,
         }
     }
@@ -81,7 +110,7 @@ impl FoldReader {
     // Line 2 of type i.
     fn item(self, i: ItemType, numbers: &[u32], job: &mut [u16]) -> FoldReader
         requires { ⌜ (self .text .place ≡ Place.Types i) × ((self .text .lines < maxLines) × (longestJob ≤ length (now job))) ⌝ }
-        requires { ⌜ (1 ≤ i .0) × (i .0 ≤ maxTypes) ⌝ }
+        requires { ⌜ (1 ≤ i .0) × ((i .0 ≤ maxTypes) × (boardSizes (now job) ≤ maxSizes)) ⌝ }
         ensures { λ r. ⌜ ((layouts : List ℕ) → FoldReady self (now (job .entry)) layouts → Step (λ q. lineRead foldGrammar q (some (now (numbers .entry)))) self (now (job .entry)) layouts r (now (job .exit)) layouts) ⌝ }
     {
         let text = self.text;
@@ -131,6 +160,7 @@ impl FoldReader {
         let place = text.place;
         match place {
             Place::First => self.first(numbers, job),
+            Place::Sizes(j) => self.size(j, numbers, job),
             Place::Types(i) => self.item(i, numbers, job),
             Place::Body => self.layout(numbers, job, layouts),
             _ => self.refused(1),

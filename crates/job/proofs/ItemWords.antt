@@ -1,11 +1,11 @@
 -- The job as words: how many item types they hold, and where each stands.
-use Prim.Native.Nat.{ℕ, zero, suc, _+_, _-_, _*_, _≤_}
+use Prim.Native.Nat.{ℕ, zero, suc, _+_, _*_, _≤_}
 use native.Mathlib.Omega.{arith}
 use mathlib.Core.Path.{_≡_, refl, sym, _∙_, ap}
 use mathlib.Core.List.{List, [], _∷_}
 use lib.ListN.{length, getD, drop, length-drop}
 use lib.Seq.{getD-drop}
-use Rattle.job.specs.Sizes.{wordsOfHead, wordsOfItem, jobSize, wordOfType, RecordIn}
+use Rattle.job.specs.Sizes.{wordsOfItem, wordsBefore, jobSize, wordOfType, RecordIn}
 use Rattle.job.specs.Job.{item, noItem, itemAt, itemsOf, jobOf}
 
 -- the number of item types of their words
@@ -38,12 +38,13 @@ item-words (w ∷ v ∷ d ∷ l ∷ ws) (suc i) h =
     let e : wordsOfItem * suc i + 3 ≡ suc (suc (suc (suc (wordsOfItem * i + 3)))) = omega arith in
     rw (e, c, b, a) (item-words ws i (omega arith))
 
--- words of n types hold n types
-pub items-length : (ws : List ℕ) (n : ℕ) → length ws ≡ jobSize n → length (jobOf ws .items) ≡ n
+-- words of t sizes and n types hold n types
+pub items-length : (ws : List ℕ) (n : ℕ) → length ws ≡ jobSize (getD ws 2 0) n → length (jobOf ws .items) ≡ n
 unfolding jobOf
 items-length ws n whole =
-    let h : length (drop wordsOfHead ws) ≡ wordsOfItem * n = length-drop wordsOfHead ws ∙ omega arith in
-    types-length n (drop wordsOfHead ws) h
+    let before = wordsBefore (getD ws 2 0) in
+    let h : length (drop before ws) ≡ wordsOfItem * n = length-drop before ws ∙ omega arith in
+    types-length n (drop before ws) h
 
 -- words that reach as far as type n hold at least n types
 types-room : (n : ℕ) (ws : List ℕ) → wordsOfItem * n ≤ length ws → n ≤ length (itemsOf ws)
@@ -55,23 +56,25 @@ types-room (suc n) (w ∷ v ∷ []) h = absurd (omega arith)
 types-room (suc n) (w ∷ v ∷ d ∷ []) h = absurd (omega arith)
 types-room (suc n) (w ∷ v ∷ d ∷ l ∷ ws) h = omega (arith, types-room n ws (omega arith))
 
-pub items-room : (ws : List ℕ) (n : ℕ) → jobSize n ≤ length ws → n ≤ length (jobOf ws .items)
+pub items-room : (ws : List ℕ) (n : ℕ) → jobSize (getD ws 2 0) n ≤ length ws → n ≤ length (jobOf ws .items)
 unfolding jobOf
-items-room ws n h = types-room n (drop wordsOfHead ws) (rw length-drop (omega arith))
+items-room ws n h = types-room n (drop (wordsBefore (getD ws 2 0)) ws) (rw length-drop (omega arith))
 
 -- item type i of a job, from 1, by its words
 pub itemAt-words :
     (ws : List ℕ) (i : ℕ)
     → 1 ≤ i
-    → jobSize i ≤ length ws
-    → item (getD ws (wordOfType i) 0) (getD ws (wordOfType i + 1) 0) (getD ws (wordOfType i + 2) 0) (getD ws (wordOfType i + 3) 0)
-    ≡ itemAt (jobOf ws) i
+    → jobSize (getD ws 2 0) i ≤ length ws
+    → let at = wordOfType (getD ws 2 0) i in
+    item (getD ws at 0) (getD ws (at + 1) 0) (getD ws (at + 2) 0) (getD ws (at + 3) 0) ≡ itemAt (jobOf ws) i
 unfolding itemAt jobOf
 itemAt-words ws zero h l = absurd (omega arith)
 itemAt-words ws (suc j) h l =
-    let e : suc j - 1 ≡ j = omega arith in
-    let a : wordsOfHead + wordsOfItem * j ≡ wordOfType (suc j) = rw e in
-    let b : wordsOfHead + (wordsOfItem * j + 1) ≡ wordOfType (suc j) + 1 = rw e (omega arith) in
-    let c : wordsOfHead + (wordsOfItem * j + 2) ≡ wordOfType (suc j) + 2 = rw e (omega arith) in
-    let d : wordsOfHead + (wordsOfItem * j + 3) ≡ wordOfType (suc j) + 3 = rw e (omega arith) in
-    sym (item-words (drop wordsOfHead ws) j (rw length-drop (omega arith)) ∙ simp (getD-drop, a, b, c, d))
+    let before : ℕ = wordsBefore (getD ws 2 0) in
+    let at : ℕ = wordOfType (getD ws 2 0) (suc j) in
+    let word : (k m : ℕ) → before + k ≡ m → getD (drop before ws) k 0 ≡ getD ws m 0 = λ k m e. getD-drop before ws k 0 ∙ ap (λ (x : ℕ). getD ws x 0) e in
+    let a = word (wordsOfItem * j) at (omega arith) in
+    let b = word (wordsOfItem * j + 1) (at + 1) (omega arith) in
+    let c = word (wordsOfItem * j + 2) (at + 2) (omega arith) in
+    let d = word (wordsOfItem * j + 3) (at + 3) (omega arith) in
+    sym (item-words (drop before ws) j (rw length-drop (omega arith)) ∙ (λ m. item (a m) (b m) (c m) (d m)))

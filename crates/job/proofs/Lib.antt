@@ -8,10 +8,13 @@ pub mod Verdicts
 pub mod CodeLowest
 pub mod Decides
 pub mod Buffers
+pub mod SizeWords
 pub mod ItemWords
 pub mod Positions
 pub mod Admission
 pub mod CodeTests
+pub mod CodeOver
+pub mod CodeJobWords
 pub mod CodeAdmission
 pub mod Records
 pub mod CodeEnds

@@ -1,25 +1,39 @@
--- Document 01, "The job": board, item types and stage mode; the job as words; refusals 1 and 2 of the words, 3 and 4 of the job.
-use Prim.Native.Nat.{ℕ, zero, suc, _/_, _%_}
+-- Document 01, "The job", with the sizes of request Six: boards, item types and stage mode; the job as words; refusals 1 and 2 of the words, 3 and 4 of the
+-- job.
+use Prim.Native.Nat.{ℕ, zero, suc, _*_, _/_, _%_}
 use mathlib.Core.Bool.{Bool, true, false, not, _&&_, _||_}
 use mathlib.Core.List.{List, [], _∷_}
 use lib.Dec.{leb, ltb, eqb}
-use lib.ListN.{length, getD, drop}
+use lib.ListN.{length, getD, take, drop}
 use Rattle.job.specs.declared.mode.Mode.{Mode}
+use Rattle.job.specs.declared.size.Size.{Size}
 use Rattle.job.specs.declared.item.Item.{Item}
 use Rattle.job.specs.declared.item.Position.{Position}
-use Rattle.job.specs.Lists.{sumOf}
-use Rattle.job.specs.Sizes.{wordsOfHead, jobSize}
-pub use Rattle.job.specs.Sizes.{maxSide, maxBlade, maxTypes, maxPieces}
+use Rattle.job.specs.Lists.{any, all, sumOf}
+use Rattle.job.specs.Sizes.{wordsOfHead, wordsOfSize, wordsBefore, jobSize}
+pub use Rattle.job.specs.Sizes.{maxSide, maxBlade, maxSizes, maxCost, maxTypes, maxPieces}
 use Rattle.job.specs.Verdict.{Verdict, _then_, refuseIf, within, lowest}
 use Rattle.job.specs.Mode.{modeOf}
 
--- a job: its stage mode, the board's sides, the width of the blade (request Four), and its item types; type i, from 1, stands at place i - 1
+-- a job: its stage mode, its board sizes (request Six), the width of the blade (request Four), and its item types; size j, "0 to t−1", stands at place j,
+-- type i, from 1, at place i - 1
 pub record Job : Type 0 where
   pub mode : Mode
-  pub width : ℕ
-  pub height : ℕ
+  pub sizes : List Size
   pub blade : ℕ
   pub items : List Item
+
+-- request Six: a board size by its words, W, H and cost
+abbrev pub size : ℕ → ℕ → ℕ → Size
+size w h c = record { width = w; height = h; cost = c }
+
+-- what stands for a size that the job has not
+abbrev pub noSize : Size
+noSize = size 0 0 0
+
+-- size j, from 0
+unfoldable pub sizeAt : Job → ℕ → Size
+sizeAt job j = getD (job .sizes) j noSize
 
 -- an item type by its words: width, height, demand, and its leave (request One), "1 if the type may be turned, 0 if not"
 abbrev pub item : ℕ → ℕ → ℕ → ℕ → Item
@@ -87,31 +101,53 @@ itemsOf (w ∷ h ∷ []) = []
 itemsOf (w ∷ h ∷ d ∷ []) = []
 itemsOf (w ∷ h ∷ d ∷ v ∷ ws) = item w h d v ∷ itemsOf ws
 
--- "as words a job is stages, exact, W, H, n, then width, height, demand of each type", and its leave (request One); b is "the last number of line 1"
--- (request Four), and so stands after n, before the types
+-- the sizes of their words, three for each
+unfoldable pub sizesOf : List ℕ → List Size
+sizesOf [] = []
+sizesOf (w ∷ []) = []
+sizesOf (w ∷ h ∷ []) = []
+sizesOf (w ∷ h ∷ c ∷ ws) = size w h c ∷ sizesOf ws
+
+-- request Six: the number of board sizes t, the third of the job's words
+abbrev pub boardSizes : List ℕ → ℕ
+boardSizes ws = getD ws 2 0
+
+-- the number of item types n, the fourth of the job's words
+abbrev pub typesOf : List ℕ → ℕ
+typesOf ws = getD ws 3 0
+
+-- as words a job is stages, exact, t, n and the blade's b (request Four), as line 1 has them; then W, H, cost of each size (request Six); then width,
+-- height, demand and leave (request One) of each type
 unfoldable pub jobOf : List ℕ → Job
 jobOf ws =
+    let t = boardSizes ws in
     record {
       mode = modeOf (getD ws 0 0) (getD ws 1 0);
-      width = getD ws 2 0;
-      height = getD ws 3 0;
-      blade = getD ws 5 0;
-      items = itemsOf (drop wordsOfHead ws);
+      sizes = sizesOf (take (wordsOfSize * t) (drop wordsOfHead ws));
+      blade = getD ws 4 0;
+      items = itemsOf (drop (wordsBefore t) ws);
     }
 
 -- a side, 1 to 10,000
 abbrev pub side : ℕ → Bool
 side x = within 1 maxSide x
 
--- the words of the head are within their limits; the blade is 0 to 20 (request Four)
-unfoldable pub boardRight : List ℕ → Bool
-boardRight ws =
+-- the words of the head are within their limits; "t (1 to 6, else 2)" (request Six), the blade is 0 to 20 (request Four)
+unfoldable pub headRight : List ℕ → Bool
+headRight ws =
     within 2 3 (getD ws 0 0)
     && within 0 1 (getD ws 1 0)
-    && side (getD ws 2 0)
-    && side (getD ws 3 0)
-    && within 1 maxTypes (getD ws 4 0)
-    && within 0 maxBlade (getD ws 5 0)
+    && within 1 maxSizes (boardSizes ws)
+    && within 1 maxTypes (typesOf ws)
+    && within 0 maxBlade (getD ws 4 0)
+
+-- the words of a size are within their limits: its sides, and "a cost of 1 to 999" (request Six)
+unfoldable pub sizeRight : Size → Bool
+sizeRight z = side (z .width) && side (z .height) && within 1 maxCost (z .cost)
+
+-- the words of the head and of every size are within their limits
+unfoldable pub boardRight : List ℕ → Bool
+boardRight ws = headRight ws && all sizeRight (jobOf ws .sizes)
 
 -- the words of an item type are within their limits; a leave is 0 or 1
 unfoldable pub itemRight : Item → Bool
@@ -121,22 +157,26 @@ itemRight it =
     && within 1 maxPieces (it .demand)
     && within 0 1 (it .leave)
 
--- the line row of job words: 1 another length than that of n types; 2 a value outside its limits, naming the type, or 0 for the board
--- and the blade
+-- the line row of job words: 1 another length than that of t sizes and n types; 2 a value outside its limits, naming the type, or 0 for the head and
+-- the sizes
 unfoldable pub jobWords : List ℕ → Verdict
 jobWords ws =
-    refuseIf (not (eqb (length ws) (jobSize (getD ws 4 0)))) 1 0
+    refuseIf (not (eqb (length ws) (jobSize (boardSizes ws) (typesOf ws)))) 1 0
     then refuseIf (not (boardRight ws)) 2 0
     then lowest 2 (λ _ it. not (itemRight it)) 1 (jobOf ws .items)
 
--- a permitted position that is not wider or taller than the board
-unfoldable pub fits : Job → Position → Bool
-fits job p =
+-- a permitted position that is not wider or taller than a board of this size
+unfoldable pub fitsIn : Position → Size → Bool
+fitsIn p z =
     p .allowed
-    && leb (p .width) (job .width)
-    && leb (p .height) (job .height)
+    && leb (p .width) (z .width)
+    && leb (p .height) (z .height)
 
--- what 3 means since request One: "no permitted position fits the board"
+-- .. than a board of some size: "an item must fit some size" (request Six)
+unfoldable pub fits : Job → Position → Bool
+fits job p = any (fitsIn p) (job .sizes)
+
+-- what 3 means since requests One and Six: "no permitted position fits" any size
 unfoldable pub larger : Job → Item → Bool
 larger job it = not (fits job (unturned it) || fits job (turned it))
 
@@ -144,7 +184,7 @@ larger job it = not (fits job (unturned it) || fits job (turned it))
 unfoldable pub demanded : Job → ℕ
 demanded job = sumOf (λ it. it .demand) (job .items)
 
--- the job row: 3 an item of which no permitted position fits the board, naming the type; 4 demands above 4,000
+-- the job row: 3 an item of which no permitted position fits any size, naming the type; 4 demands above 4,000
 unfoldable pub admission : Job → Verdict
 admission job =
     lowest 3 (λ _ it. larger job it) 1 (job .items)

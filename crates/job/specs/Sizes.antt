@@ -11,6 +11,14 @@ maxSide = 10000
 abbrev pub maxBlade : ℕ
 maxBlade = 20
 
+-- request Six: "up to six sizes", the most board sizes of a job
+abbrev pub maxSizes : ℕ
+maxSizes = 6
+
+-- request Six: "each with a cost of 1 to 999", the greatest cost of a size
+abbrev pub maxCost : ℕ
+maxCost = 999
+
 -- "The job": the most item types
 abbrev pub maxTypes : ℕ
 maxTypes = 40
@@ -23,14 +31,14 @@ maxPieces = 4000
 abbrev pub maxOffcuts : ℕ
 maxOffcuts = 8000
 
--- "at most 2,048 plate types, type 0 among them, and 8,192 cuts"
+-- "at most 2,048 plate types", the sizes among them (request Six), "and 8,192 cuts"
 abbrev pub maxPlates : ℕ
 maxPlates = 2048
 
 abbrev pub maxCuts : ℕ
 maxCuts = 8192
 
--- the most residual types, and the greatest number of a plate type
+-- the most residual types, of a job with one size, and the greatest number of a plate type
 abbrev pub maxResiduals : ℕ
 maxResiduals = maxPlates - 1
 
@@ -38,43 +46,52 @@ maxResiduals = maxPlates - 1
 abbrev pub maxPrice : ℕ
 maxPrice = 9999
 
--- the words of a job before its item types: stages, exact, W, H, n, and the blade's b (request Four)
+-- the words of a job before its sizes: stages, exact, the number of sizes t "in place of W and H" (request Six), n, and the blade's b (request Four)
 abbrev pub wordsOfHead : ℕ
-wordsOfHead = 6
+wordsOfHead = 5
+
+-- request Six, the words of a size: W, H, cost
+abbrev pub wordsOfSize : ℕ
+wordsOfSize = 3
 
 -- the words of an item type: width, height, demand, leave
 abbrev pub wordsOfItem : ℕ
 wordsOfItem = 4
 
--- the words of a plate type: width, height, stage
+-- the words of a plate type: width, height, stage, and the cost "as a fourth word" (request Six)
 abbrev pub wordsOfPlate : ℕ
-wordsOfPlate = 3
+wordsOfPlate = 4
 
 -- the words of a cut: plate, item, top, right
 abbrev pub wordsOfCut : ℕ
 wordsOfCut = 4
 
--- the words of a placement and of a layout line: board, strip, stack, place, type, x, y, turn
+-- the words of a placement and of a layout line: board, its size (request Six), strip, stack, place, type, x, y, turn
 abbrev pub wordsOfPlacement : ℕ
-wordsOfPlacement = 8
+wordsOfPlacement = 9
 
 -- request Two, the words of an offcut: board, x, y, width, height, usable
 abbrev pub wordsOfOffcut : ℕ
 wordsOfOffcut = 6
 
--- the words of a job of n item types
-abbrev pub jobSize : ℕ → ℕ
-jobSize n = wordsOfHead + wordsOfItem * n
+-- the words of a job before its item types, with t sizes
+abbrev pub wordsBefore : ℕ → ℕ
+wordsBefore t = wordsOfHead + wordsOfSize * t
+
+-- the words of a job of t sizes and n item types
+abbrev pub jobSize : ℕ → ℕ → ℕ
+jobSize t n = wordsBefore t + wordsOfItem * n
 
 -- the words of the longest job
 abbrev pub longestJob : ℕ
-longestJob = jobSize maxTypes
+longestJob = jobSize maxSizes maxTypes
 
--- the first word of item type i, from 1
-abbrev pub wordOfType : ℕ → ℕ
-wordOfType i = wordsOfHead + wordsOfItem * (i - 1)
+-- the first word of item type i, from 1, of a job of t sizes
+abbrev pub wordOfType : ℕ → ℕ → ℕ
+wordOfType t i = wordsBefore t + wordsOfItem * (i - 1)
 
--- "lent plates 6,144 words, cuts 32,768, counts lent or passed in 8,192", lent placements 32,000: request One, "a placement gains a word, so its buffer is 32,000"
+-- "cuts 32,768, counts lent or passed in 8,192"; request Six: lent plates, whose record "carries the cost as a fourth word", "so its buffer is 8,192", and
+-- "each placement names its size after the board (buffer 36,000)"
 abbrev pub platesSize : ℕ
 platesSize = wordsOfPlate * maxPlates
 

@@ -1,22 +1,21 @@
-// The head of a job: what its words say before its item types.
+// The head of a job: what its words say before its sizes and item types.
 ghost use Prim.Native.Nat.{_≤_};
 ghost use lib.ListN.{length};
 ghost use Rattle.job.specs.Sizes.{wordsOfHead};
 ghost use Rattle.job.specs.Head.{HeadOf};
+use crate::counters::BoardSizes;
 use crate::counters::ItemType;
 use crate::mode::Mode;
 use crate::sizes::BLADE;
 use crate::sizes::EXACT;
-use crate::sizes::HEIGHT;
+use crate::sizes::SIZES;
 use crate::sizes::STAGES;
 use crate::sizes::TYPES;
-use crate::sizes::WIDTH;
 
-// The stage mode, the board's sides, the width of the blade, and the last item type, whose number is that of the item types.
+// The stage mode, the number of sizes, the width of the blade, and the last item type, whose number is that of the item types.
 pub struct Head {
     pub mode: Mode,
-    pub width: u16,
-    pub height: u16,
+    pub sizes: BoardSizes,
     pub blade: u16,
     pub types: ItemType,
 }
@@ -28,8 +27,7 @@ pub fn head_of(job: &[u16]) -> Head
 {
     Head {
         mode: Mode::from_line(job[STAGES], job[EXACT]),
-        width: job[WIDTH],
-        height: job[HEIGHT],
+        sizes: BoardSizes(job[SIZES]),
         blade: job[BLADE],
         types: ItemType(job[TYPES]),
     }

@@ -3,7 +3,7 @@ ghost use mathlib.Core.Path.{_≡_};
 ghost use Prim.Native.Nat.{_≤_};
 ghost use lib.ListN.{length};
 ghost use Rattle.job.specs.Sizes.{jobSize};
-ghost use Rattle.job.specs.Job.{jobOf, unturned, turned, typeOf, positionAt};
+ghost use Rattle.job.specs.Job.{boardSizes, jobOf, unturned, turned, typeOf, positionAt};
 use crate::counters::ItemPosition;
 use crate::counters::ItemType;
 use crate::item::Item;
@@ -34,7 +34,7 @@ pub fn turned(item: Item) -> Position
 
 // The item type and the turn of a number, whose words the job has.
 pub fn position_at(job: &[u16], q: ItemPosition) -> Position
-    requires { ⌜ (1 ≤ typeOf (q .0)) × (jobSize (typeOf (q .0)) ≤ length (now job)) ⌝ }
+    requires { ⌜ (1 ≤ typeOf (q .0)) × (jobSize (boardSizes (now job)) (typeOf (q .0)) ≤ length (now job)) ⌝ }
     ensures { λ r. ⌜ r ≡ positionAt (jobOf (now (job .entry))) (q .0) ⌝ }
 {
     let number = q.0;

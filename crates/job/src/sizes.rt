@@ -6,6 +6,12 @@ pub const MAX_SIDE: u16 = 10000;
 // The greatest width of the blade.
 pub const MAX_BLADE: u16 = 20;
 
+// The most board sizes.
+pub const MAX_SIZES: u16 = 6;
+
+// The greatest cost of a size.
+pub const MAX_COST: u16 = 999;
+
 // The most item types.
 pub const MAX_TYPES: u16 = 40;
 
@@ -15,10 +21,10 @@ pub const MAX_PIECES: u16 = 4000;
 // The most offcuts, two for each counted cut of a plan.
 pub const MAX_OFFCUTS: u16 = 8000;
 
-// The most plate types, type 0 among them.
+// The most plate types, the sizes among them.
 pub const MAX_PLATES: u16 = 2048;
 
-// The most residual types, and the greatest number of a plate type.
+// The most residual types, of a job with one size, and the greatest number of a plate type.
 pub const MAX_RESIDUALS: u16 = MAX_PLATES - 1;
 
 // The most cuts.
@@ -27,39 +33,42 @@ pub const MAX_CUTS: u16 = 8192;
 // The greatest price, and the greatest D.
 pub const MAX_PRICE: u16 = 9999;
 
-// The words of a job before its item types: stages, exact, W, H, n, b.
-pub const HEAD_WORDS: usize = 6;
+// The words of a job before its sizes: stages, exact, t, n, b.
+pub const HEAD_WORDS: usize = 5;
 
-// Where stages, exact, W, H, n and the blade's b stand among them.
+// Where stages, exact, the number of sizes t, that of item types n and the blade's b stand among them.
 pub const STAGES: usize = 0;
 
 pub const EXACT: usize = 1;
 
-pub const WIDTH: usize = 2;
+pub const SIZES: usize = 2;
 
-pub const HEIGHT: usize = 3;
+pub const TYPES: usize = 3;
 
-pub const TYPES: usize = 4;
+pub const BLADE: usize = 4;
 
-pub const BLADE: usize = 5;
+// The words of a size: W, H, cost.
+pub const SIZE_WORDS: usize = 3;
 
 // The words of an item type: width, height, demand, leave.
 pub const ITEM_WORDS: usize = 4;
 
-// The words of a plate type: width, height, stage.
-pub const PLATE_WORDS: usize = 3;
+// The words of a plate type: width, height, stage, cost.
+pub const PLATE_WORDS: usize = 4;
 
 // The words of a cut: plate, item, top, right.
 pub const CUT_WORDS: usize = 4;
 
-// The words of a placement and of a layout line: board, strip, stack, place, type, x, y, turn.
-pub const PLACEMENT_WORDS: usize = 8;
+// The words of a placement and of a layout line: board, size, strip, stack, place, type, x, y, turn.
+pub const PLACEMENT_WORDS: usize = 9;
 
 // The words of an offcut: board, x, y, width, height, usable.
 pub const OFFCUT_WORDS: usize = 6;
 
 // The words of the longest job.
-pub const JOB_SIZE: usize = HEAD_WORDS + ITEM_WORDS * (MAX_TYPES as usize);
+pub const JOB_SIZE: usize = HEAD_WORDS
+    + SIZE_WORDS * (MAX_SIZES as usize)
+    + ITEM_WORDS * (MAX_TYPES as usize);
 
 // The full size of lent plates.
 pub const PLATES_SIZE: usize = PLATE_WORDS * (MAX_PLATES as usize);

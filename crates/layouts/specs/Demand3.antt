@@ -5,7 +5,7 @@ use Prim.Native.Nat.{ℕ, _*_, _-_, _≤_, _<_}
 use mathlib.Core.Path.{_≡_}
 use mathlib.Core.Logic.{_⊎_}
 use mathlib.Core.Bool.{true, false}
-use mathlib.Core.List.{List}
+use mathlib.Core.List.{List, map}
 use lib.ListN.{length, replicate}
 use Rattle.job.specs.Lists.{all, nonEmpty, occurs}
 use Rattle.job.specs.Verdict.{Verdict, pass, refuse, _then_}
@@ -13,11 +13,12 @@ use Rattle.job.specs.Buffers.{filled, placementsSize, offcutsSize}
 use Rattle.job.specs.Job.{Job, jobOf, jobWords, admission, maxPieces}
 use Rattle.job.specs.Admitted.{PositionsExact}
 use Rattle.listing.specs.Listing.{Listing, modelRow, listingOf}
-use Rattle.plan.specs.Plan.{countOf, ofItem, ofPosition, boards, total, countsRow, planRow}
-use Rattle.plan.specs.Prices.{pricesOf, priceWords, pricesSized, pricesRow, priceSum, fewest}
-use Rattle.layouts.specs.Layout.{Stack, Strip, Board, widthOf, stackHeight, layoutRules}
-use Rattle.layouts.specs.Placement.{placementWords, linesOf, itemsOfSet, typesOfSet, meetsDemands}
+use Rattle.plan.specs.Plan.{countOf, ofItem, ofPosition, boardsOf, boards, planCost, total, countsRow, planRow}
+use Rattle.plan.specs.Prices.{pricesOf, priceWords, pricesSized, pricesRow, priceSum, cheapest}
+use Rattle.layouts.specs.Layout.{Stack, Strip, Sheet, sheetSize, stripsOf, widthOf, stackHeight, layoutRules}
+use Rattle.layouts.specs.Placement.{placementWords, linesOf, itemsOfSet, sheetsOf, setCost, typesOfSet, meetsDemands}
 use Rattle.layouts.specs.Rectangle.{inside, allApart}
+use Rattle.layouts.specs.Rules.{NeverFalls}
 use Rattle.layouts.specs.Unfold.{Run, unfolded}
 use Rattle.layouts.specs.Lines.{layoutWords, turns, setOf}
 use Rattle.layouts.specs.LayoutsRow.{layoutsRow}
@@ -29,7 +30,7 @@ use Rattle.layouts.specs.UnfoldCall.{lengthsRight, unfoldVerdict}
 use Rattle.layouts.specs.FoldCall.{foldVerdict}
 use Rattle.layouts.specs.Exact.{TestsExact, InOrder}
 
--- "take any job whose listing is not refused": its words are admitted, and its walk meets no limit
+-- a job whose listing is not refused, of which alone demand 3 speaks: its words are admitted, and its walk meets no limit
 abbrev pub Listed : List ℕ → Type 0
 Listed ws = (jobWords ws then admission (jobOf ws) then modelRow (jobOf ws)) ≡ pass
 
@@ -44,17 +45,17 @@ module _ (job : Job) (l : Listing) where
     pub passed : (countsRow l counts then planRow job l counts) ≡ pass
 
   -- a set of layouts that demand 3 names: it keeps the rules, which leave no board empty, meets the demands and has at most 4,000 pieces
-  pub record Named (set : List Board) : Type 0 where
+  pub record Named (set : List Sheet) : Type 0 where
     pub rules : layoutRules job set ≡ true
     pub demands : meetsDemands job set ≡ true
     pub pieces : length (itemsOfSet set) ≤ maxPieces
 
   -- an accepted price list
   abbrev pub Priced : List ℕ → Type 0
-  Priced prices = (priceWords prices then pricesSized job l prices then pricesRow l (pricesOf job prices)) ≡ pass
+  Priced prices = (priceWords prices then pricesSized job l prices then pricesRow job l (pricesOf job prices)) ≡ pass
 
   -- the set of layouts that a plan unfolds into, and what the steps of the unfolding do, es
-  pub record UnfoldsTo (counts : List ℕ) (set : List Board) (es : List Event) : Type 0 where
+  pub record UnfoldsTo (counts : List ℕ) (set : List Sheet) (es : List Event) : Type 0 where
     -- it keeps the rules of the mode, meets every demand and has at most 4,000 pieces
     pub named : Named set
     -- rectangles inside their boards; any two of a board at least b apart across or at least b apart upwards (request Four), so that none overlap
@@ -62,7 +63,11 @@ module _ (job : Job) (l : Listing) where
     pub all-apart : allApart job (linesOf job set) ≡ true
     -- exactly as many boards as the plan opened, none of them empty
     pub as-many : length set ≡ boards l counts
-    pub none-empty : all nonEmpty set ≡ true
+    pub none-empty : all (λ b. nonEmpty (stripsOf b)) set ≡ true
+    -- request Six: as many of each size, opened size by size in rising number; so they cost what the plan costs
+    pub as-many-each : (j : ℕ) → j < length (job .sizes) → sheetsOf j set ≡ boardsOf l j counts
+    pub size-by-size : NeverFalls (map sheetSize set)
+    pub same-cost : setCost job set ≡ planCost job l counts
     -- exactly as many pieces as the counts come to, and each item type exactly as often as the plan cuts it
     pub all-pieces : length (itemsOfSet set) ≡ total counts
     pub as-often : (i : ℕ) → occurs i (typesOfSet set) ≡ countOf (ofItem i) (l .cuts) counts
@@ -82,29 +87,32 @@ module _ (job : Job) (l : Listing) where
     -- every count ends at 0
     pub spent : r .last .counts ≡ replicate (length counts) 0
     -- the placements are the lines of a set of layouts, which their words are read as
-    pub set : List Board
+    pub set : List Sheet
     pub lines : r .placements ≡ linesOf job set
     pub read : setOf (placementWords (r .placements)) ≡ set
     pub unfolds-to : UnfoldsTo counts set es
     -- the result's boards and pieces are the set's; the pieces fit the buffer
-    pub boards-given : r .last .turn .board ≡ length set
+    pub boards-given : r .last .turn .board .number ≡ length set
     pub pieces-given : length (r .placements) ≡ length (itemsOfSet set)
     pub room : length (placementWords (r .placements)) ≤ placementsSize
     -- and the offcuts theirs, whatever the two lengths (request Two)
     pub offcuts-room : (first second : ℕ) → length (offcutWords first second (offcutsIn l es)) ≤ offcutsSize
 
   -- the plan that a set folds into
-  pub record FoldsTo (set : List Board) (counts : List ℕ) : Type 0 where
+  pub record FoldsTo (set : List Sheet) (counts : List ℕ) : Type 0 where
     -- it is accepted
     pub accepted : Accepted counts
     -- it opens exactly as many boards as the set has, and cuts each type exactly as often as it lies there
     pub as-many : boards l counts ≡ length set
+    -- request Six: "folding and later conversions keep the boards of each size", and so the cost
+    pub as-many-each : (j : ℕ) → j < length (job .sizes) → boardsOf l j counts ≡ sheetsOf j set
+    pub same-cost : planCost job l counts ≡ setCost job set
     pub as-often : (i : ℕ) → countOf (ofItem i) (l .cuts) counts ≡ occurs i (typesOfSet set)
     -- and so each type in each turn, whose number is q (request One)
     pub turns-as-often : (q : ℕ) → countOf (ofPosition q) (l .cuts) counts ≡ occurs q (itemsOfSet set)
 
   -- what folding makes of a set
-  pub record Folds (set : List Board) : Type 0 where
+  pub record Folds (set : List Sheet) : Type 0 where
     -- the lines of the set pass the line row and the whole layouts row, and are read as the set
     pub words : layoutWords job (placementWords (linesOf job set)) ≡ pass
     pub row : layoutsRow 1 job (linesOf job set) ≡ pass
@@ -112,22 +120,22 @@ module _ (job : Job) (l : Listing) where
     -- the counts
     pub folds-to : FoldsTo set (folded job l set)
 
-  -- what a sum and a D say of every set of layouts that keeps the rules and meets the demands, whoever made it
+  -- what a sum and a D say of every set of layouts over the sizes of the job that keeps the rules and meets the demands, whoever made it
   pub record Bounds (sum d : ℕ) : Type 0 where
-    -- "at least as many boards as the bound": times D they are "at least the sum of price times demand, nothing rounded"
+    -- "none costs less than" the bound (request Six): times D its cost is "at least the sum of price times demand, nothing rounded"
     pub at-least :
-        (set : List Board)
+        (set : List Sheet)
         → layoutRules job set ≡ true
         → meetsDemands job set ≡ true
-        → sum ≤ length set * d
-    -- where "(boards−1)×D is below that sum", no such set has fewer boards
-    pub none-fewer :
+        → sum ≤ setCost job set * d
+    -- where "cost minus 1, times D," is "below the sum", no such set costs less
+    pub none-cheaper :
         (n : ℕ)
         → (n - 1) * d < sum
-        → (set : List Board)
+        → (set : List Sheet)
         → layoutRules job set ≡ true
         → meetsDemands job set ≡ true
-        → n ≤ length set
+        → n ≤ setCost job set
 
 module _ (ws : List ℕ) where
   -- the job of the words, and its listing
@@ -159,11 +167,11 @@ module _ (ws : List ℕ) where
         → unfoldVerdict ws first second counts plates cuts placements offcuts ≡ refuse 2 0
     -- for every set of layouts that it names
     pub folds :
-        (set : List Board)
+        (set : List Sheet)
         → Named J L set
         → Folds J L set
     pub folds-but-for-five :
-        (set : List Board)
+        (set : List Sheet)
         → Named J L set
         → (plates cuts counts : List ℕ)
         → OnlyFive (foldVerdict ws (placementWords (linesOf J set)) plates cuts counts)
@@ -177,16 +185,16 @@ module _ (ws : List ℕ) where
         (prices : List ℕ)
         → Priced J L prices
         → Bounds J L (priceSum J (pricesOf J prices)) (pricesOf J prices .denominator)
-    -- where "fewest" is 1 for n boards, no such set has fewer
-    pub fewest-boards :
+    -- where "cheapest" is 1 for a cost of n, no such set costs less (request Six)
+    pub cheapest-set :
         (prices : List ℕ)
         → Priced J L prices
         → (n : ℕ)
-        → fewest J (pricesOf J prices) n ≡ true
-        → (set : List Board)
+        → cheapest J (pricesOf J prices) n ≡ true
+        → (set : List Sheet)
         → layoutRules J set ≡ true
         → meetsDemands J set ≡ true
-        → n ≤ length set
+        → n ≤ setCost J set
 
 -- demand 3
 pub record Demand3 : Type 0 where

@@ -7,6 +7,7 @@ use Rattle.job.specs.Verdict.{Verdict, _then_}
 use Rattle.job.specs.Buffers.{Answer, answer, ends, sized, platesSize, cutsSize, countsSize}
 use Rattle.job.specs.Job.{jobOf, jobWords, admission}
 use Rattle.listing.specs.Listing.{modelRow, listingOf}
+use Rattle.layouts.specs.Placement.{setCost}
 use Rattle.layouts.specs.Lines.{rowsOf, layoutWords, setOf}
 use Rattle.layouts.specs.LayoutsRow.{layoutsRow}
 use Rattle.layouts.specs.Fold.{folded}
@@ -24,10 +25,10 @@ foldVerdict ws layouts plates cuts counts =
     then modelRow (jobOf ws)
     then layoutsRow 1 (jobOf ws) (rowsOf layouts)
 
--- "plan test and folding, boards"
+-- "the plan test and folding give boards and cost" (request Six)
 unfoldable pub foldAnswer : List ℕ → List ℕ → List ℕ → List ℕ → List ℕ → Answer
 foldAnswer ws layouts plates cuts counts =
-    answer (foldVerdict ws layouts plates cuts counts) (length (setOf layouts) ∷ [])
+    answer (foldVerdict ws layouts plates cuts counts) (length (setOf layouts) ∷ setCost (jobOf ws) (setOf layouts) ∷ [])
 
 -- the counts, by the call's verdict
 unfoldable pub countsEnd : Verdict → List ℕ → List ℕ → List ℕ → List ℕ

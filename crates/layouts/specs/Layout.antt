@@ -2,10 +2,12 @@
 use Prim.Native.Nat.{ℕ}
 use mathlib.Core.Bool.{Bool, true, false, cond, not, _&&_, _||_}
 use mathlib.Core.List.{List, [], _∷_}
-use lib.Dec.{leb, eqb}
+use lib.Dec.{ltb, leb, eqb}
+use lib.ListN.{length}
+use Rattle.job.specs.declared.size.Size.{Size}
 use Rattle.job.specs.Lists.{any, all, gapSum, maxOf, nonEmpty}
 use Rattle.job.specs.Mode.{three, exact}
-use Rattle.job.specs.Job.{Job, positionAt, permitted}
+use Rattle.job.specs.Job.{Job, sizeAt, positionAt, permitted}
 
 -- "a board is a list of strips from the bottom, a strip a list of stacks from the left, a stack a list of items from the bottom";
 -- an item is the number of its position here, "twice the type plus the turn" (request One)
@@ -17,6 +19,16 @@ Strip = List Stack
 
 abbrev pub Board : Type 0
 Board = List Strip
+
+-- request Six: a board with the number of its size
+pub data Sheet : Type 0 where
+  sheet : ℕ → Board → Sheet
+
+abbrev pub sheetSize : Sheet → ℕ
+sheetSize (sheet j b) = j
+
+abbrev pub stripsOf : Sheet → Board
+stripsOf (sheet j b) = b
 
 -- the sides of an item as it lies: "layouts are judged with turned sides" (request One)
 unfoldable pub widthOf : Job → ℕ → ℕ
@@ -69,17 +81,21 @@ stageRule job s =
     (all single s && (not (exact (job .mode)) || sameHeights job s))
 
 -- the rules of one board: nothing is empty; each item lies in a permitted position, since a piece turned without leave "breaks the layout rules" (request One);
--- the stage rule holds of each strip; and the sums are at most W and H
-unfoldable pub boardRules : Job → Board → Bool
-boardRules job b =
+-- the stage rule holds of each strip; and the sums are at most the W and H of its size (request Six)
+unfoldable pub boardRules : Job → Size → Board → Bool
+boardRules job z b =
     nonEmpty b
     && all nonEmpty b
     && all (all nonEmpty) b
     && all (all (all (permitted job))) b
     && all (stageRule job) b
-    && all (λ s. leb (stripWidth job s) (job .width)) b
-    && leb (boardHeight job b) (job .height)
+    && all (λ s. leb (stripWidth job s) (z .width)) b
+    && leb (boardHeight job b) (z .height)
 
--- "the layout rules" of a set of layouts, which is a list of boards
-unfoldable pub layoutRules : Job → List Board → Bool
-layoutRules job bs = all (boardRules job) bs
+-- .. of a board of one of the job's sizes (request Six)
+unfoldable pub sheetRules : Job → Sheet → Bool
+sheetRules job b = ltb (sheetSize b) (length (job .sizes)) && boardRules job (sizeAt job (sheetSize b)) (stripsOf b)
+
+-- "the layout rules" of a set of layouts, which is a list of boards, each of a size
+unfoldable pub layoutRules : Job → List Sheet → Bool
+layoutRules job bs = all (sheetRules job) bs

@@ -7,30 +7,32 @@ use lib.ListN.{length}
 use Rattle.job.specs.declared.item.Item.{Item}
 use Rattle.job.specs.Lists.{occurs}
 use Rattle.job.specs.Verdict.{Verdict, pass, refuse, _then_, refuseIf, lowest}
-use Rattle.job.specs.Job.{Job, typeOf, maxPieces}
-use Rattle.layouts.specs.Layout.{Strip, Board, stripWidth, stripHeight, stageRule}
+use Rattle.job.specs.Job.{Job, sizeAt, typeOf, maxPieces}
+use Rattle.layouts.specs.Layout.{Strip, Board, Sheet, sheet, stripWidth, stripHeight, stageRule}
 use Rattle.layouts.specs.Placement.{Placement, itemsOfStrip, itemsOfBoard, linesOf}
 use Rattle.layouts.specs.Lines.{turns, grouped}
 
--- a strip of a set, the number of its first line, and the height of the strips below it, b after each of them (request Four)
+-- a strip of a set, the number of its first line, the size of its board (request Six), and the height of the strips below it, b after each of them
+-- (request Four)
 pub record Laid : Type 0 where
   pub line : ℕ
+  pub size : ℕ
   pub below : ℕ
   pub strip : Strip
 
-abbrev pub laidAt : ℕ → ℕ → Strip → Laid
-laidAt line y s = record { line = line; below = y; strip = s }
+abbrev pub laidAt : ℕ → ℕ → ℕ → Strip → Laid
+laidAt z line y s = record { line = line; size = z; below = y; strip = s }
 
--- the strips of a board that begins at a line, from y upwards
-unfoldable pub laidBoard : Job → ℕ → ℕ → Board → List Laid
-laidBoard job line y [] = []
-laidBoard job line y (s ∷ ss) =
-    laidAt line y s ∷ laidBoard job (line + length (itemsOfStrip s)) (y + stripHeight job s + job .blade) ss
+-- the strips of a board of size z that begins at a line, from y upwards
+unfoldable pub laidBoard : Job → ℕ → ℕ → ℕ → Board → List Laid
+laidBoard job z line y [] = []
+laidBoard job z line y (s ∷ ss) =
+    laidAt z line y s ∷ laidBoard job z (line + length (itemsOfStrip s)) (y + stripHeight job s + job .blade) ss
 
 -- the strips of a set that begins at a line
-unfoldable pub laidSet : Job → ℕ → List Board → List Laid
+unfoldable pub laidSet : Job → ℕ → List Sheet → List Laid
 laidSet job line [] = []
-laidSet job line (b ∷ bs) = laidBoard job line 0 b ++ laidSet job (line + length (itemsOfBoard b)) bs
+laidSet job line (sheet z b ∷ bs) = laidBoard job z line 0 b ++ laidSet job (line + length (itemsOfBoard b)) bs
 
 -- a refusal that names "first line of the strip", of the lowest strip that is bad
 unfoldable pub lowestStrip : ℕ → (Laid → Bool) → List Laid → Verdict
@@ -41,10 +43,11 @@ lowestStrip number bad (s ∷ ss) = elim (bad s) [ true ↦ refuse number (s .li
 unfoldable pub breaksStage : Job → Laid → Bool
 breaksStage job s = not (stageRule job (s .strip))
 
--- 17: the strip's stack widths pass W, or its own top edge passes H
+-- 17: the strip's stack widths pass the W of its board's size, or its own top edge passes the H of that size (request Six)
 unfoldable pub pastBoard : Job → Laid → Bool
 pastBoard job s =
-    ltb (job .width) (stripWidth job (s .strip)) || ltb (job .height) (s .below + stripHeight job (s .strip))
+    let z = sizeAt job (s .size) in
+    ltb (z .width) (stripWidth job (s .strip)) || ltb (z .height) (s .below + stripHeight job (s .strip))
 
 -- 18 at the lowest line, from line k on, whose x or y is not the item's position
 unfoldable pub positioned : ℕ → List Placement → List Placement → Verdict
@@ -60,7 +63,7 @@ positioned k (r ∷ rs) (p ∷ ps) =
 unfoldable pub lacks : List Placement → ℕ → Item → Bool
 lacks rs i item = ltb (occurs i (map (λ r. typeOf (r .item)) rs)) (item .demand)
 
--- the layouts row over lines that are numbered from k: 1 for layout words, n + 2 in a fold text
+-- the layouts row over lines that are numbered from k: 1 for layout words, t + n + 2 in a fold text
 unfoldable pub layoutsRow : ℕ → Job → List Placement → Verdict
 layoutsRow k job rs =
     refuseIf (ltb maxPieces (length rs)) 10 0

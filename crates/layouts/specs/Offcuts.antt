@@ -3,17 +3,17 @@ use Prim.Native.Nat.{ℕ, zero, suc}
 use mathlib.Core.Bool.{true, false, _&&_}
 use mathlib.Core.List.{List, [], _∷_, flatMap}
 use mathlib.Core.Option.{none, some}
-use lib.Dec.{ltb, leb, eqb}
+use lib.Dec.{leb, eqb}
+use lib.ListN.{length}
 use Rattle.job.specs.Job.{Job}
 use Rattle.listing.specs.Listing.{Listing, plateAt}
-use Rattle.plan.specs.Plan.{boards}
-use Rattle.layouts.specs.Placement.{turn, Placement}
-use Rattle.layouts.specs.Unfold.{Piece, nothingWaits, State, search, highest, placed, leftOver, idle, step, openBoard, stepsFor}
+use Rattle.layouts.specs.Placement.{Opened, Placement}
+use Rattle.layouts.specs.Unfold.{Piece, State, search, highest, placed, leftOver, idle, step, nextSize, openBoard, stepsFor, startOf}
 
--- what a step does: a cut, by its number, places an item; or a piece is left over, on a board
+-- what a step does: a cut, by its number, places an item; or a piece is left over, on a board, which has its number and its size (request Six)
 pub data Event : Type 0 where
   did : ℕ → Placement → Event
-  over : ℕ → Piece → Event
+  over : Opened → Piece → Event
 
 -- the number of the cut that the next step does, 0 if it does none
 unfoldable pub chosen : Listing → State → ℕ
@@ -31,15 +31,15 @@ events (suc fuel) job l st =
       | placed p st′ ↦ did (chosen l st) p ∷ events fuel job l st′
       | leftOver p st′ ↦ over (st .turn .board) p ∷ events fuel job l st′
       | idle ↦
-          elim (ltb 0 (boards l (st .counts))) [
-            | true ↦ events fuel job l (openBoard st)
-            | false ↦ []
+          elim (nextSize (length (job .sizes)) 0 l (st .counts)) [
+            | some j ↦ events fuel job l (openBoard j st)
+            | none ↦ []
           ]
     ]
 
 -- what the steps of an unfolding do
 unfoldable pub eventsOf : Job → Listing → List ℕ → List Event
-eventsOf job l ns = events (stepsFor ns) job l (record { counts = ns; waiting = nothingWaits; turn = turn 0 0 0 0 })
+eventsOf job l ns = events (stepsFor ns) job l (startOf ns)
 
 -- the items that are placed, in order
 unfoldable pub placedIn : List Event → List Placement
@@ -55,7 +55,7 @@ cutsIn (over b p ∷ es) = cutsIn es
 
 unfoldable pub cutsOn : ℕ → List Event → List ℕ
 cutsOn b [] = []
-cutsOn b (did k p ∷ es) = elim (eqb (p .turn .board) b) [ true ↦ k ∷ cutsOn b es | false ↦ cutsOn b es ]
+cutsOn b (did k p ∷ es) = elim (eqb (p .turn .board .number) b) [ true ↦ k ∷ cutsOn b es | false ↦ cutsOn b es ]
 cutsOn b (over c p ∷ es) = cutsOn b es
 
 -- the plate types of the pieces left over, in order
@@ -64,15 +64,16 @@ typesOver [] = []
 typesOver (did k p ∷ es) = typesOver es
 typesOver (over b p ∷ es) = p .plate ∷ typesOver es
 
--- "a piece left over in unfolding is listed as board, x, y, width, height": its sides are those of its plate type
+-- "a piece left over in unfolding is listed as board, x, y, width, height": its sides are those of its plate type. Its words name the number of the board;
+-- the size of that board is the one that its placements name (request Six)
 pub record Offcut : Type 0 where
-  pub board : ℕ
+  pub board : Opened
   pub x : ℕ
   pub y : ℕ
   pub width : ℕ
   pub height : ℕ
 
-unfoldable pub offcut : Listing → ℕ → Piece → Offcut
+unfoldable pub offcut : Listing → Opened → Piece → Offcut
 offcut l b p =
     let q = plateAt l (p .plate) in
     record { board = b; x = p .x; y = p .y; width = q .width; height = q .height }
@@ -94,4 +95,4 @@ usable first second o = elim (leb first (o .width) && leb second (o .height)) [ 
 -- offcuts as words, six for each
 unfoldable pub offcutWords : ℕ → ℕ → List Offcut → List ℕ
 offcutWords first second os =
-    flatMap (λ o. o .board ∷ o .x ∷ o .y ∷ o .width ∷ o .height ∷ usable first second o ∷ []) os
+    flatMap (λ o. o .board .number ∷ o .x ∷ o .y ∷ o .width ∷ o .height ∷ usable first second o ∷ []) os

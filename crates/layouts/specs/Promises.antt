@@ -4,8 +4,8 @@ use mathlib.Core.Path.{_≡_}
 use mathlib.Core.List.{List}
 use lib.ListN.{length}
 use Rattle.job.specs.Buffers.{filled}
-use Rattle.layouts.specs.Layout.{Board}
-use Rattle.layouts.specs.Placement.{placementWords, linesOf, itemsOfSet}
+use Rattle.layouts.specs.Layout.{Sheet}
+use Rattle.layouts.specs.Placement.{placementWords, linesOf, itemsOfSet, setCost}
 use Rattle.layouts.specs.Lines.{setOf}
 use Rattle.layouts.specs.Offcuts.{Event, offcutsIn, offcutWords}
 use Rattle.layouts.specs.Demand3.{J, L, Named, UnfoldsTo, FoldsTo, Bounds}
@@ -15,7 +15,7 @@ module _ (ws : List ℕ) where
   -- unfolding: of the two lengths and the counts passed in, the placements and the offcuts as they end, "boards and pieces", and the number of offcuts
   pub record UnfoldPromise (first second : ℕ) (counts placements offcuts : List ℕ) (boards pieces left : ℕ) : Type 0 where
     -- there is a set of layouts; the placements end as its lines, and past them as zeros
-    pub set : List Board
+    pub set : List Sheet
     pub lines : placements ≡ filled (length placements) (placementWords (linesOf (J ws) set))
     -- "the result's boards and pieces are the set's"
     pub boards-given : boards ≡ length set
@@ -24,21 +24,22 @@ module _ (ws : List ℕ) where
     pub events : List Event
     pub pieces-over : offcuts ≡ filled (length offcuts) (offcutWords first second (offcutsIn (L ws) events))
     pub offcuts-given : left ≡ length (offcutsIn (L ws) events)
-    -- it is the set that an accepted plan unfolds into: inside its boards, any two rectangles of a board at least b apart across or upwards, as many boards and
-    -- as often each type as the plan has; on each board items, offcuts, waste and the blade's swath make W×H, at most 8,000 offcuts lie inside their boards, at least b
-    -- apart from each other and from every item
+    -- it is the set that an accepted plan unfolds into: inside its boards, any two rectangles of a board at least b apart across or upwards, as many boards,
+    -- of each size as many, and as often each type as the plan has; on each board items, offcuts, waste and the blade's swath make its W×H, at most 8,000
+    -- offcuts lie inside their boards, at least b apart from each other and from every item
     pub unfolds-to : UnfoldsTo (J ws) (L ws) counts set events
 
-  -- folding: of the layouts passed in, the counts as they end, and "boards"
-  pub record FoldPromise (layouts counts : List ℕ) (boards : ℕ) : Type 0 where
+  -- folding: of the layouts passed in, the counts as they end, and "boards and cost" (request Six)
+  pub record FoldPromise (layouts counts : List ℕ) (boards cost : ℕ) : Type 0 where
     -- the layouts are the lines of a set that demand 3 names: it keeps the rules, meets the demands and has at most 4,000 pieces
     pub named : Named (J ws) (L ws) (setOf layouts)
     pub lines : layouts ≡ placementWords (linesOf (J ws) (setOf layouts))
-    -- the result's boards are the set's
+    -- the result's boards and cost are the set's
     pub boards-given : boards ≡ length (setOf layouts)
-    -- the counts are an accepted plan, which opens as many boards as the set has and cuts each type as often as it lies there
+    pub cost-given : cost ≡ setCost (J ws) (setOf layouts)
+    -- the counts are an accepted plan, which opens as many boards as the set has, of each size as many, and cuts each type as often as it lies there
     pub folds-to : FoldsTo (J ws) (L ws) (setOf layouts) counts
 
-  -- the price test: "sum and D" bound every set of layouts that keeps the rules and meets the demands, whoever made it
+  -- the price test: "sum and D" bound the cost of every set of layouts that keeps the rules and meets the demands, whoever made it
   abbrev pub PricePromise : ℕ → ℕ → Type 0
   PricePromise sum d = Bounds (J ws) (L ws) sum d

@@ -8,9 +8,10 @@ use mathlib.Core.List.{List, [], _∷_}
 use lib.ListN.{length, getD}
 use Rattle.job.specs.Lists.{occurs}
 use Rattle.job.specs.Mode.{three, exact}
-use Rattle.job.specs.Job.{Job, itemAt}
+use Rattle.job.specs.declared.size.Size.{Size}
+use Rattle.job.specs.Job.{Job, sizeAt, itemAt}
 use Rattle.job.specs.Admitted.{MayLie}
-use Rattle.layouts.specs.Layout.{Stack, Strip, Board, widthOf, heightOf, stackHeight, stripHeight, stripWidth, boardHeight}
+use Rattle.layouts.specs.Layout.{Stack, Strip, Board, Sheet, sheetSize, stripsOf, widthOf, heightOf, stackHeight, stripHeight, stripWidth, boardHeight}
 use Rattle.layouts.specs.Placement.{Placement, noPlacement, itemsOfStrip, typesOfSet}
 
 module _ {A : Type 0} where
@@ -32,6 +33,11 @@ module _ {A : Type 0} where
   abbrev pub Alike : (A → ℕ) → List A → Type 0
   Alike f l = Every (λ a. Every (λ b. f a ≡ f b) l) l
 
+-- numbers of which none is above a later one
+abbrev pub NeverFalls : List ℕ → Type 0
+NeverFalls [] = Unit {0}
+NeverFalls (a ∷ as′) = Every (λ b. a ≤ b) as′ × NeverFalls as′
+
 -- a stack that is one item
 abbrev pub Single : Stack → Type 0
 Single s = length s ≡ 1
@@ -51,30 +57,36 @@ pub record Staged (job : Job) (s : Strip) : Type 0 where
 
 -- a strip that keeps the rules: nothing in it is empty, its items are of the job in permitted positions, and "stack widths of a strip add up to at most W", with the
 -- gaps between them (request Four)
-pub record StripOk (job : Job) (s : Strip) : Type 0 where
+pub record StripOk (job : Job) (z : Size) (s : Strip) : Type 0 where
   pub filled : Filled s
   pub stacks : Every Filled s
   pub types : Every (Every (OfJob job)) s
   pub staged : Staged job s
-  pub across : stripWidth job s ≤ job .width
+  pub across : stripWidth job s ≤ z .width
 
--- a board that keeps the rules: "strip heights [add up] to at most H", with the gaps between them (request Four)
-pub record BoardOk (job : Job) (b : Board) : Type 0 where
+-- a board that keeps the rules: added up with the gaps between them (request Four), "strip heights to at most H"; W and H are those of its size z (request Six)
+pub record BoardOk (job : Job) (z : Size) (b : Board) : Type 0 where
   pub filled : Filled b
-  pub strips : Every (StripOk job) b
-  pub up : boardHeight job b ≤ job .height
+  pub strips : Every (StripOk job z) b
+  pub up : boardHeight job b ≤ z .height
+
+-- .. a board of one of the job's sizes
+abbrev pub SheetOk : Job → Sheet → Type 0
+SheetOk job b = (sheetSize b < length (job .sizes)) × BoardOk job (sizeAt job (sheetSize b)) (stripsOf b)
 
 -- a set of layouts that keeps the rules
-abbrev pub SetOk : Job → List Board → Type 0
-SetOk job bs = Every (BoardOk job) bs
+abbrev pub SetOk : Job → List Sheet → Type 0
+SetOk job bs = Every (SheetOk job) bs
 
 -- "it meets the demands if each type lies in it at least as often as demanded"
-abbrev pub MeetsDemands : Job → List Board → Type 0
+abbrev pub MeetsDemands : Job → List Sheet → Type 0
 MeetsDemands job bs = (i : ℕ) → 1 ≤ i → i ≤ length (job .items) → itemAt job i .demand ≤ occurs i (typesOfSet bs)
 
--- "that is inside its board if x+wi and y+hi are at most the board's width and height"
+-- "that is inside its board if x+wi and y+hi are at most the board's width and height", which are those of its size (request Six)
 abbrev pub Inside : Job → Placement → Type 0
-Inside job p = (p .x + widthOf job (p .item) ≤ job .width) × (p .y + heightOf job (p .item) ≤ job .height)
+Inside job p =
+    (p .x + widthOf job (p .item) ≤ sizeAt job (p .turn .board .size) .width)
+    × (p .y + heightOf job (p .item) ≤ sizeAt job (p .turn .board .size) .height)
 
 -- "any two rectangles of a board are at least b apart across or at least b apart upwards" (request Four)
 abbrev pub Apart : Job → Placement → Placement → Type 0
@@ -90,5 +102,5 @@ AllApart job ps =
     (j k : ℕ)
     → j < k
     → k < length ps
-    → getD ps j noPlacement .turn .board ≡ getD ps k noPlacement .turn .board
+    → getD ps j noPlacement .turn .board .number ≡ getD ps k noPlacement .turn .board .number
     → Apart job (getD ps j noPlacement) (getD ps k noPlacement)

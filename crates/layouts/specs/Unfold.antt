@@ -1,14 +1,14 @@
--- Document 01, "Unfolding": board after board, at most three pieces waiting, the piece of the highest stage first.
+-- Document 01, "Unfolding": board after board, size by size (request Six), at most three pieces waiting, the piece of the highest stage first.
 use Prim.Native.Nat.{ℕ, zero, suc, _+_, _*_, _-_}
 use mathlib.Core.Bool.{true, false, _&&_}
 use mathlib.Core.List.{List, [], _∷_}
 use mathlib.Core.Option.{Option, none, some}
 use lib.Dec.{ltb, eqb}
-use lib.ListN.{getD, set}
+use lib.ListN.{length, getD, set}
 use Rattle.job.specs.Job.{Job, positionAt}
 use Rattle.listing.specs.Listing.{Cut, Listing, plateAt, cutAt}
-use Rattle.plan.specs.Plan.{onPlate, boards, total}
-use Rattle.layouts.specs.Placement.{Turn, turn, Placement}
+use Rattle.plan.specs.Plan.{onPlate, boardsOf, total}
+use Rattle.layouts.specs.Placement.{opened, Turn, turn, Placement}
 
 -- a piece of a plate type, with its lower left corner
 pub record Piece : Type 0 where
@@ -133,13 +133,18 @@ step job l st =
           ]
     ]
 
--- the next board waits, a piece of type 0
-unfoldable pub openBoard : State → State
-openBoard st =
+-- "boards are opened size by size in rising number" (request Six): of n sizes, from j on, the lowest on which counts are left
+unfoldable pub nextSize : ℕ → ℕ → Listing → List ℕ → Option ℕ
+nextSize zero j l ns = none
+nextSize (suc n) j l ns = elim (ltb 0 (boardsOf l j ns)) [ true ↦ some j | false ↦ nextSize n (suc j) l ns ]
+
+-- the next board waits, a piece of the plate type of its size
+unfoldable pub openBoard : ℕ → State → State
+openBoard j st =
     record {
       counts = st .counts;
-      waiting = waiting (some (record { plate = 0; x = 0; y = 0 })) none none;
-      turn = turn (suc (st .turn .board)) 0 0 0;
+      waiting = waiting (some (record { plate = j; x = 0; y = 0 })) none none;
+      turn = turn (opened (suc (st .turn .board .number)) j) 0 0 0;
     }
 
 -- the placements, and the state in which the unfolding ends
@@ -150,7 +155,7 @@ pub record Run : Type 0 where
 unfoldable pub placing : Placement → Run → Run
 placing p r = record { placements = p ∷ r .placements; last = r .last }
 
--- "boards are opened one after another, from 1, until the counts on type 0 are spent"; "a board ends when nothing waits"
+-- boards are opened one after another, from 1, until the counts on the sizes are spent; "a board ends when nothing waits"
 unfoldable pub run : ℕ → Job → Listing → State → Run
 run zero job l st = record { placements = []; last = st }
 run (suc fuel) job l st =
@@ -158,9 +163,9 @@ run (suc fuel) job l st =
       | placed p st′ ↦ placing p (run fuel job l st′)
       | leftOver p st′ ↦ run fuel job l st′
       | idle ↦
-          elim (ltb 0 (boards l (st .counts))) [
-            | true ↦ run fuel job l (openBoard st)
-            | false ↦ record { placements = []; last = st }
+          elim (nextSize (length (job .sizes)) 0 l (st .counts)) [
+            | some j ↦ run fuel job l (openBoard j st)
+            | none ↦ record { placements = []; last = st }
           ]
     ]
 
@@ -168,6 +173,9 @@ run (suc fuel) job l st =
 unfoldable pub stepsFor : List ℕ → ℕ
 stepsFor ns = suc (4 * total ns)
 
+-- before the first step nothing waits and no board is open
+abbrev pub startOf : List ℕ → State
+startOf ns = record { counts = ns; waiting = nothingWaits; turn = turn (opened 0 0) 0 0 0 }
+
 unfoldable pub unfolded : Job → Listing → List ℕ → Run
-unfolded job l ns =
-    run (stepsFor ns) job l (record { counts = ns; waiting = nothingWaits; turn = turn 0 0 0 0 })
+unfolded job l ns = run (stepsFor ns) job l (startOf ns)

@@ -49,7 +49,7 @@ unfoldable pub unfoldAnswer : List ℕ → ℕ → ℕ → List ℕ → List ℕ
 unfoldAnswer ws first second counts plates cuts placements offcuts =
     let r = unfoldingOf ws counts in
     answer (unfoldVerdict ws first second counts plates cuts placements offcuts)
-    (r .last .turn .board ∷ length (r .placements) ∷ length (offcutsFrom ws counts) ∷ [])
+    (r .last .turn .board .number ∷ length (r .placements) ∷ length (offcutsFrom ws counts) ∷ [])
 
 -- the placements, by the call's verdict
 unfoldable pub placementsEnd : Verdict → List ℕ → List ℕ → List ℕ → List ℕ

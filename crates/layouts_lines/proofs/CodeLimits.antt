@@ -53,11 +53,17 @@ module _ (job : Job) (ws : List ℕ) where
   pub limits-typed : (lines : ℕ) → {v : Verdict} → v ≡ lowest 2 (λ _ r. not (rowRight job r)) 1 (linesIn ws) → v ≡ pass → length ws ≡ wordsOfPlacement * lines → OfTypes (length (job .items)) lines ws
   limits-typed lines e p w = line-typed lines (passes-every 2 1 (right-exact job) (linesIn ws) .0 (sym e ∙ p)) w
 
-  -- lines of words that passed
+  -- lines of words that passed name sizes of the job (request Six), ..
+  pub passed-sized : (lines : ℕ) → layoutWords job ws ≡ pass → length ws ≡ wordsOfPlacement * lines → (c : ℕ) → c < lines → placementAt ws c .turn .board .size < length (job .sizes)
+  passed-sized lines p w c h =
+      let ok : LineOk job (getD (linesIn ws) c noLine) = every-at (LineOk job) (linesIn ws) (words-exact job ws .0 p .1 .0) noLine c (rw (lines-number ws lines w) h) in
+      (rw (line-read ws c (omega arith)) at ok) .sized
+
+  -- .. are of its item types,
   pub passed-typed : (lines : ℕ) → layoutWords job ws ≡ pass → length ws ≡ wordsOfPlacement * lines → OfTypes (length (job .items)) lines ws
   passed-typed lines p w = line-typed lines (words-exact job ws .0 p .1 .0) w
 
-  -- are in permitted positions
+  -- and in permitted positions
   pub passed-item : (lines c : ℕ) → layoutWords job ws ≡ pass → length ws ≡ wordsOfPlacement * lines → c < lines → OfJob job (placementAt ws c .item)
   passed-item lines c p w h =
       let ok : OfJob job (getD (rowsOf ws) c noPlacement .item) = every-at (λ r. OfJob job (r .item)) (rowsOf ws) (words-exact job ws .0 p .1 .1) noPlacement c (rw (whole-rows ws lines w) h) in

@@ -27,15 +27,15 @@ pub number-small : {n : ℕ} {l : Line} → OfType n l → n ≤ maxTypes → 2 
 number-small o few = omega (arith, o .to-last, o .turn)
 
 -- the words of its type
-pub position-there : (job : List ℕ) {l : Line} {q : ℕ} → jobWords job ≡ pass → OfType (length (jobOf job .items)) l → q ≡ 2 * l .type + l .turned → (1 ≤ typeOf q) × (jobSize (typeOf q) ≤ length job)
+pub position-there : (job : List ℕ) {l : Line} {q : ℕ} → jobWords job ≡ pass → OfType (length (jobOf job .items)) l → q ≡ 2 * l .type + l .turned → (1 ≤ typeOf q) × (jobSize (getD job 2 0) (typeOf q) ≤ length job)
 position-there job {l} j o e =
-    let w : length job ≡ jobSize (getD job 4 0) = passed-length job j in
-    let n : length (jobOf job .items) ≡ getD job 4 0 = items-length job (getD job 4 0) w in
+    let w : length job ≡ jobSize (getD job 2 0) (getD job 3 0) = passed-length job j in
+    let n : length (jobOf job .items) ≡ getD job 3 0 = items-length job (getD job 3 0) w in
     rw (e, type-of (l .type) (l .turned) (o .turn)) (o .from-one, omega (arith, o .to-last))
 
 -- a job whose words passed has at most 40
 pub few-types : (job : List ℕ) → jobWords job ≡ pass → length (jobOf job .items) ≤ maxTypes
-few-types job j = rw (items-length job (getD job 4 0) (passed-length job j)) (passed-few job j)
+few-types job j = rw (items-length job (getD job 3 0) (passed-length job j)) (passed-few job j)
 
 -- the line behind c others
 pub position-tested : (job : Job) (ws : List ℕ) (lines c : ℕ) → length ws ≡ wordsOfPlacement * lines → c < lines → {p : Position} {q : ℕ} {l : Line} {b : Bool} → p ≡ positionAt job q → q ≡ l .placement .item → l ≡ lineAt ws c → not (p .allowed) ≡ b → not (permitted job (getD (rowsOf ws) c noPlacement .item)) ≡ b

@@ -8,7 +8,7 @@ use borrow.Author.Tests.{not-true, not-false}
 use lib.ListN.{length, drop}
 use Rattle.job.specs.Sizes.{wordsOfPlacement}
 use Rattle.job.specs.Verdict.{Verdict, pass, refuse}
-use Rattle.layouts.specs.Placement.{Turn, turn, Placement}
+use Rattle.layouts.specs.Placement.{opened, Turn, turn, Placement}
 use Rattle.layouts.specs.Lines.{rowsOf, sameTurn, follows, inTurn, turns}
 use Rattle.placement.specs.PlacementRead.{placementAt}
 use Rattle.placement.proofs.Rows.{rows-from, rows-end}
@@ -21,15 +21,19 @@ or-stop b e t h = rw (← e, t) (h ∙ t)
 pub or-next : {f g r : Bool} {a b : Bool} → f ≡ a → f ≡ false → r ≡ b → g ≡ r → g ≡ (a || b)
 or-next e t n h = rw (← e, t) (h ∙ n)
 
+-- what the first line is, 1, 1, 1, 1, of its own size
+abbrev pub firstTurn : Placement → Turn
+firstTurn r = turn (opened 1 (r .turn .board .size)) 1 1 1
+
 -- what a test says of lines that were read it says of the lines that they are
-pub first-read : {f : Bool} {r r′ : Placement} (u : Turn) → f ≡ sameTurn (r .turn) u → r ≡ r′ → f ≡ sameTurn (r′ .turn) u
-first-read u e i = rw (← i) e
+pub first-read : {f : Bool} {r r′ : Placement} → f ≡ sameTurn (r .turn) (firstTurn r) → r ≡ r′ → f ≡ sameTurn (r′ .turn) (firstTurn r′)
+first-read e i = rw (← i) e
 
 pub next-read : {f : Bool} {r s r′ s′ : Placement} → f ≡ follows (r .turn) (s .turn) → r ≡ r′ → s ≡ s′ → f ≡ follows (r′ .turn) (s′ .turn)
 next-read e i j = rw (← i, ← j) e
 
 -- the first line, and a further one
-turns-cons : (k : ℕ) (r : Placement) (rs : List Placement) (t : Bool) → sameTurn (r .turn) (turn 1 1 1 1) ≡ t → turns k (r ∷ rs) ≡ cond t (inTurn (suc k) (r .turn) rs) (refuse 15 k)
+turns-cons : (k : ℕ) (r : Placement) (rs : List Placement) (t : Bool) → sameTurn (r .turn) (firstTurn r) ≡ t → turns k (r ∷ rs) ≡ cond t (inTurn (suc k) (r .turn) rs) (refuse 15 k)
 unfolding turns
 turns-cons k r rs true e = rw (e, turns)
 turns-cons k r rs false e = rw (e, turns)
@@ -46,14 +50,14 @@ module _ (ws : List ℕ) (lines k : ℕ) (whole : length ws ≡ wordsOfPlacement
   turns-none e = let z : rowsOf ws ≡ [] = rows-end ws lines 0 whole (omega arith) in rw z
 
   module _ (some : 0 < lines) where
-    first : (t : Bool) → sameTurn (placementAt ws 0 .turn) (turn 1 1 1 1) ≡ t → turns k (rowsOf ws) ≡ cond t (inTurn (suc k) (placementAt ws 0 .turn) (drop 1 (rowsOf ws))) (refuse 15 k)
+    first : (t : Bool) → sameTurn (placementAt ws 0 .turn) (firstTurn (placementAt ws 0)) ≡ t → turns k (rowsOf ws) ≡ cond t (inTurn (suc k) (placementAt ws 0 .turn) (drop 1 (rowsOf ws))) (refuse 15 k)
     first t e = let z : rowsOf ws ≡ placementAt ws 0 ∷ drop 1 (rowsOf ws) = rows-from ws lines 0 whole some in ap (turns k) z ∙ turns-cons k (placementAt ws 0) (drop 1 (rowsOf ws)) t e
 
     -- the first line is 1, 1, 1, 1, or is refused
-    pub first-refused : {f : Bool} → f ≡ sameTurn (placementAt ws 0 .turn) (turn 1 1 1 1) → not f ≡ true → refuse 15 k ≡ turns k (rowsOf ws)
+    pub first-refused : {f : Bool} → f ≡ sameTurn (placementAt ws 0 .turn) (firstTurn (placementAt ws 0)) → not f ≡ true → refuse 15 k ≡ turns k (rowsOf ws)
     first-refused e t = sym (first false (sym e ∙ not-true _ t))
 
-    pub first-passed : {f : Bool} → f ≡ sameTurn (placementAt ws 0 .turn) (turn 1 1 1 1) → not f ≡ false → turns k (rowsOf ws) ≡ inTurn (k + 1) (placementAt ws (1 - 1) .turn) (drop 1 (rowsOf ws))
+    pub first-passed : {f : Bool} → f ≡ sameTurn (placementAt ws 0 .turn) (firstTurn (placementAt ws 0)) → not f ≡ false → turns k (rowsOf ws) ≡ inTurn (k + 1) (placementAt ws (1 - 1) .turn) (drop 1 (rowsOf ws))
     first-passed e t = let z : k + 1 ≡ suc k = omega arith in rw z (first true (sym e ∙ not-false _ t))
 
   module _ (c : ℕ) {v : Verdict} (w : v ≡ inTurn (k + c) (placementAt ws (c - 1) .turn) (drop c (rowsOf ws))) where

@@ -5,4 +5,4 @@ use Rattle.layouts.specs.Lines.{counted}
 
 -- "board, strip, stack, place 1 to 4,000"
 abbrev pub turnRight : Turn → Bool
-turnRight t = counted (t .board) && counted (t .strip) && counted (t .stack) && counted (t .place)
+turnRight t = counted (t .board .number) && counted (t .strip) && counted (t .stack) && counted (t .place)

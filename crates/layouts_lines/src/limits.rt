@@ -12,6 +12,7 @@ ghost use Rattle.placement.specs.PlacementRead.{placementIn, lineIn};
 ghost use Rattle.layouts_lines.specs.Limits.{turnRight};
 use crate::permitted::permitted_row;
 use job::admit::within;
+use job::counters::BoardSizes;
 use job::counters::ItemType;
 use job::head::head_of;
 use job::row::Row;
@@ -31,26 +32,27 @@ fn turn_right(line: Placement) -> bool
         && within(1, MAX_PIECES, line.place)
 }
 
-// Whether the numbers of a line are within their limits, for n item types.
-fn line_right(line: Placement, n: ItemType) -> bool
-    ensures { λ r. ⌜ ((job : Job) → length (job .items) ≡ n .0 → r ≡ rowRight job (lineIn line)) ⌝ }
+// Whether the numbers of a line are within their limits, for t sizes and n item types.
+fn line_right(line: Placement, t: BoardSizes, n: ItemType) -> bool
+    ensures { λ r. ⌜ ((job : Job) → length (job .sizes) ≡ t .0 → length (job .items) ≡ n .0 → r ≡ rowRight job (lineIn line)) ⌝ }
 {
     turn_right(line)
         && within(1, n.0, line.item.0)
         && within(0, MAX_SIDE, line.x)
         && within(0, MAX_SIDE, line.y)
         && within(0, 1, line.turned)
+        && line.size.0 < t.0
 }
 
-// 2 for the lowest line with a number outside its limits, for n item types.
-fn lines_right(layouts: &[u16], lines: usize, n: ItemType) -> Row
+// 2 for the lowest line with a number outside its limits, for t sizes and n item types.
+fn lines_right(layouts: &[u16], lines: usize, t: BoardSizes, n: ItemType) -> Row
     requires { ⌜ length (now layouts) ≡ wordsOfPlacement * lines ⌝ }
-    ensures { λ r. ⌜ ((job : Job) → length (job .items) ≡ n .0 → rowVerdict r ≡ lowest 2 (λ _ line. not (rowRight job line)) 1 (linesIn (now (layouts .entry)))) ⌝ }
+    ensures { λ r. ⌜ ((job : Job) → length (job .sizes) ≡ t .0 → length (job .items) ≡ n .0 → rowVerdict r ≡ lowest 2 (λ _ line. not (rowRight job line)) 1 (linesIn (now (layouts .entry)))) ⌝ }
 {
     let mut c: usize = 0;
     while c < lines {
         let line = placement_at(layouts, c);
-        if !line_right(line, n) {
+        if !line_right(line, t, n) {
             return Row::Refuses(2, c + 1);
         }
         c += 1;
@@ -68,7 +70,7 @@ pub fn layout_words(job: &[u16], layouts: &[u16]) -> Row
     if layouts.len() % PLACEMENT_WORDS != 0 {
         return Row::Refuses(1, lines + 1);
     }
-    let limits = lines_right(layouts, lines, head.types);
+    let limits = lines_right(layouts, lines, head.sizes, head.types);
     let Row::Passes = limits else {
         return limits;
     };

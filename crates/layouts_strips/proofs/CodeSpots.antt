@@ -13,46 +13,47 @@ use Rattle.job.specs.declared.item.Position.{Position}
 use Rattle.job.specs.Lists.{sumOf, gapsAfter, gapSum, maxOf}
 use Rattle.job.specs.Verdict.{Verdict, pass, refuse}
 use Rattle.job.specs.Job.{Job, positionAt}
-use Rattle.layouts.specs.Layout.{Stack, Strip, Board, widthOf, heightOf, stackWidth, stackHeight, stripHeight}
-use Rattle.layouts.specs.Placement.{Turn, turn, Placement, stackLines, stripLines, boardLines, setLines, linesOf}
+use Rattle.layouts.specs.Layout.{Stack, Strip, Board, Sheet, sheet, widthOf, heightOf, stackWidth, stackHeight, stripHeight}
+use Rattle.layouts.specs.Placement.{Opened, opened, Turn, turn, Placement, stackLines, stripLines, boardLines, setLines, linesOf}
 use Rattle.layouts.specs.Lines.{Level, stack, strip, board, begun, rowsOf, inStrip, inBoard, inSet, beside, before, grouped}
 use Rattle.layouts.specs.LayoutsRow.{positioned}
 use Rattle.placement.specs.PlacementRead.{placementAt}
 use Rattle.placement.proofs.Rows.{rows-from, rows-end}
 use Rattle.layouts.proofs.row.Grouping.{grouped-on, grouped-new}
 use Rattle.layouts_strips.specs.declared.spot.Spot.{Spot}
+use Rattle.layouts_strips.specs.First.{firstSize}
 use Rattle.layouts_strips.specs.Measures.{maxWord, maxStep}
 use Rattle.layouts_strips.specs.Spots.{spot, putOn, movedTo, SpotSmall}
 
--- the turn of the next line
-abbrev nextTurn : Option Level → Turn → Turn
-nextTurn none t = turn (t .board) (t .strip) (t .stack) (suc (t .place))
-nextTurn (some stack) t = turn (t .board) (t .strip) (suc (t .stack)) 1
-nextTurn (some strip) t = turn (t .board) (suc (t .strip)) 1 1
-nextTurn (some board) t = turn (suc (t .board)) 1 1 1
+-- the turn of the next line; another board is of size z
+abbrev nextTurn : Option Level → ℕ → Turn → Turn
+nextTurn none z t = turn (t .board) (t .strip) (t .stack) (suc (t .place))
+nextTurn (some stack) z t = turn (t .board) (t .strip) (suc (t .stack)) 1
+nextTurn (some strip) z t = turn (t .board) (suc (t .strip)) 1 1
+nextTurn (some board) z t = turn (opened (suc (t .board .number)) z) 1 1 1
 
 module _ (job : Job) where
-  -- the lines of a set from a turn and a spot on: the rest of the stack, of the strip, of the board, and the boards after it
-  abbrev rest : Turn → Spot → Stack → Strip → Board → List Board → List Placement
+  -- the lines of a set from a turn and a spot on: the rest of the stack, of the strip, of the board, whose size the turn has, and the boards after it
+  abbrev rest : Turn → Spot → Stack → Strip → Board → List Sheet → List Placement
   rest t s k ks ss bs =
       stackLines job (t .board) (t .strip) (t .stack) (t .place) (s .x) (s .y) k
       ++ stripLines job (t .board) (t .strip) (suc (t .stack)) (s .x + max (s .width) (stackWidth job k) + job .blade) (s .base) ks
       ++ boardLines job (t .board) (suc (t .strip)) (max (s .above) (max (s .y + gapsAfter (job .blade) (heightOf job) k) (s .base + stripHeight job ks + job .blade))) ss
-      ++ setLines job (suc (t .board)) bs
+      ++ setLines job (suc (t .board .number)) bs
 
-  abbrev linesFrom : Turn → Spot → List Board → List Placement
+  abbrev linesFrom : Turn → Spot → List Sheet → List Placement
   linesFrom t s [] = rest t s [] [] [] []
-  linesFrom t s ([] ∷ bs) = rest t s [] [] [] bs
-  linesFrom t s (([] ∷ ss) ∷ bs) = rest t s [] [] ss bs
-  linesFrom t s (((k ∷ ks) ∷ ss) ∷ bs) = rest t s k ks ss bs
+  linesFrom t s (sheet z [] ∷ bs) = rest t s [] [] [] bs
+  linesFrom t s (sheet z ([] ∷ ss) ∷ bs) = rest t s [] [] ss bs
+  linesFrom t s (sheet z ((k ∷ ks) ∷ ss) ∷ bs) = rest t s k ks ss bs
 
   abbrev lineOn : Turn → ℕ → Spot → Placement
   lineOn t i s = record { turn = t; item = i; x = s .x; y = s .y }
 
   -- the further lines of a stack that an item lies in
   same-rest :
-      (t : Turn) (i : ℕ) (s : Spot) (k : Stack) (ks : Strip) (ss : Board) (bs : List Board)
-      → rest t s (i ∷ k) ks ss bs ≡ lineOn t i s ∷ rest (nextTurn none t) (putOn (job .blade) s (positionAt job i)) k ks ss bs
+      (t : Turn) (i : ℕ) (s : Spot) (k : Stack) (ks : Strip) (ss : Board) (bs : List Sheet)
+      → rest t s (i ∷ k) ks ss bs ≡ lineOn t i s ∷ rest (nextTurn none 0 t) (putOn (job .blade) s (positionAt job i)) k ks ss bs
   unfolding stackLines stackWidth maxOf sumOf widthOf heightOf
   same-rest t i s k ks ss bs =
       let w = positionAt job i .width in
@@ -65,25 +66,25 @@ module _ (job : Job) where
 
   -- where the lines after an item go on with its stack
   lines-place :
-      (t : Turn) (i : ℕ) (s : Spot) (bs : List Board)
-      → linesFrom t s (inSet i bs) ≡ lineOn t i s ∷ linesFrom (nextTurn none t) (putOn (job .blade) s (positionAt job i)) bs
+      (t : Turn) (z i : ℕ) (s : Spot) (bs : List Sheet)
+      → linesFrom t s (inSet z i bs) ≡ lineOn t i s ∷ linesFrom (nextTurn none 0 t) (putOn (job .blade) s (positionAt job i)) bs
   unfolding inSet inBoard inStrip
-  lines-place t i s [] = same-rest t i s [] [] [] []
-  lines-place t i s ([] ∷ bs) = same-rest t i s [] [] [] bs
-  lines-place t i s (([] ∷ ss) ∷ bs) = same-rest t i s [] [] ss bs
-  lines-place t i s (((k ∷ ks) ∷ ss) ∷ bs) = same-rest t i s k ks ss bs
+  lines-place t z i s [] = same-rest t i s [] [] [] []
+  lines-place t z i s (sheet j [] ∷ bs) = same-rest t i s [] [] [] bs
+  lines-place t z i s (sheet j ([] ∷ ss) ∷ bs) = same-rest t i s [] [] ss bs
+  lines-place t z i s (sheet j ((k ∷ ks) ∷ ss) ∷ bs) = same-rest t i s k ks ss bs
 
   -- the lines of a strip from a stack on, of a board from a strip on, of a set
   from-stack :
-      (b s k x y above : ℕ) (ks : Strip) (ss : Board) (bs : List Board)
-      → stripLines job b s (suc k) x y ks ++ boardLines job b (suc s) (max above (y + stripHeight job ks + job .blade)) ss ++ setLines job (suc b) bs
-      ≡ linesFrom (turn b s (suc k) 1) (spot x y y 0 above) ((ks ∷ ss) ∷ bs)
+      (b : Opened) (s k x y above z : ℕ) (ks : Strip) (ss : Board) (bs : List Sheet)
+      → stripLines job b s (suc k) x y ks ++ boardLines job b (suc s) (max above (y + stripHeight job ks + job .blade)) ss ++ setLines job (suc (b .number)) bs
+      ≡ linesFrom (turn b s (suc k) 1) (spot x y y 0 above) (sheet z (ks ∷ ss) ∷ bs)
   unfolding stripLines stackLines stackHeight stripHeight stackWidth maxOf sumOf gapSum
-  from-stack b s k x y above [] ss bs =
+  from-stack b s k x y above z [] ss bs =
       let g = job .blade in
       let e : max above (max (y + 0) (y + 0 + g)) ≡ max above (y + 0 + g) = omega arith in
       rw e
-  from-stack b s k x y above (l ∷ ls) ss bs =
+  from-stack b s k x y above z (l ∷ ls) ss bs =
       let g = job .blade in
       let hs = gapsAfter g (heightOf job) l in
       let a : x + max 0 (stackWidth job l) ≡ x + stackWidth job l = omega arith in
@@ -91,81 +92,81 @@ module _ (job : Job) where
       rw (a, h)
 
   from-strip :
-      (b s base : ℕ) (ss : Board) (bs : List Board)
-      → boardLines job b (suc s) base ss ++ setLines job (suc b) bs ≡ linesFrom (turn b (suc s) 1 1) (spot 0 base base 0 base) (ss ∷ bs)
+      (b : Opened) (s base z : ℕ) (ss : Board) (bs : List Sheet)
+      → boardLines job b (suc s) base ss ++ setLines job (suc (b .number)) bs ≡ linesFrom (turn b (suc s) 1 1) (spot 0 base base 0 base) (sheet z ss ∷ bs)
   unfolding boardLines stripLines stackLines
-  from-strip b s base [] bs = refl
-  from-strip b s base (ks ∷ ss) bs =
+  from-strip b s base z [] bs = refl
+  from-strip b s base z (ks ∷ ss) bs =
       let e : base + stripHeight job ks + job .blade ≡ max base (base + stripHeight job ks + job .blade) = omega arith in
-      ap (λ (y : ℕ). stripLines job b (suc s) 1 0 base ks ++ boardLines job b (suc (suc s)) y ss ++ setLines job (suc b) bs) e
-      ∙ from-stack b (suc s) 0 0 base base ks ss bs
+      ap (λ (y : ℕ). stripLines job b (suc s) 1 0 base ks ++ boardLines job b (suc (suc s)) y ss ++ setLines job (suc (b .number)) bs) e
+      ∙ from-stack b (suc s) 0 0 base base z ks ss bs
 
-  from-board : (b : ℕ) (bs : List Board) → setLines job (suc b) bs ≡ linesFrom (turn (suc b) 1 1 1) (spot 0 0 0 0 0) bs
+  from-board : (b : ℕ) (bs : List Sheet) → setLines job (suc b) bs ≡ linesFrom (turn (opened (suc b) (firstSize bs)) 1 1 1) (spot 0 0 0 0 0) bs
   unfolding setLines boardLines stripLines stackLines
   from-board b [] = refl
-  from-board b (bd ∷ bs) = from-strip (suc b) 0 0 bd bs
+  from-board b (sheet z bd ∷ bs) = from-strip (opened (suc b) z) 0 0 z bd bs
 
   -- a stack that has ended
   stack-opened :
-      (t : Turn) (p : Spot) (ks : Strip) (ss : Board) (bs : List Board)
+      (t : Turn) (p : Spot) (z : ℕ) (ks : Strip) (ss : Board) (bs : List Sheet)
       → p .y ≤ p .above
-      → rest (nextTurn none t) p [] ks ss bs ≡ linesFrom (nextTurn (some stack) t) (movedTo (job .blade) (some stack) p) ((ks ∷ ss) ∷ bs)
+      → rest (nextTurn none 0 t) p [] ks ss bs ≡ linesFrom (nextTurn (some stack) 0 t) (movedTo (job .blade) (some stack) p) (sheet z (ks ∷ ss) ∷ bs)
   unfolding stackLines stackWidth maxOf sumOf
-  stack-opened t p ks ss bs h =
+  stack-opened t p z ks ss bs h =
       let g = job .blade in
       let a : p .x + max (p .width) 0 ≡ p .x + p .width = omega arith in
       let e : max (p .above) (max (p .y + 0) (p .base + stripHeight job ks + g)) ≡ max (p .above) (p .base + stripHeight job ks + g) = omega arith in
-      rw (a, e) (from-stack (t .board) (t .strip) (t .stack) (p .x + p .width + g) (p .base) (p .above) ks ss bs)
+      rw (a, e) (from-stack (t .board) (t .strip) (t .stack) (p .x + p .width + g) (p .base) (p .above) z ks ss bs)
 
   -- a strip that has ended
   strip-opened :
-      (t : Turn) (p : Spot) (ss : Board) (bs : List Board)
+      (t : Turn) (p : Spot) (z : ℕ) (ss : Board) (bs : List Sheet)
       → p .y ≤ p .above
       → p .base + job .blade ≤ p .above
-      → rest (nextTurn none t) p [] [] ss bs ≡ linesFrom (nextTurn (some strip) t) (movedTo (job .blade) (some strip) p) (ss ∷ bs)
+      → rest (nextTurn none 0 t) p [] [] ss bs ≡ linesFrom (nextTurn (some strip) 0 t) (movedTo (job .blade) (some strip) p) (sheet z ss ∷ bs)
   unfolding stackLines stripLines stripHeight maxOf sumOf
-  strip-opened t p ss bs h l =
+  strip-opened t p z ss bs h l =
       let e : max (p .above) (max (p .y + 0) (p .base + 0 + job .blade)) ≡ p .above = omega arith in
-      rw e (from-strip (t .board) (t .strip) (p .above) ss bs)
+      rw e (from-strip (t .board) (t .strip) (p .above) z ss bs)
 
   -- where they begin a stack, a strip, a board
   lines-stack :
-      (t : Turn) (i : ℕ) (s : Spot) (bs : List Board)
-      → linesFrom t s (before stack (i ∷ []) bs) ≡ lineOn t i s ∷ linesFrom (nextTurn (some stack) t) (movedTo (job .blade) (some stack) (putOn (job .blade) s (positionAt job i))) bs
+      (t : Turn) (z i : ℕ) (s : Spot) (bs : List Sheet)
+      → linesFrom t s (before z stack (i ∷ []) bs) ≡ lineOn t i s ∷ linesFrom (nextTurn (some stack) 0 t) (movedTo (job .blade) (some stack) (putOn (job .blade) s (positionAt job i))) bs
   unfolding before beside stackLines stripLines boardLines setLines
-  lines-stack t i s [] = refl
-  lines-stack t i s ([] ∷ bs) = refl
-  lines-stack t i s ((ks ∷ ss) ∷ bs) = same-rest t i s [] ks ss bs ∙ ap (λ (l : List Placement). lineOn t i s ∷ l) (stack-opened t (putOn (job .blade) s (positionAt job i)) ks ss bs (omega arith))
+  lines-stack t z i s [] = refl
+  lines-stack t z i s (sheet j [] ∷ bs) = refl
+  lines-stack t z i s (sheet j (ks ∷ ss) ∷ bs) = same-rest t i s [] ks ss bs ∙ ap (λ (l : List Placement). lineOn t i s ∷ l) (stack-opened t (putOn (job .blade) s (positionAt job i)) j ks ss bs (omega arith))
 
   lines-strip :
-      (t : Turn) (i : ℕ) (s : Spot) (bs : List Board)
+      (t : Turn) (z i : ℕ) (s : Spot) (bs : List Sheet)
       → s .base ≤ s .y
-      → linesFrom t s (before strip (i ∷ []) bs) ≡ lineOn t i s ∷ linesFrom (nextTurn (some strip) t) (movedTo (job .blade) (some strip) (putOn (job .blade) s (positionAt job i))) bs
+      → linesFrom t s (before z strip (i ∷ []) bs) ≡ lineOn t i s ∷ linesFrom (nextTurn (some strip) 0 t) (movedTo (job .blade) (some strip) (putOn (job .blade) s (positionAt job i))) bs
   unfolding before stackLines stripLines boardLines setLines
-  lines-strip t i s [] h = refl
-  lines-strip t i s (ss ∷ bs) h =
-      same-rest t i s [] [] ss bs ∙ ap (λ (l : List Placement). lineOn t i s ∷ l) (strip-opened t (putOn (job .blade) s (positionAt job i)) ss bs (omega arith) (omega arith))
+  lines-strip t z i s [] h = refl
+  lines-strip t z i s (sheet j ss ∷ bs) h =
+      same-rest t i s [] [] ss bs ∙ ap (λ (l : List Placement). lineOn t i s ∷ l) (strip-opened t (putOn (job .blade) s (positionAt job i)) j ss bs (omega arith) (omega arith))
 
   lines-board :
-      (t : Turn) (i : ℕ) (s : Spot) (bs : List Board)
-      → linesFrom t s (before board (i ∷ []) bs) ≡ lineOn t i s ∷ linesFrom (nextTurn (some board) t) (movedTo (job .blade) (some board) (putOn (job .blade) s (positionAt job i))) bs
+      (t : Turn) (z i : ℕ) (s : Spot) (bs : List Sheet)
+      → linesFrom t s (before z board (i ∷ []) bs) ≡ lineOn t i s ∷ linesFrom (nextTurn (some board) (firstSize bs) t) (movedTo (job .blade) (some board) (putOn (job .blade) s (positionAt job i))) bs
   unfolding before stackLines stripLines boardLines setLines
-  lines-board t i s [] = refl
-  lines-board t i s (b ∷ bs) = ap (λ (l : List Placement). lineOn t i s ∷ l) (from-board (t .board) (b ∷ bs))
+  lines-board t z i s [] = refl
+  lines-board t z i s (b ∷ bs) = ap (λ (l : List Placement). lineOn t i s ∷ l) (from-board (t .board .number) (b ∷ bs))
 
   -- a line before the lines that are left, by what these begin
   lines-step :
       (t : Turn) (s : Spot) (r : Placement) (rs : List Placement)
       → s .base ≤ s .y
-      → linesFrom t s (grouped (r ∷ rs)) ≡ lineOn t (r .item) s ∷ linesFrom (nextTurn (begun rs) t) (movedTo (job .blade) (begun rs) (putOn (job .blade) s (positionAt job (r .item)))) (grouped rs)
+      → linesFrom t s (grouped (r ∷ rs)) ≡ lineOn t (r .item) s ∷ linesFrom (nextTurn (begun rs) (firstSize (grouped rs)) t) (movedTo (job .blade) (begun rs) (putOn (job .blade) s (positionAt job (r .item)))) (grouped rs)
   lines-step t s r rs h = go (begun rs) refl
     where
       go : (o : Option Level) → begun rs ≡ o
-          → linesFrom t s (grouped (r ∷ rs)) ≡ lineOn t (r .item) s ∷ linesFrom (nextTurn o t) (movedTo (job .blade) o (putOn (job .blade) s (positionAt job (r .item)))) (grouped rs)
-      go none e = ap (linesFrom t s) (grouped-on r rs e) ∙ lines-place t (r .item) s (grouped rs)
-      go (some stack) e = ap (linesFrom t s) (grouped-new r rs stack e) ∙ lines-stack t (r .item) s (grouped rs)
-      go (some strip) e = ap (linesFrom t s) (grouped-new r rs strip e) ∙ lines-strip t (r .item) s (grouped rs) h
-      go (some board) e = ap (linesFrom t s) (grouped-new r rs board e) ∙ lines-board t (r .item) s (grouped rs)
+          → linesFrom t s (grouped (r ∷ rs)) ≡ lineOn t (r .item) s ∷ linesFrom (nextTurn o (firstSize (grouped rs)) t) (movedTo (job .blade) o (putOn (job .blade) s (positionAt job (r .item)))) (grouped rs)
+      go none e = ap (linesFrom t s) (grouped-on r rs e) ∙ lines-place t (r .turn .board .size) (r .item) s (grouped rs)
+      go (some stack) e = ap (linesFrom t s) (grouped-new r rs stack e) ∙ lines-stack t (r .turn .board .size) (r .item) s (grouped rs)
+      go (some strip) e = ap (linesFrom t s) (grouped-new r rs strip e) ∙ lines-strip t (r .turn .board .size) (r .item) s (grouped rs) h
+      go (some board) e = ap (linesFrom t s) (grouped-new r rs board e) ∙ lines-board t (r .turn .board .size) (r .item) s (grouped rs)
 
   -- 18, line by line
   unfoldable pub spotted : ℕ → Spot → List Placement → Verdict
@@ -189,12 +190,12 @@ module _ (job : Job) where
       let next = movedTo (job .blade) (begun rs) (putOn (job .blade) s (positionAt job (r .item))) in
       ap (positioned k (r ∷ rs)) (lines-step t s r rs h)
       ∙ ap (λ (v : Verdict). elim (eqb (r .x) (s .x) && eqb (r .y) (s .y)) as (λ _. Verdict) [ false ↦ refuse 18 k | true ↦ v ])
-      (spotted-lines (suc k) (nextTurn (begun rs) t) next rs (based (begun rs) (putOn (job .blade) s (positionAt job (r .item))) (omega arith)))
+      (spotted-lines (suc k) (nextTurn (begun rs) (firstSize (grouped rs)) t) next rs (based (begun rs) (putOn (job .blade) s (positionAt job (r .item))) (omega arith)))
 
   -- from the first line on
   spotted-whole : (k : ℕ) (rs : List Placement) → positioned k rs (linesOf job (grouped rs)) ≡ spotted k (spot 0 0 0 0 0) rs
   unfolding linesOf
-  spotted-whole k rs = ap (positioned k rs) (from-board 0 (grouped rs)) ∙ spotted-lines k (turn 1 1 1 1) (spot 0 0 0 0 0) rs (omega arith)
+  spotted-whole k rs = ap (positioned k rs) (from-board 0 (grouped rs)) ∙ spotted-lines k (turn (opened 1 (firstSize (grouped rs))) 1 1 1) (spot 0 0 0 0 0) rs (omega arith)
 
   pub spots-begin : (k : ℕ) (rs : List Placement) → positioned k rs (linesOf job (grouped rs)) ≡ spotted (k + 0) (spot 0 0 0 0 0) rs
   spots-begin k rs = let e : k + 0 ≡ k = omega arith in rw e (spotted-whole k rs)

@@ -7,8 +7,8 @@ use mathlib.Core.Option.{Option, none, some}
 use native.Mathlib.Omega.{arith}
 use borrow.Author.Tests.{eqb-true, eq-eqb}
 use lib.Dec.{eqb}
-use lib.ListN.{length, drop}
-use Rattle.job.specs.Sizes.{wordsOfPlacement, jobSize}
+use lib.ListN.{length, getD, drop}
+use Rattle.job.specs.Sizes.{wordsOfHead, wordsOfPlacement, jobSize}
 use Rattle.job.specs.declared.item.Position.{Position}
 use Rattle.job.specs.Lists.{all, sumOf, gapsAfter, gapSum, maxOf}
 use Rattle.job.specs.Job.{Job, typeOf, positionAt}
@@ -157,6 +157,10 @@ module _ (job : Job) where
 pub small-next : {c n gap : ℕ} {m m′ : StackMeasure} (it : Position) → StackSmall c n m → m .end < n → it .width ≤ maxWord → it .height ≤ maxWord → gap ≤ maxWord → m′ ≡ itemOn gap m it → StackSmall c n m′
 small-next it s h a b g e = rw e (record { begun = omega arith; inside = omega arith; narrow = omega arith; low = omega arith })
 
+-- a job whose sizes are there has its head
+pub lent-head : {job ws : List ℕ} {n : ℕ} → LentLines job ws n → wordsOfHead ≤ length job
+lent-head l = omega (arith, l .sizes)
+
 -- the item of a line that is lent: its number is small, and the words of its type are there
 pub lent-small : {job ws : List ℕ} {n : ℕ} → LentLines job ws n → (c : ℕ) → c < n → placementAt ws c .item < 2 ^ 16
 lent-small {job} {ws} l c h = omega (arith, l .typed c h .few, type-turn (placementAt ws c .item), turn-small (placementAt ws c .item))
@@ -164,7 +168,7 @@ lent-small {job} {ws} l c h = omega (arith, l .typed c h .few, type-turn (placem
 pub small-read : {l m : Line} → l ≡ m → m .placement .item < 2 ^ 16 → l .placement .item < 2 ^ 16
 small-read e h = rw e h
 
-pub lent-item : {job ws : List ℕ} {n c : ℕ} → LentLines job ws n → c < n → {l : Line} {q : ℕ} → l ≡ lineAt ws c → q ≡ l .placement .item → (1 ≤ typeOf q) × (jobSize (typeOf q) ≤ length job)
+pub lent-item : {job ws : List ℕ} {n c : ℕ} → LentLines job ws n → c < n → {l : Line} {q : ℕ} → l ≡ lineAt ws c → q ≡ l .placement .item → (1 ≤ typeOf q) × (jobSize (getD job 2 0) (typeOf q) ≤ length job)
 lent-item {job} {ws} {n} {c} l h e f = rw (f, e) (l .typed c h .from-one, l .typed c h .words)
 
 pub item-said : (job : Job) (ws : List ℕ) (c : ℕ) {q : ℕ} {it : Position} {l : Line} → it ≡ positionAt job q → q ≡ l .placement .item → l ≡ lineAt ws c → it ≡ positionAt job (placementAt ws c .item)

@@ -5,10 +5,10 @@ use mathlib.Core.Bool.{_&&_}
 use lib.Dec.{eqb}
 use mathlib.Core.List.{List}
 use lib.ListN.{length}
-use Rattle.job.specs.Sizes.{maxTypes, maxPieces, wordsOfHead, wordsOfPlacement, jobSize}
+use Rattle.job.specs.Sizes.{maxTypes, maxPieces, wordsBefore, wordsOfPlacement, jobSize}
 use Rattle.job.specs.declared.item.Position.{Position}
 use Rattle.job.specs.Lists.{gapsAfter}
-use Rattle.job.specs.Job.{Job, typeOf}
+use Rattle.job.specs.Job.{Job, typeOf, boardSizes}
 use Rattle.layouts.specs.Layout.{Stack, Strip, stackWidth, stackHeight, stripHeight, sameWidths}
 use Rattle.layouts.specs.Placement.{itemsOfStrip}
 use Rattle.placement.specs.PlacementRead.{placementAt}
@@ -26,15 +26,17 @@ maxStep = 2 * maxWord
 -- an item in position q is of an item type whose words the job has, of which there are at most 40
 pub record Typed (job : List ℕ) (q : ℕ) : Type 0 where
   pub from-one : 1 ≤ typeOf q
-  pub words : jobSize (typeOf q) ≤ length job
+  pub words : jobSize (boardSizes job) (typeOf q) ≤ length job
   pub few : typeOf q ≤ maxTypes
 
--- the job has the words of its board, and the layout words lent are whole lines, at most 4,000, each of an item type of the job
+-- the job has the words of its head and its sizes, and the layout words lent are whole lines, at most 4,000, each of an item type and on a board of a size
+-- of the job
 pub record LentLines (job layouts : List ℕ) (lines : ℕ) : Type 0 where
-  pub board : wordsOfHead ≤ length job
+  pub sizes : wordsBefore (boardSizes job) ≤ length job
   pub whole : length layouts ≡ wordsOfPlacement * lines
   pub few : lines ≤ maxPieces
   pub typed : (c : ℕ) → c < lines → Typed job (placementAt layouts c .item)
+  pub sized : (c : ℕ) → c < lines → placementAt layouts c .turn .board .size < boardSizes job
 
 -- one item more on a stack; request Four, a gap of the blade's width b between it and the item below
 abbrev pub itemOn : ℕ → StackMeasure → Position → StackMeasure

@@ -1,4 +1,4 @@
--- Document 01, "Layouts and folding": item positions line by line, "x the widths of the stacks before it, y the strips below plus the items below it in its
+-- Document 01, "Layouts and folding": item positions line by line, "x the widths of the stacks before it; y the strips below plus the items below it in its
 -- stack"; request Four, "positions move accordingly": b, the blade's width, after each of these.
 use Prim.Native.Nat.{ℕ, _+_, _*_, _≤_, max}
 use mathlib.Core.Option.{Option, none, some}

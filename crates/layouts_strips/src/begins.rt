@@ -5,6 +5,8 @@ ghost use lib.ListN.{length, drop};
 ghost use Rattle.job.specs.Sizes.{wordsOfPlacement};
 ghost use Rattle.layouts.specs.Lines.{rowsOf, begun};
 ghost use Rattle.layouts_strips.specs.Begun.{levelIn, goesOn, beginsStack, beginsStrip};
+ghost use Rattle.layouts_strips.specs.First.{sizeNamed, stripPlate};
+use job::counters::PlateType;
 use placement::placement_at;
 
 // A further place of a stack, or the first of a stack, of a strip, of a board.
@@ -76,4 +78,27 @@ pub fn begins_strip(layouts: &[u16], lines: usize, c: usize) -> bool
         Begins::Strip => true,
         Begins::Board => false,
     }
+}
+
+// The size of its board that the line behind c others names, and 0 past the last line.
+pub fn size_named(layouts: &[u16], lines: usize, c: usize) -> PlateType
+    requires { ⌜ length (now layouts) ≡ wordsOfPlacement * lines ⌝ }
+    ensures { λ r. ⌜ r .0 ≡ sizeNamed (drop c (rowsOf (now (layouts .entry)))) ⌝ }
+{
+    if lines <= c {
+        return PlateType(0);
+    }
+    let line = placement_at(layouts, c);
+    line.size
+}
+
+// A plate type for the strip that begins behind c lines: the given one where it is a further strip of a board, else the size of its board.
+pub fn strip_plate(layouts: &[u16], lines: usize, c: usize, further: PlateType) -> PlateType
+    requires { ⌜ (length (now layouts) ≡ wordsOfPlacement * lines) × (c ≤ lines) ⌝ }
+    ensures { λ r. ⌜ r .0 ≡ stripPlate (drop c (rowsOf (now (layouts .entry)))) (further .0) ⌝ }
+{
+    if begins_strip(layouts, lines, c) {
+        return further;
+    }
+    size_named(layouts, lines, c)
 }

@@ -7,6 +7,7 @@ use lib.ListN.{length, getD, set, replicate, length-append, length-set, length-r
 use lib.Seq.{set-at, append-snoc}
 use Rattle.job.specs.Sizes.{wordsOfPlate, wordsOfCut, RecordIn}
 use Rattle.job.specs.Buffers.{filled}
+use Rattle.job.specs.Job.{Job, sizeAt}
 use Rattle.job.proofs.Buffers.{filled-read}
 use Rattle.listing.specs.declared.plate.Plate.{Plate}
 use Rattle.listing.specs.Plate.{waste}
@@ -39,20 +40,22 @@ held-put {buffer} {ws} k v e h r =
     record { words = rw length-set (ap (λ (b : List ℕ). set b k v) (r .words) ∙ filled-put (length buffer) ws k v e h) }
 
 -- the words of one plate type more, of one cut more, word by word
-plateWords-snoc : (ps : List Plate) (p : Plate) → plateWords (ps ++ p ∷ []) ≡ plateWords ps ++ p .width ∷ [] ++ p .height ∷ [] ++ p .stage ∷ []
-plateWords-snoc ps p = plate-words-last ps p ∙ simp append-assoc
+plateWords-snoc : (job : Job) (ps : List Plate) (p : Plate) → plateWords job (ps ++ p ∷ []) ≡ plateWords job ps ++ p .width ∷ [] ++ p .height ∷ [] ++ p .stage ∷ [] ++ sizeAt job (length ps) .cost ∷ []
+plateWords-snoc job ps p = plate-words-last job ps p ∙ simp append-assoc
 
 cutWords-snoc : (cs : List Cut) (c : Cut) → cutWords (cs ++ c ∷ []) ≡ cutWords cs ++ c .plate ∷ [] ++ c .item ∷ [] ++ c .top ∷ [] ++ c .right ∷ []
 cutWords-snoc cs c = cut-words-last cs c ∙ simp append-assoc
 
--- one plate type more, as its three stores leave it
-pub held-plate-put : {buffer : List ℕ} (ps : List Plate) (m : ℕ) (p : Plate) → length ps ≡ m → RecordIn wordsOfPlate m buffer → Holds buffer (plateWords ps) → Holds (set (set (set buffer (wordsOfPlate * m) (p .width)) (wordsOfPlate * m + 1) (p .height)) (wordsOfPlate * m + 2) (p .stage)) (plateWords (ps ++ p ∷ []))
-held-plate-put ps m p e h r =
-    let l : length (plateWords ps) ≡ wordsOfPlate * length ps = plate-words-length ps in
-    rw plateWords-snoc
+-- one plate type more, as its four stores leave it
+pub held-plate-put : {buffer : List ℕ} (job : Job) (ps : List Plate) (m cost : ℕ) (p : Plate) → length ps ≡ m → sizeAt job m .cost ≡ cost → RecordIn wordsOfPlate m buffer → Holds buffer (plateWords job ps) → Holds (set (set (set (set buffer (wordsOfPlate * m) (p .width)) (wordsOfPlate * m + 1) (p .height)) (wordsOfPlate * m + 2) (p .stage)) (wordsOfPlate * m + 3) cost) (plateWords job (ps ++ p ∷ []))
+held-plate-put job ps m cost p e k h r =
+    let l : length (plateWords job ps) ≡ wordsOfPlate * length ps = plate-words-length job ps in
+    let f : sizeAt job (length ps) .cost ≡ cost = ap (λ (i : ℕ). sizeAt job i .cost) e ∙ k in
+    rw (plateWords-snoc, f)
+    (held-put (wordsOfPlate * m + 3) cost (simp length-append (omega arith)) (simp length-set (omega arith))
     (held-put (wordsOfPlate * m + 2) (p .stage) (simp length-append (omega arith)) (simp length-set (omega arith))
     (held-put (wordsOfPlate * m + 1) (p .height) (simp length-append (omega arith)) (simp length-set (omega arith))
-    (held-put (wordsOfPlate * m) (p .width) (omega arith) (omega arith) r)))
+    (held-put (wordsOfPlate * m) (p .width) (omega arith) (omega arith) r))))
 
 -- one cut more, as its four stores leave it
 pub held-cut-put : {buffer : List ℕ} (cs : List Cut) (k : ℕ) (c : Cut) → length cs ≡ k → RecordIn wordsOfCut k buffer → Holds buffer (cutWords cs) → Holds (set (set (set (set buffer (wordsOfCut * k) (c .plate)) (wordsOfCut * k + 1) (c .item)) (wordsOfCut * k + 2) (c .top)) (wordsOfCut * k + 3) (c .right)) (cutWords (cs ++ c ∷ []))
@@ -65,6 +68,6 @@ held-cut-put cs k c e h r =
     (held-put (wordsOfCut * k) (c .plate) (omega arith) (omega arith) r))))
 
 -- plate type j of a buffer
-pub held-plate : {buffer : List ℕ} (ps : List Plate) → Holds buffer (plateWords ps) → (j : ℕ) → plateRead buffer j ≡ getD ps j waste
-held-plate ps h j =
-    rw (held-word (plateWords ps) h (wordsOfPlate * j), held-word (plateWords ps) h (wordsOfPlate * j + 1), held-word (plateWords ps) h (wordsOfPlate * j + 2)) (plate-words-read ps j)
+pub held-plate : {buffer : List ℕ} (job : Job) (ps : List Plate) → Holds buffer (plateWords job ps) → (j : ℕ) → plateRead buffer j ≡ getD ps j waste
+held-plate job ps h j =
+    rw (held-word (plateWords job ps) h (wordsOfPlate * j), held-word (plateWords job ps) h (wordsOfPlate * j + 1), held-word (plateWords job ps) h (wordsOfPlate * j + 2)) (plate-words-read job ps j)

@@ -4,11 +4,11 @@ use native.Mathlib.Omega.{arith}
 use mathlib.Core.Path.{_≡_, refl, _∙_}
 use mathlib.Core.Logic.{_⊎_, inl, inr}
 use mathlib.Core.Bool.{Bool, true, false}
-use lib.ListN.{length, drop}
+use lib.ListN.{length, drop, length-map}
 use Rattle.job.specs.Job.{Job, positions, positionAt}
 use Rattle.job.proofs.Tests.{at-most-or-above}
 use Rattle.listing.specs.declared.plate.Residuals.{Residuals}
-use Rattle.listing.specs.Plate.{mayCut, leaves}
+use Rattle.listing.specs.Plate.{board, mayCut, leaves}
 use Rattle.listing.specs.Listing.{Listing, Walk, going, stopped, plateAt, limited, pair, overItems, overPlates, walkWithin, walkStart}
 use Rattle.listing.proofs.Growth.{done-longer, done-plate, done-count}
 use Rattle.listing.proofs.Steps.{limited-going, limited-cuts, limited-plates, pair-skipped, pair-cut, items-drop-going, items-drop-stopped, items-drop-end, plates-going, plates-stopped, plates-end}
@@ -161,12 +161,12 @@ module _ (P C : ℕ) (job : Job) where
           by (stopped n) s t = rw (plates-stopped P C job fuel j l n h s) t
 
   -- the walk ends so
-  pub walk-ended : 1 ≤ P → Ended (walkWithin P C job)
+  pub walk-ended : length (job .sizes) ≤ P → Ended (walkWithin P C job)
   unfolding walkWithin
-  walk-ended h = plates-ended P 0 (walkStart job) (omega arith) start (record { few-plates = h; few-cuts = omega arith })
+  walk-ended h = plates-ended P 0 (walkStart job) (omega arith) start (record { few-plates = omega (arith, length-map (job .sizes) board); few-cuts = omega arith })
 
-  pub walk-complete : 1 ≤ P → (l : Listing) → walkWithin P C job ≡ going l → Complete l
+  pub walk-complete : length (job .sizes) ≤ P → (l : Listing) → walkWithin P C job ≡ going l → Complete l
   walk-complete h l e = rw e at (walk-ended h)
 
-  pub walk-halted : 1 ≤ P → (n : ℕ) → walkWithin P C job ≡ stopped n → Halted n
+  pub walk-halted : length (job .sizes) ≤ P → (n : ℕ) → walkWithin P C job ≡ stopped n → Halted n
   walk-halted h n e = rw e at (walk-ended h)

@@ -1,7 +1,7 @@
 -- The walk numbers residual types as it first meets them.
 use Prim.Native.Nat.{ℕ, suc, _≤_, _<_}
 use native.Mathlib.Omega.{arith}
-use mathlib.Core.Path.{_≡_}
+use mathlib.Core.Path.{_≡_, _∙_}
 use mathlib.Core.Logic.{_⊎_, inl, inr}
 use mathlib.Core.List.{List}
 use lib.ListN.{length}
@@ -14,7 +14,8 @@ use Rattle.listing.specs.Listing.{Listing, plateAt, cutAt, entered}
 use Rattle.listing.specs.Numbering.{Met, AsMet}
 use Rattle.listing.proofs.Numbers.{Entering, not-kept, met, fresh, entering}
 use Rattle.listing.proofs.Growth.{done-count, done-cut, done-last}
-use Rattle.listing.proofs.Reached.{Reached, start, skipped, done, row, after}
+use Rattle.listing.proofs.Steps.{done-sizes}
+use Rattle.listing.proofs.Reached.{Reached, start, skipped, done, row, after, reached-sizes}
 use Rattle.listing.proofs.Origin.{entered-last, reached-left}
 
 -- a residual's number is that of a plate type or the next
@@ -23,12 +24,12 @@ entered-at-most job p ps = go (entering job p ps)
   where
     go : Entering job p ps → entered job p ps .number ≤ length ps
     go (not-kept h e) = rw e (omega arith)
-    go (met k h l g e) = rw e (omega arith)
+    go (met k h t l g e) = rw e (omega arith)
     go (fresh h f e) = rw e (omega arith)
 
 module _ (job : Job) where
   -- every residual type of a place has been met there
-  reached-met : {j i : ℕ} {l : Listing} → Reached job j i l → (k : ℕ) → 0 < k → k < length (l .plates) → Met l (length (l .cuts)) k
+  reached-met : {j i : ℕ} {l : Listing} → Reached job j i l → (k : ℕ) → length (job .sizes) ≤ k → k < length (l .plates) → Met l (length (l .cuts)) k
   reached-met r k a b = let x = reached-left job r k a b in (x .cut, x .listed, x .either)
 
   -- a cut that is done, where the residual types so far are numbered as met
@@ -45,20 +46,27 @@ module _ (job : Job) where
     n : length (next .cuts) ≡ suc (length (l .cuts))
     n = done-count job j i left l
 
+    -- the sizes are the job's
+    sizes-before : l .sizes ≡ length (job .sizes)
+    sizes-before = reached-sizes job r
+
+    sizes-after : next .sizes ≡ length (job .sizes)
+    sizes-after = done-sizes job j i left l ∙ sizes-before
+
     still : {c k : ℕ} → c ≤ length (l .cuts) → Met l c k → Met next c k
     still h (b, g, e) = (b, g, rw (done-cut job j i left l b (omega arith)) e)
 
-    top : (c k : ℕ) → c < length (next .cuts) → 0 < k → cutAt next (suc c) .top ≡ suc k → Met next c k
+    top : (c k : ℕ) → c < length (next .cuts) → next .sizes ≤ k → cutAt next (suc c) .top ≡ suc k → Met next c k
     top c k h z e = go (at-most-or-above (length (l .cuts)) c)
       where
         go : (length (l .cuts) ≤ c) ⊎ (c < length (l .cuts)) → Met next c k
         go (inl a) =
             let m : c ≡ length (l .cuts) = omega (arith, n) in
             let t : entered job (left .top) (l .plates) .number ≡ suc k = rw (m, done-last job j i left l) at e in
-            still (omega arith) (rw m (reached-met r k z (omega (arith, entered-at-most job (left .top) (l .plates)))))
-        go (inr a) = still (omega arith) (before .top-after c k a z (rw (done-cut job j i left l c a) at e))
+            still (omega arith) (rw m (reached-met r k (omega (arith, sizes-after)) (omega (arith, entered-at-most job (left .top) (l .plates)))))
+        go (inr a) = still (omega arith) (before .top-after c k a (omega (arith, sizes-before, sizes-after)) (rw (done-cut job j i left l c a) at e))
 
-    right : (c k : ℕ) → c < length (next .cuts) → 0 < k → cutAt next (suc c) .right ≡ suc k → Met next c k ⊎ (cutAt next (suc c) .top ≡ k)
+    right : (c k : ℕ) → c < length (next .cuts) → next .sizes ≤ k → cutAt next (suc c) .right ≡ suc k → Met next c k ⊎ (cutAt next (suc c) .top ≡ k)
     right c k h z e = go (at-most-or-above (length (l .cuts)) c) (at-most-or-above (length (l .plates)) k)
       where
         old : Met l c k ⊎ (cutAt l (suc c) .top ≡ k) → c < length (l .cuts) → Met next c k ⊎ (cutAt next (suc c) .top ≡ k)
@@ -75,8 +83,8 @@ module _ (job : Job) where
             inr (rw (m, done-last job j i left l) (entered-last job (left .top) (l .plates) k b (omega (arith, entered-at-most job (left .right) ps))))
         go (inl a) (inr b) =
             let m : c ≡ length (l .cuts) = omega (arith, n) in
-            inl (still (omega arith) (rw m (reached-met r k z b)))
-        go (inr a) b = old (before .right-after c k a z (rw (done-cut job j i left l c a) at e)) a
+            inl (still (omega arith) (rw m (reached-met r k (omega (arith, sizes-after)) b)))
+        go (inr a) b = old (before .right-after c k a (omega (arith, sizes-before, sizes-after)) (rw (done-cut job j i left l c a) at e)) a
 
     done-as-met : AsMet next
     done-as-met = record { top-after = top; right-after = right }

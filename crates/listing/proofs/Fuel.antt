@@ -3,9 +3,10 @@ use Prim.Native.Nat.{ℕ, zero, suc, _+_, _≤_, _<_}
 use native.Mathlib.Omega.{arith}
 use mathlib.Core.Path.{_≡_, refl, sym, _∙_, ap}
 use mathlib.Core.Logic.{_⊎_, inl, inr}
-use lib.ListN.{length}
+use lib.ListN.{length, length-map}
 use Rattle.job.specs.Job.{Job, positions}
 use Rattle.job.proofs.Tests.{at-most-or-above}
+use Rattle.listing.specs.Plate.{board}
 use Rattle.listing.specs.Listing.{Listing, Walk, going, stopped, plateAt, overItems, overPlates, walkWithin, walkStart}
 use Rattle.listing.proofs.Steps.{plates-going, plates-stopped, plates-end}
 use Rattle.listing.proofs.Along.{items-few}
@@ -36,11 +37,11 @@ module _ (P C : ℕ) (job : Job) where
       go (inr b) (stopped n) e ih = plates-stopped P C job (suc fuel) j l n b e ∙ sym (plates-stopped P C job fuel j l n b e)
 
   -- any fuel from the limit of plate types on gives the walk
-  pub fuel-any : (more : ℕ) → 1 ≤ P → overPlates P C job (more + P) 0 (walkStart job) ≡ walkWithin P C job
+  pub fuel-any : (more : ℕ) → length (job .sizes) ≤ P → overPlates P C job (more + P) 0 (walkStart job) ≡ walkWithin P C job
   unfolding walkWithin
   fuel-any zero h = let e : 0 + P ≡ P = omega arith in ap (λ (fuel : ℕ). overPlates P C job fuel 0 (walkStart job)) e
   fuel-any (suc more) h =
       let e : suc more + P ≡ suc (more + P) = omega arith in
       ap (λ (fuel : ℕ). overPlates P C job fuel 0 (walkStart job)) e
-      ∙ fuel-enough (more + P) 0 (walkStart job) h (omega arith)
+      ∙ fuel-enough (more + P) 0 (walkStart job) (omega (arith, length-map (job .sizes) board)) (omega arith)
       ∙ fuel-any more h

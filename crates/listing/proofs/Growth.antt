@@ -74,7 +74,7 @@ module _ (job : Job) (p : Plate) (ps : List Plate) where
     where
       go : Entering job p ps → Longer waste ps (entered job p ps .plates)
       go (not-kept h e) = rw e (longer-same waste ps)
-      go (met k h l g e) = rw e (longer-same waste ps)
+      go (met k h a l g e) = rw e (longer-same waste ps)
       go (fresh h f e) = rw e (longer-append waste ps (p ∷ []))
 
 -- the cut done with residuals r at plate type j with position i

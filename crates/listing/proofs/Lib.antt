@@ -14,6 +14,7 @@ pub mod Ends
 pub mod WalkModel
 pub mod RecordWords
 pub mod CodeCuts
+pub mod CodeLent
 pub mod Along
 pub mod Fuel
 pub mod Limits

@@ -1,53 +1,88 @@
 -- The limits of the walk: what 6 and 7 mean exactly, and what a walk with larger limits says of one that is refused.
-use Prim.Native.Nat.{ℕ, suc, _-_, _≤_, _<_}
+use Prim.Native.Nat.{ℕ, zero, suc, _-_, _≤_, _<_}
 use native.Mathlib.Omega.{arith}
 use mathlib.Core.Path.{_≡_, refl, sym, _∙_, ap}
 use mathlib.Core.Logic.{_⊎_, inl, inr}
+use mathlib.Core.Bool.{Bool, true, false}
+use mathlib.Core.List.{List, [], _∷_}
+use lib.Dec.{ltb}
 use lib.ListN.{length, drop}
+use Rattle.job.specs.declared.item.Position.{Position}
 use Rattle.job.specs.Verdict.{pass, refuse}
 use Rattle.job.specs.Job.{Job, positions, positionAt}
 use Rattle.job.proofs.Tests.{at-most-or-above}
 use Rattle.job.proofs.CodeEnds.{Not5, not5-pass, not5-refuse}
-use Rattle.listing.specs.Plate.{leaves}
-use Rattle.listing.specs.Listing.{Listing, Walk, going, stopped, plateAt, overItems, walkWithin, modelRow, maxPlates, maxCuts}
+use Rattle.listing.specs.declared.plate.Plate.{Plate}
+use Rattle.listing.specs.Plate.{mayCut, leaves}
+use Rattle.listing.specs.Listing.{Listing, Walk, going, stopped, plateAt, cutDone, limited, pair, overItems, overPlates, walkStart, walkWithin, modelRow, maxPlates, maxCuts}
 use Rattle.listing.proofs.Growth.{Grown, grown-same, grown-trans, done-count}
 use Rattle.listing.proofs.Steps.{going-one, going-not-stopped, walk-limits, row-going, row-stopped}
 use Rattle.listing.proofs.Along.{plates-grown, items-grown}
 use Rattle.listing.proofs.Reached.{done, after, Few, onward, rest, rest-row, rest-end, reached-rest, reached-end, reached-seven, reached-six}
-use Rattle.listing.proofs.Ends.{Over, by-cut, by-plate, over-seven, over-six, Halted, walk-complete, walk-halted}
+use Rattle.listing.proofs.Ends.{over-seven, over-six, Halted, walk-complete, walk-halted}
+
+-- a walk that is stopped is so with 6 or 7, whatever the job: also one of more sizes than plate types may be
+abbrev SixSeven : Walk → Type 0
+SixSeven (going l) = Unit {0}
+SixSeven (stopped n) = (n ≡ 6) ⊎ (n ≡ 7)
 
 module _ (P C : ℕ) (job : Job) where
-  module _ (some : 1 ≤ P) where
-    -- the walk keeps both limits, or is refused with 6 or 7
-    pub walk-cases : ((l : Listing) × (walkWithin P C job ≡ going l) × Few P C l) ⊎ ((walkWithin P C job ≡ stopped 6) ⊎ (walkWithin P C job ≡ stopped 7))
-    walk-cases = go (walkWithin P C job) refl
-      where
-        number :
-            {l l′ : Listing} (n : ℕ)
-            → walkWithin P C job ≡ stopped n
-            → Over P C n l l′
-            → (walkWithin P C job ≡ stopped 6) ⊎ (walkWithin P C job ≡ stopped 7)
-        number n e (by-cut p k) = inr (e ∙ ap stopped p)
-        number n e (by-plate p k q) = inl (e ∙ ap stopped p)
+  stops-limited : (l : Listing) → SixSeven (limited P C job l)
+  unfolding limited
+  stops-limited l = go (ltb C (length (l .cuts))) (ltb P (length (l .plates)))
+    where
+      go : (a b : Bool) → SixSeven (elim a as (λ _. Walk) [ true ↦ stopped 7 | false ↦ elim b as (λ _. Walk) [ true ↦ stopped 6 | false ↦ going l ] ])
+      go true b = inr refl
+      go false true = inl refl
+      go false false = tt
 
-        go :
-            (w : Walk)
-            → walkWithin P C job ≡ w
-            → ((l : Listing) × (walkWithin P C job ≡ going l) × Few P C l) ⊎ ((walkWithin P C job ≡ stopped 6) ⊎ (walkWithin P C job ≡ stopped 7))
-        go (going l) e = inl (l, e, walk-complete P C job some l e .few)
-        go (stopped n) e = inr (number n e (walk-halted P C job some n e .passed))
+  stops-pair : (j : ℕ) (p : Plate) (i : ℕ) (it : Position) (l : Listing) → SixSeven (pair P C job j p i it l)
+  unfolding pair
+  stops-pair j p i it l = go (mayCut (job .mode) it p)
+    where
+      go : (a : Bool) → SixSeven (elim a as (λ _. Walk) [ false ↦ going l | true ↦ limited P C job (cutDone job j i (leaves (job .mode) (job .blade) it p) l) ])
+      go true = stops-limited (cutDone job j i (leaves (job .mode) (job .blade) it p) l)
+      go false = tt
+
+  stops-items : (j : ℕ) (p : Plate) (i : ℕ) (its : List Position) (l : Listing) → SixSeven (overItems P C job j p i its l)
+  unfolding overItems
+  stops-items j p i [] l = tt
+  stops-items j p i (it ∷ its) l = go (pair P C job j p i it l) (stops-pair j p i it l) (λ l′. stops-items j p (suc i) its l′)
+    where
+      go :
+          (w : Walk)
+          → SixSeven w
+          → ((l′ : Listing) → SixSeven (overItems P C job j p (suc i) its l′))
+          → SixSeven (elim w as (λ _. Walk) [ stopped n ↦ stopped n | going l′ ↦ overItems P C job j p (suc i) its l′ ])
+      go (going l′) h rec = rec l′
+      go (stopped n) h rec = h
+
+  stops-plates : (fuel j : ℕ) (l : Listing) → SixSeven (overPlates P C job fuel j l)
+  unfolding overPlates
+  stops-plates zero j l = tt
+  stops-plates (suc fuel) j l = go (ltb j (length (l .plates))) (overItems P C job j (plateAt l j) 1 (positions job) l) (stops-items j (plateAt l j) 1 (positions job) l) (λ l′. stops-plates fuel (suc j) l′)
+    where
+      go :
+          (a : Bool) (w : Walk)
+          → SixSeven w
+          → ((l′ : Listing) → SixSeven (overPlates P C job fuel (suc j) l′))
+          → SixSeven (elim a as (λ _. Walk) [ false ↦ going l | true ↦ elim w as (λ _. Walk) [ stopped n ↦ stopped n | going l′ ↦ overPlates P C job fuel (suc j) l′ ] ])
+      go false w h rec = tt
+      go true (going l′) h rec = rec l′
+      go true (stopped n) h rec = h
+
+  stops-walk : SixSeven (walkWithin P C job)
+  unfolding walkWithin
+  stops-walk = stops-plates P 0 (walkStart job)
 
 -- the model row passes, or refuses with 6 or 7
 pub row-cases : (job : Job) → (modelRow job ≡ pass) ⊎ ((modelRow job ≡ refuse 6 0) ⊎ (modelRow job ≡ refuse 7 0))
-row-cases job = go (walk-cases maxPlates maxCuts job (omega arith))
+row-cases job = go (walkWithin maxPlates maxCuts job) refl (stops-walk maxPlates maxCuts job)
   where
-    go :
-        ((l : Listing) × (walkWithin maxPlates maxCuts job ≡ going l) × Few maxPlates maxCuts l)
-        ⊎ ((walkWithin maxPlates maxCuts job ≡ stopped 6) ⊎ (walkWithin maxPlates maxCuts job ≡ stopped 7))
-        → (modelRow job ≡ pass) ⊎ ((modelRow job ≡ refuse 6 0) ⊎ (modelRow job ≡ refuse 7 0))
-    go (inl r) = inl (row-going job (r .0) (walk-limits job ∙ r .1))
-    go (inr (inl e)) = inr (inl (row-stopped job 6 (walk-limits job ∙ e)))
-    go (inr (inr e)) = inr (inr (row-stopped job 7 (walk-limits job ∙ e)))
+    go : (w : Walk) → walkWithin maxPlates maxCuts job ≡ w → SixSeven w → (modelRow job ≡ pass) ⊎ ((modelRow job ≡ refuse 6 0) ⊎ (modelRow job ≡ refuse 7 0))
+    go (going l) e h = inl (row-going job l (walk-limits job ∙ e))
+    go (stopped n) e (inl h) = inr (inl (row-stopped job 6 (walk-limits job ∙ e ∙ ap stopped h)))
+    go (stopped n) e (inr h) = inr (inr (row-stopped job 7 (walk-limits job ∙ e ∙ ap stopped h)))
 
 -- the model row does not refuse with 5
 pub model-not5 : (job : Job) → Not5 (modelRow job)
@@ -74,7 +109,7 @@ rest-grown P C job j i l l′ e = go (at-most-or-above (length (l .plates)) j) (
     go (inr h) (stopped n) f = absurd (going-not-stopped e (rest-row P C job j i l h ∙ ap (onward P C job j) f))
 
 -- limits P, C and others that are no smaller
-module _ (P C P′ C′ : ℕ) (job : Job) (some : 1 ≤ P) (p : P ≤ P′) (c : C ≤ C′) where
+module _ (P C P′ C′ : ℕ) (job : Job) (some : length (job .sizes) ≤ P) (p : P ≤ P′) (c : C ≤ C′) where
   few-larger : (l : Listing) → Few P C l → Few P′ C′ l
   few-larger l f = record { few-plates = omega (arith, f .few-plates); few-cuts = omega (arith, f .few-cuts) }
 

@@ -7,8 +7,8 @@ use lib.ListN.{length}
 use lib.Seq.{ext-getD}
 use Rattle.job.specs.Verdict.{pass}
 use Rattle.job.specs.Job.{Job, jobOf, positionAt}
-use Rattle.job.specs.Admitted.{Sided}
-use Rattle.job.proofs.Admission.{admitted-words, admitted-job, admitted-sided}
+use Rattle.job.specs.Admitted.{Sided, Stocked}
+use Rattle.job.proofs.Admission.{admitted-words, admitted-job, admitted-sided, admitted-stocked}
 use Rattle.job.proofs.Tests.{at-most-or-above}
 use Rattle.listing.specs.Plate.{waste, leaves}
 use Rattle.listing.specs.Listing.{Listing, Walk, going, stopped, noCut, plateAt, cutAt, walkWithin, walk, modelRow, listingOf, maxPlates, maxCuts}
@@ -23,15 +23,19 @@ use Rattle.listing.proofs.Origin.{walk-left}
 use Rattle.listing.proofs.FirstMet.{reached-as-met}
 use Rattle.listing.proofs.Prefix.{passed-listed, met-below, reached-begins}
 
-module _ (job : Job) (sided : Sided job) where
+module _ (job : Job) (sided : Sided job) (stocked : Stocked job) where
+  -- there is room for the sizes
+  room : length (job .sizes) ≤ maxPlates
+  room = omega (arith, stocked .1)
+
   -- the walk makes the job's listing
   walk-is : (l : Listing) → walk job ≡ going l → IsListing job l
   walk-is l e =
       let w = sym (walk-limits job) ∙ e in
       record {
-        model = walk-model job sided l e;
-        each-left = walk-left job maxPlates maxCuts (omega arith) l w;
-        as-met = reached-as-met job (walk-complete maxPlates maxCuts job (omega arith) l w .reached);
+        model = walk-model job sided stocked l e;
+        each-left = λ k a b. walk-left job maxPlates maxCuts room l w k (omega (arith, walk-model job sided stocked l e .sized)) b;
+        as-met = reached-as-met job (walk-complete maxPlates maxCuts job room l w .reached);
       }
 
   module _ (m : Listing) (is : IsListing job m) where
@@ -43,7 +47,7 @@ module _ (job : Job) (sided : Sided job) where
           go : (length (m .plates) ≤ length (l .plates)) ⊎ (length (l .plates) < length (m .plates)) → length (m .plates) ≡ length (l .plates)
           go (inl h) = omega (arith, begins .plates-longer .no-fewer)
           go (inr h) =
-              let x = is .each-left (length (l .plates)) (v .plates-ok .some-plate) h in
+              let x = is .each-left (length (l .plates)) (omega (arith, v .plates-ok .size-plates, is .model .sized)) h in
               let c = passed-listed job m is (length (l .plates)) 1 l v begins (x .cut) (x .listed) (x .lower) (inl (x .lower)) in
               absurd (omega (arith, met-below job m is (length (l .plates)) 1 l v begins (length (l .plates)) (x .cut, c, x .either)))
 
@@ -60,7 +64,8 @@ module _ (job : Job) (sided : Sided job) where
       is-whole =
           let p : l .plates ≡ m .plates = ext-getD waste (l .plates) (m .plates) (sym all-plates) (λ k h. sym (begins .plates-longer .keeps k h)) in
           let c : l .cuts ≡ m .cuts = ext-getD noCut (l .cuts) (m .cuts) (sym all-cuts) (λ k h. sym (begins .cuts-longer .keeps k h)) in
-          λ t. record { plates = p t; cuts = c t }
+          let s : l .sizes ≡ m .sizes = v .sizes-ok ∙ sym (is .model .sized) in
+          λ t. record { sizes = s t; plates = p t; cuts = c t }
 
     -- the walk meets no limit: the pair with which it would pass one is a cut of the job's listing
     no-halt : (n : ℕ) → Halted maxPlates maxCuts job n → ⊥
@@ -70,7 +75,7 @@ module _ (job : Job) (sided : Sided job) where
         next = after job (h .plate) (h .item) (h .listing)
 
         begins : Grown next m
-        begins = reached-begins job m is sided (done (h .reached) (h .on-plate) (h .of-item) (h .allowed))
+        begins = reached-begins job m is sided stocked (done (h .reached) (h .on-plate) (h .of-item) (h .allowed))
 
         more : length (next .cuts) ≡ suc (length (h .listing .cuts))
         more = done-count job (h .plate) (h .item) (leaves (job .mode) (job .blade) (positionAt job (h .item)) (plateAt (h .listing) (h .plate))) (h .listing)
@@ -85,9 +90,9 @@ module _ (job : Job) (sided : Sided job) where
       where
         go : (w : Walk) → walkWithin maxPlates maxCuts job ≡ w → w ≡ going m
         go (going l) e =
-            let r = walk-complete maxPlates maxCuts job (omega arith) l e .reached in
-            ap going (is-whole l (walk-walked job sided maxPlates maxCuts (omega arith) l e) (reached-begins job m is sided r))
-        go (stopped n) e = absurd (no-halt n (walk-halted maxPlates maxCuts job (omega arith) n e))
+            let r = walk-complete maxPlates maxCuts job room l e .reached in
+            ap going (is-whole l (walk-walked job sided stocked maxPlates maxCuts room l e) (reached-begins job m is sided stocked r))
+        go (stopped n) e = absurd (no-halt n (walk-halted maxPlates maxCuts job room n e))
 
   -- where there is none, the walk is refused
   none-refused : ((l : Listing) → IsListing job l → ⊥) → (n : ℕ) × (walk job ≡ stopped n)
@@ -114,5 +119,7 @@ pub listing-exact : ListingExact
 listing-exact =
     record {
       sided = one-listing;
-      admitted = λ ws e. one-listing (jobOf ws) (admitted-sided (jobOf ws) (admitted-job ws (admitted-words ws .0 e)));
+      admitted = λ ws e.
+          let a = admitted-job ws (admitted-words ws .0 e) in
+          one-listing (jobOf ws) (admitted-sided (jobOf ws) a) (admitted-stocked (jobOf ws) a);
     }

@@ -1,4 +1,4 @@
--- What follows from the model: a pair is one cut, the cuts on a plate type are numbered in a row, and type 0 is no residual.
+-- What follows from the model: a pair is one cut, the cuts on a plate type are numbered in a row, and no residual has the number of a size.
 use Prim.Native.Nat.{ℕ, suc, _≤_, _<_}
 use native.Mathlib.Omega.{arith}
 use mathlib.Core.Path.{_≡_, sym}
@@ -22,7 +22,7 @@ pub before-plate : (c d : Cut) → Before c d → c .plate ≤ d .plate
 before-plate c d (inl h) = omega arith
 before-plate c d (inr h) = omega (arith, h .0)
 
--- the number of a residual is that of a plate type, or 0, the board's
+-- the number of a residual is that of a plate type, or 0, which is a size's
 pub numbered-below : (job : Job) (l : Listing) (q : Plate) (r : ℕ) → 0 < length (l .plates) → Numbered job l q r → r < length (l .plates)
 numbered-below job l q r h (inl z) = omega (arith, z .1)
 numbered-below job l q r h (inr z) = z .2
@@ -36,9 +36,9 @@ pub kept-numbered :
     (job : Job) (l : Listing) (q : Plate) (r : ℕ)
     → Numbered job l q r
     → kept job q ≡ true
-    → (0 < r) × (r < length (l .plates)) × (plateAt l r ≡ q)
+    → (0 < r) × (r < length (l .plates)) × (plateAt l r ≡ q) × (length (job .sizes) ≤ r)
 kept-numbered job l q r (inl z) h = absurd (not-both h (z .0))
-kept-numbered job l q r (inr z) h = (z .1, z .2, z .3)
+kept-numbered job l q r (inr z) h = (z .1, z .2, z .3, z .4)
 
 module _ (job : Job) (l : Listing) (m : Model job l) where
   -- a pair is one cut only
@@ -74,3 +74,8 @@ module _ (job : Job) (l : Listing) (m : Model job l) where
       → cutAt l (suc d) .plate ≡ j
       → cutAt l (suc c) .plate ≡ j
   in-a-row j b c d p q h e f = omega (arith, plates-rise b c p (omega arith), plates-rise c d q h)
+
+  -- a residual's number is above those of the sizes: a residual equal to a size has a number of its own
+  pub residual-number : (q : Plate) (r : ℕ) → Numbered job l q r → 0 < r → l .sizes ≤ r
+  residual-number q r (inl z) h = absurd (omega (arith, z .1))
+  residual-number q r (inr z) h = omega (arith, z .4, m .sized)

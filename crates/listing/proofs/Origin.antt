@@ -4,12 +4,12 @@ use native.Mathlib.Omega.{arith}
 use mathlib.Core.Path.{_≡_, ap}
 use mathlib.Core.Logic.{_⊎_, inl, inr}
 use mathlib.Core.List.{List}
-use lib.ListN.{length, length-append}
+use lib.ListN.{length, length-append, length-map}
 use Rattle.job.specs.Job.{Job, positionAt}
 use Rattle.job.proofs.Tests.{at-most-or-above}
 use Rattle.listing.specs.declared.plate.Plate.{Plate}
 use Rattle.listing.specs.declared.plate.Residuals.{Residuals}
-use Rattle.listing.specs.Plate.{leaves}
+use Rattle.listing.specs.Plate.{board, leaves}
 use Rattle.listing.specs.Listing.{Listing, going, plateAt, entered, walkWithin}
 use Rattle.listing.specs.Numbering.{Left}
 use Rattle.listing.proofs.Numbers.{Entering, not-kept, met, fresh, entering}
@@ -28,12 +28,12 @@ entered-last job p ps k a b = go (entering job p ps)
   where
     go : Entering job p ps → entered job p ps .number ≡ k
     go (not-kept h e) = absurd (omega (arith, rw e at b))
-    go (met n h l g e) = absurd (omega (arith, rw e at b))
+    go (met n h t l g e) = absurd (omega (arith, rw e at b))
     go (fresh h f e) = rw e (omega (arith, simp length-append at (rw e at b)))
 
 module _ (job : Job) where
-  pub reached-left : {j i : ℕ} {l : Listing} → Reached job j i l → (k : ℕ) → 0 < k → k < length (l .plates) → Left l k
-  reached-left start k a b = absurd (omega arith)
+  pub reached-left : {j i : ℕ} {l : Listing} → Reached job j i l → (k : ℕ) → length (job .sizes) ≤ k → k < length (l .plates) → Left l k
+  reached-left start k a b = absurd (omega (arith, length-map (job .sizes) board))
   reached-left (skipped r p q s) k a b = reached-left r k a b
   reached-left (row r p q) k a b = reached-left r k a b
   reached-left (done {j = j} {i = i} {l = l} r p q s) k a b = go (at-most-or-above (length (l .plates)) k) (λ h. reached-left r k a h)
@@ -79,5 +79,5 @@ module _ (job : Job) where
           }
 
   -- of every walk that is not refused
-  pub walk-left : (P C : ℕ) → 1 ≤ P → (l : Listing) → walkWithin P C job ≡ going l → (k : ℕ) → 0 < k → k < length (l .plates) → Left l k
+  pub walk-left : (P C : ℕ) → length (job .sizes) ≤ P → (l : Listing) → walkWithin P C job ≡ going l → (k : ℕ) → length (job .sizes) ≤ k → k < length (l .plates) → Left l k
   walk-left P C h l e = reached-left (walk-complete P C job h l e .reached)

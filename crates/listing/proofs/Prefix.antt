@@ -4,10 +4,10 @@ use native.Mathlib.Omega.{arith}
 use mathlib.Core.Path.{_≡_, refl, sym, _∙_}
 use mathlib.Core.Logic.{_⊎_, inl, inr}
 use mathlib.Core.Bool.{true, false}
-use mathlib.Core.List.{List, [], _∷_}
-use lib.ListN.{length, getD, length-append}
-use Rattle.job.specs.Job.{Job, positions, positionAt}
-use Rattle.job.specs.Admitted.{Sided}
+use mathlib.Core.List.{List, [], _∷_, map}
+use lib.ListN.{length, getD, length-append, length-map}
+use Rattle.job.specs.Job.{Job, sizeAt, positions, positionAt}
+use Rattle.job.specs.Admitted.{Sided, Stocked}
 use Rattle.job.proofs.Tests.{not-both, at-most-or-above}
 use Rattle.listing.specs.declared.plate.Plate.{Plate}
 use Rattle.listing.specs.declared.plate.Residuals.{Residuals}
@@ -19,6 +19,7 @@ use Rattle.listing.proofs.Kept.{CutFrom}
 use Rattle.listing.proofs.Numbers.{Entering, not-kept, met, fresh, entering}
 use Rattle.listing.proofs.Steps.{cutMade, done-plates, done-cuts}
 use Rattle.listing.proofs.Growth.{Longer, longer-none, longer-one, Grown, entered-longer}
+use Rattle.listing.proofs.PlateTypes.{board-at}
 use Rattle.listing.proofs.ModelLaws.{before-plate, numbered-below, numbered-kept, kept-numbered, one-cut}
 use Rattle.listing.proofs.Walked.{Walked, Passed, IsCut}
 use Rattle.listing.proofs.Reached.{Reached, start, skipped, done, row, after, reached-walked, reached-from-one}
@@ -41,37 +42,40 @@ module _ (job : Job) (m : Listing) (is : IsListing job m) where
   enters :
       (q : Plate) (ps : List Plate) (r : ℕ)
       → Longer waste ps (m .plates)
-      → 0 < length ps
+      → length (job .sizes) ≤ length ps
       → Numbered job m q r
-      → ((k : ℕ) → 0 < k → r ≡ suc k → k < length ps)
+      → ((k : ℕ) → m .sizes ≤ k → r ≡ suc k → k < length ps)
       → Enters q ps r
   unfolding plateAt
   enters q ps r more some num in-turn = go (entering job q ps)
     where
       at-most : (x : ℕ) → r ≡ x → x ≤ length ps
       at-most zero e = omega arith
-      at-most (suc zero) e = some
-      at-most (suc (suc k)) e = in-turn (suc k) (omega arith) e
+      at-most (suc k) e = by (at-most-or-above (length (job .sizes)) k)
+        where
+          by : (length (job .sizes) ≤ k) ⊎ (k < length (job .sizes)) → suc k ≤ length ps
+          by (inl a) = in-turn k (omega (arith, model .sized)) e
+          by (inr a) = omega arith
 
       none : kept job q ≡ false → (r ≤ 0) ⊎ (0 < r) → r ≡ 0
       none h (inl a) = omega arith
       none h (inr a) = absurd (not-both (numbered-kept job m q r num a) h)
 
-      next : ((j : ℕ) → j < length ps → getD ps j waste ≡ q → ⊥) → plateAt m r ≡ q → (length ps ≤ r) ⊎ (r < length ps) → length ps ≡ r
-      next f x (inl a) = omega (arith, at-most r refl)
-      next f x (inr a) = absurd (f r a (sym (more .keeps r a) ∙ x))
+      next : ((j : ℕ) → length (job .sizes) ≤ j → j < length ps → getD ps j waste ≡ q → ⊥) → length (job .sizes) ≤ r → plateAt m r ≡ q → (length ps ≤ r) ⊎ (r < length ps) → length ps ≡ r
+      next f t x (inl a) = omega (arith, at-most r refl)
+      next f t x (inr a) = absurd (f r t a (sym (more .keeps r a) ∙ x))
 
       go : Entering job q ps → Enters q ps r
       go (not-kept h e) =
           let z : r ≡ 0 = none h (at-most-or-above r 0) in
-          record { number = rw e (sym z); below = rw e (omega arith); longer = rw e more }
-      go (met k h l g e) =
+          record { number = rw e (sym z); below = rw e (omega (arith, model .some-size)); longer = rw e more }
+      go (met k h a l g e) =
           let x = kept-numbered job m q r num h in
-          let s : k ≡ r = model .distinct k r (omega (arith, more .no-fewer)) (x .1) (more .keeps k l ∙ g ∙ sym (x .2)) in
+          let s : k ≡ r = model .distinct k r a (x .3) (omega (arith, more .no-fewer)) (x .1) (more .keeps k l ∙ g ∙ sym (x .2)) in
           record { number = rw e s; below = rw e (omega arith); longer = rw e more }
       go (fresh h f e) =
           let x = kept-numbered job m q r num h in
-          let s : length ps ≡ r = next f (x .2) (at-most-or-above (length ps) r) in
+          let s : length ps ≡ r = next f (x .3) (x .2) (at-most-or-above (length ps) r) in
           record {
             number = rw e s;
             below = rw e (omega (arith, length-append ps (q ∷ [])));
@@ -118,9 +122,12 @@ module _ (job : Job) (m : Listing) (is : IsListing job m) where
     pub met-below : (k : ℕ) → Met m (length (l .cuts)) k → k < length (l .plates)
     met-below k (b, h, e) = go (rw (same-at b h) at e)
       where
+        some : 0 < length (l .plates)
+        some = omega (arith, v .plates-ok .some-size, v .plates-ok .size-plates)
+
         go : LeavesType (cutAt l (suc b)) k → k < length (l .plates)
-        go (inl s) = rw s at (numbered-below job l _ (cutAt l (suc b) .top) (v .plates-ok .some-plate) (v .cuts-ok b h .top-numbered))
-        go (inr s) = rw s at (numbered-below job l _ (cutAt l (suc b) .right) (v .plates-ok .some-plate) (v .cuts-ok b h .right-numbered))
+        go (inl s) = rw s at (numbered-below job l _ (cutAt l (suc b) .top) some (v .cuts-ok b h .top-numbered))
+        go (inr s) = rw s at (numbered-below job l _ (cutAt l (suc b) .right) some (v .cuts-ok b h .right-numbered))
 
     -- a permitted pair that the walk comes to
     module _ (a : j < length (l .plates)) (b : 1 ≤ i) (c : i ≤ length (positions job)) (p : mayCut (job .mode) (positionAt job i) (plateAt l j) ≡ true) where
@@ -182,7 +189,7 @@ module _ (job : Job) (m : Listing) (is : IsListing job m) where
 
         top-enters : Enters (left .top) (l .plates) (d .top)
         top-enters =
-            enters (left .top) (l .plates) (d .top) (begins .plates-longer) (v .plates-ok .some-plate)
+            enters (left .top) (l .plates) (d .top) (begins .plates-longer) (v .plates-ok .size-plates)
             (rw left-is at (model .top-numbered n (x .listed)))
             (λ k h e. met-below k (is .as-met .top-after n k (x .listed) h e))
 
@@ -191,7 +198,7 @@ module _ (job : Job) (m : Listing) (is : IsListing job m) where
 
         right-enters : Enters (left .right) ps (d .right)
         right-enters =
-            enters (left .right) ps (d .right) (top-enters .longer) (omega (arith, top-enters .below))
+            enters (left .right) ps (d .right) (top-enters .longer) (omega (arith, v .plates-ok .size-plates, entered-longer job (left .top) (l .plates) .no-fewer))
             (rw left-is at (model .right-numbered n (x .listed)))
             (λ k h e. go k (is .as-met .right-after n k (x .listed) h e))
           where
@@ -211,23 +218,30 @@ module _ (job : Job) (m : Listing) (is : IsListing job m) where
                   (same-cut d j i _ _ (x .plate-is) (x .item-is) (sym (top-enters .number)) (sym (right-enters .number))));
             }
 
-  -- the board alone begins it
+  -- the sizes alone begin it
   start-begins : Grown (walkStart job) m
-  unfolding plateAt
+  unfolding plateAt sizeAt
   start-begins =
       record {
-        plates-longer = longer-one waste (board job) [] (m .plates) (longer-none waste (m .plates)) (model .some-plate) (model .first);
+        plates-longer =
+            record {
+              no-fewer = omega (arith, n, model .size-plates);
+              keeps = λ k h. model .first k (omega (arith, n)) ∙ sym (board-at job (job .sizes) k (omega (arith, n)));
+            };
         cuts-longer = longer-none noCut (m .cuts);
       }
+    where
+      n : length (map board (job .sizes)) ≡ length (job .sizes)
+      n = length-map (job .sizes) board
 
   -- so does the listing of every place of the walk
-  module _ (sided : Sided job) where
+  module _ (sided : Sided job) (stocked : Stocked job) where
     pub reached-begins : {j i : ℕ} {l : Listing} → Reached job j i l → Grown l m
     reached-begins start = start-begins
     reached-begins (skipped r a b c) = reached-begins r
     reached-begins (row r a b) = reached-begins r
     reached-begins (done {j = j} {i = i} {l = l} r a b c) =
-        let v = reached-walked job sided r in
+        let v = reached-walked job sided stocked r in
         let g = reached-begins r in
         let f = reached-from-one job r in
         next-begins j i l v g a f b c (pair-next j i l v g a f b c)

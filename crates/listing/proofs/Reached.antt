@@ -8,12 +8,12 @@ use lib.Dec.{ltb}
 use lib.ListN.{length, drop}
 use borrow.Author.Tests.{lt-ltb, le-ltb}
 use Rattle.job.specs.Job.{Job, positions, positionAt}
-use Rattle.job.specs.Admitted.{Sided}
+use Rattle.job.specs.Admitted.{Sided, Stocked}
 use Rattle.job.proofs.Tests.{not-both, at-most-or-above}
 use Rattle.listing.specs.Plate.{mayCut, leaves}
 use Rattle.listing.specs.Listing.{Listing, Walk, going, stopped, plateAt, cutDone, pair, overItems, overPlates, walkWithin, walkStart}
 use Rattle.listing.proofs.Growth.{done-longer, done-plate, done-count}
-use Rattle.listing.proofs.Steps.{limited-going, limited-cuts, limited-plates, pair-skipped, pair-cut, items-drop-going, items-drop-stopped, items-drop-end, plates-going, plates-stopped, plates-end}
+use Rattle.listing.proofs.Steps.{done-sizes, limited-going, limited-cuts, limited-plates, pair-skipped, pair-cut, items-drop-going, items-drop-stopped, items-drop-end, plates-going, plates-stopped, plates-end}
 use Rattle.listing.proofs.Walked.{Walked, walked-start, walked-skip, walked-row, walked-cut}
 
 -- the listing after the pair of plate type j and position i, which is permitted
@@ -52,14 +52,21 @@ module _ (job : Job) where
   reached-from-one (done r a b c) = omega arith
   reached-from-one (row r a b) = omega arith
 
+  -- the sizes stay
+  pub reached-sizes : {j i : ℕ} {l : Listing} → Reached j i l → l .sizes ≡ length (job .sizes)
+  reached-sizes start = refl
+  reached-sizes (skipped r a b c) = reached-sizes r
+  reached-sizes (done {j = j} {i = i} {l = l} r a b c) = done-sizes job j i (leaves (job .mode) (job .blade) (positionAt job i) (plateAt l j)) l ∙ reached-sizes r
+  reached-sizes (row r a b) = reached-sizes r
+
   -- what is true at every place
-  pub reached-walked : Sided job → {j i : ℕ} {l : Listing} → Reached j i l → Walked job j i l
-  reached-walked sided start = walked-start job
-  reached-walked sided (skipped {j = j} {i = i} {l = l} r a b c) = walked-skip job j i l (reached-walked sided r) (λ f. not-both (f .allowed) c)
-  reached-walked sided (done {j = j} {i = i} {l = l} r a b c) =
-      walked-cut job sided j i l (reached-walked sided r) a
+  pub reached-walked : Sided job → Stocked job → {j i : ℕ} {l : Listing} → Reached j i l → Walked job j i l
+  reached-walked sided stocked start = walked-start job (stocked .0)
+  reached-walked sided stocked (skipped {j = j} {i = i} {l = l} r a b c) = walked-skip job j i l (reached-walked sided stocked r) (λ f. not-both (f .allowed) c)
+  reached-walked sided stocked (done {j = j} {i = i} {l = l} r a b c) =
+      walked-cut job sided j i l (reached-walked sided stocked r) a
       (record { from-one = reached-from-one r; to-last = b; allowed = c })
-  reached-walked sided (row {j = j} {i = i} {l = l} r a b) = walked-row job j i l (reached-walked sided r) b a
+  reached-walked sided stocked (row {j = j} {i = i} {l = l} r a b) = walked-row job j i l (reached-walked sided stocked r) b a
 
 -- both limits are kept
 pub record Few (plateLimit cutLimit : ℕ) (l : Listing) : Type 0 where

@@ -32,6 +32,10 @@ cutMade job j i r ps =
 
 -- what the cut adds: its top and after it its right to the plate types, and itself to the cuts
 module _ (job : Job) (j i : ℕ) (r : Residuals) (l : Listing) where
+  pub done-sizes : cutDone job j i r l .sizes ≡ l .sizes
+  unfolding cutDone
+  done-sizes = refl
+
   pub done-plates : cutDone job j i r l .plates ≡ entered job (r .right) (entered job (r .top) (l .plates) .plates) .plates
   unfolding cutDone
   done-plates = refl
@@ -159,6 +163,6 @@ module _ (job : Job) where
       go :
           (w : Walk)
           → (elim w as (λ _. Verdict) [ going l ↦ pass | stopped n ↦ refuse n 0 ]) ≡ pass
-          → w ≡ going (elim w as (λ _. Listing) [ going l ↦ l | stopped n ↦ record { plates = []; cuts = [] } ])
+          → w ≡ going (elim w as (λ _. Listing) [ going l ↦ l | stopped n ↦ record { sizes = 0; plates = []; cuts = [] } ])
       go (going l) e = refl
       go (stopped n) e = absurd (pass-not-refuse e refl)

@@ -1,12 +1,13 @@
--- The statements about the walk hold for any limits that leave room for the board.
+-- The statements about the walk hold for any limits that leave room for the sizes.
 use Prim.Native.Nat.{ℕ, _≤_}
+use lib.ListN.{length}
 use Rattle.job.specs.Job.{Job}
 use Rattle.listing.specs.WalkLaws.{WalkLaws}
 use Rattle.listing.proofs.Fuel.{fuel-any}
 use Rattle.listing.proofs.Limits.{larger-same, larger-cuts, larger-plates}
 use Rattle.listing.proofs.Origin.{walk-left}
 
-pub walk-laws : (P C : ℕ) (job : Job) → 1 ≤ P → WalkLaws P C job
+pub walk-laws : (P C : ℕ) (job : Job) → length (job .sizes) ≤ P → WalkLaws P C job
 walk-laws P C job some =
     record {
       left = walk-left job P C some;

@@ -3,7 +3,7 @@ use Prim.Native.Nat.{ℕ, suc, _≤_, _<_}
 use native.Mathlib.Omega.{arith}
 use mathlib.Core.Path.{_≡_, refl, sym, _∙_}
 use mathlib.Core.Logic.{_⊎_, inl, inr}
-use mathlib.Core.List.{[], _∷_}
+use mathlib.Core.List.{[], map}
 use lib.ListN.{length}
 use Rattle.job.specs.Job.{Job, positions, positionAt}
 use Rattle.job.specs.Admitted.{Sided}
@@ -13,11 +13,10 @@ use Rattle.listing.specs.declared.plate.Residuals.{Residuals}
 use Rattle.listing.specs.Plate.{board, waste, leaves}
 use Rattle.listing.specs.Listing.{Cut, Listing, plateAt, cutAt, entered, cutDone}
 use Rattle.listing.specs.Model.{Numbered, Before, leftBy}
-use Rattle.listing.proofs.Residuals.{sides}
-use Rattle.listing.proofs.Kept.{CutFrom, top-smaller, right-smaller, top-staged, right-staged}
-use Rattle.listing.proofs.Steps.{cutMade, done-plates}
+use Rattle.listing.proofs.Kept.{CutFrom, top-staged, right-staged}
+use Rattle.listing.proofs.Steps.{cutMade, done-sizes, done-plates}
 use Rattle.listing.proofs.Growth.{Longer, longer-same, entered-longer, done-longer, done-plate, done-count, done-cut, done-last}
-use Rattle.listing.proofs.PlateTypes.{PlatesOk, board-ok, entered-ok, entered-numbered}
+use Rattle.listing.proofs.PlateTypes.{PlatesOk, boards-ok, entered-ok, entered-numbered}
 
 -- pair (k, x) comes before pair (j, i) in the walk
 abbrev pub Passed : ℕ → ℕ → ℕ → ℕ → Type 0
@@ -42,7 +41,7 @@ module _ (job : Job) where
   numbered-longer : (l l′ : Listing) → Longer waste (l .plates) (l′ .plates) → (q : Plate) (r : ℕ) → Numbered job l q r → Numbered job l′ q r
   unfolding plateAt
   numbered-longer l l′ m q r (inl z) = inl z
-  numbered-longer l l′ m q r (inr z) = inr (z .0, z .1, omega (arith, z .2, m .no-fewer), m .keeps r (z .2) ∙ z .3)
+  numbered-longer l l′ m q r (inr z) = inr (z .0, z .1, omega (arith, z .2, m .no-fewer), m .keeps r (z .2) ∙ z .3, z .4)
 
   -- more plate types change nothing of a cut
   pub cut-longer : (l l′ : Listing) → Longer waste (l .plates) (l′ .plates) → (c : Cut) → CutOk l c → CutOk l′ c
@@ -58,6 +57,7 @@ module _ (job : Job) where
 
   -- the plate types before j are done, and of plate type j the positions before i
   pub record Walked (j i : ℕ) (l : Listing) : Type 0 where
+    pub sizes-ok : l .sizes ≡ length (job .sizes)
     pub plates-ok : PlatesOk job (l .plates)
     pub here : j ≤ length (l .plates)
     pub cuts-ok : (c : ℕ) → c < length (l .cuts) → CutOk l (cutAt l (suc c))
@@ -65,11 +65,12 @@ module _ (job : Job) where
     pub each : (k x : ℕ) → k < length (l .plates) → Passed j i k x → CutFrom job (plateAt l k) x → IsCut l k x
     pub rising : (c d : ℕ) → c < d → d < length (l .cuts) → Before (cutAt l (suc c)) (cutAt l (suc d))
 
-  -- the board alone, before the first pair
-  pub walked-start : Walked 0 1 (record { plates = board job ∷ []; cuts = [] })
-  walked-start =
+  -- the sizes alone, before the first pair
+  pub walked-start : 0 < length (job .sizes) → Walked 0 1 (record { sizes = length (job .sizes); plates = map board (job .sizes); cuts = [] })
+  walked-start some =
       record {
-        plates-ok = board-ok job;
+        sizes-ok = refl;
+        plates-ok = boards-ok job some;
         here = omega arith;
         cuts-ok = λ c h. absurd (omega arith);
         passed = λ c h. absurd (omega arith);
@@ -85,6 +86,7 @@ module _ (job : Job) where
   pub walked-skip : (j i : ℕ) (l : Listing) → Walked j i l → (CutFrom job (plateAt l j) i → ⊥) → Walked j (suc i) l
   walked-skip j i l v not-fit =
       record {
+        sizes-ok = v .sizes-ok;
         plates-ok = v .plates-ok;
         here = v .here;
         cuts-ok = v .cuts-ok;
@@ -105,6 +107,7 @@ module _ (job : Job) where
   pub walked-row : (j i : ℕ) (l : Listing) → Walked j i l → length (positions job) < i → j < length (l .plates) → Walked (suc j) 1 l
   walked-row j i l v n b =
       record {
+        sizes-ok = v .sizes-ok;
         plates-ok = v .plates-ok;
         here = b;
         cuts-ok = v .cuts-ok;
@@ -132,15 +135,10 @@ module _ (job : Job) where
     abbrev next : Listing
     next = cutDone job j i left l
 
-    smaller : (q : Plate) → sides q < sides (plateAt l j) → sides q < sides (board job)
-    unfolding plateAt
-    smaller q h = omega (arith, v .plates-ok .small j b)
-
     -- the plate types with the top among them
     top-ok : PlatesOk job (entered job (left .top) (l .plates) .plates)
     top-ok =
         entered-ok job (left .top) (l .plates) (v .plates-ok)
-        (smaller (left .top) (top-smaller job sided (plateAt l j) i f))
         (top-staged job sided (plateAt l j) (positionAt job i))
 
     -- and then the right
@@ -148,7 +146,6 @@ module _ (job : Job) where
     right-ok =
         rw (done-plates job j i left l)
         (entered-ok job (left .right) (entered job (left .top) (l .plates) .plates) top-ok
-        (smaller (left .right) (right-smaller job sided (plateAt l j) i f))
         (right-staged job sided (plateAt l j) (positionAt job i)))
 
     -- the cut that is added
@@ -161,11 +158,11 @@ module _ (job : Job) where
         let ps = entered job (left .top) (l .plates) .plates in
         let top : Numbered job next (left .top) (added .top)
         = entered-numbered job (left .top) (l .plates) (v .plates-ok)
-        (smaller (left .top) (top-smaller job sided (plateAt l j) i f)) (top-staged job sided (plateAt l j) (positionAt job i))
+        (top-staged job sided (plateAt l j) (positionAt job i))
         next (rw (done-plates job j i left l) (entered-longer job (left .right) ps)) in
         let right : Numbered job next (left .right) (added .right)
         = entered-numbered job (left .right) ps top-ok
-        (smaller (left .right) (right-smaller job sided (plateAt l j) i f)) (right-staged job sided (plateAt l j) (positionAt job i))
+        (right-staged job sided (plateAt l j) (positionAt job i))
         next (rw (done-plates job j i left l) (longer-same waste (entered job (left .right) ps .plates))) in
         record {
           on-plate = omega (arith, done-longer job j i left l .no-fewer);
@@ -225,6 +222,7 @@ module _ (job : Job) where
     pub walked-cut : Walked j (suc i) next
     walked-cut =
         record {
+          sizes-ok = rw (done-sizes job j i left l) (v .sizes-ok);
           plates-ok = right-ok;
           here = omega (arith, done-longer job j i left l .no-fewer);
           cuts-ok = every (CutOk next) (λ c h. cut-longer l next (done-longer job j i left l) (cutAt l (suc c)) (v .cuts-ok c h)) added-ok;

@@ -3,8 +3,8 @@ use Prim.Native.Nat.{ℕ, zero, suc, _+_, _*_, _≤_, _<_}
 use mathlib.Core.Path.{_≡_}
 use mathlib.Core.List.{List, [], _∷_}
 use lib.ListN.{length, getD}
-use Rattle.job.specs.Sizes.{maxTypes, wordsOfCut, jobSize}
-use Rattle.job.specs.Job.{typeOf}
+use Rattle.job.specs.Sizes.{maxSizes, maxTypes, wordsOfCut, jobSize}
+use Rattle.job.specs.Job.{typeOf, boardSizes}
 use Rattle.listing.specs.Listing.{Cut, noCut, maxPlates, maxCuts}
 use Rattle.listing.specs.Holds.{cutOfWords}
 use Rattle.listing.specs.declared.cut.CutRecord.{CutRecord}
@@ -39,10 +39,13 @@ pub record InRange (m n : ℕ) (c : Cut) : Type 0 where
 pub record Sound (m n : ℕ) (cs : List Cut) : Type 0 where
   pub each : (c : ℕ) → c < length cs → InRange m n (getD cs c noCut)
 
--- the job has n item types, and the cuts lent are k sound ones of m plate types
-pub record Lent (job cuts : List ℕ) (n m k : ℕ) : Type 0 where
-  pub job-words : length job ≡ jobSize n
+-- the job has t sizes, as its third word says, and n item types, and the cuts lent are k sound ones of m plate types, the sizes among them
+pub record Lent (job cuts : List ℕ) (t n m k : ℕ) : Type 0 where
+  pub job-words : length job ≡ jobSize t n
+  pub job-sizes : boardSizes job ≡ t
+  pub few-sizes : t ≤ maxSizes
   pub few-items : n ≤ maxTypes
+  pub some-plates : t ≤ m
   pub few-plates : m ≤ maxPlates
   pub few-cuts : k ≤ maxCuts
   pub cut-words : wordsOfCut * k ≤ length cuts

@@ -13,7 +13,7 @@ use Rattle.listing.specs.Listing.{Cut}
 pub record Holds (buffer ws : List ℕ) : Type 0 where
   pub words : buffer ≡ filled (length buffer) ws
 
--- plate type j by its words
+-- plate type j by the first three of its four words
 abbrev pub plateRead : List ℕ → ℕ → Plate
 plateRead buffer j = plate (getD buffer (wordsOfPlate * j) 0) (getD buffer (wordsOfPlate * j + 1) 0) (getD buffer (wordsOfPlate * j + 2) 0)
 

@@ -25,7 +25,7 @@ listAnswer ws plates cuts =
 
 -- "plates and cuts lent to any call that succeeds end as the listing": by the call's verdict
 unfoldable pub platesEnd : Verdict → List ℕ → List ℕ → List ℕ
-platesEnd v ws plates = ends v plates (plateWords (listingOf (jobOf ws) .plates))
+platesEnd v ws plates = ends v plates (plateWords (jobOf ws) (listingOf (jobOf ws) .plates))
 
 unfoldable pub cutsEnd : Verdict → List ℕ → List ℕ → List ℕ
 cutsEnd v ws cuts = ends v cuts (cutWords (listingOf (jobOf ws) .cuts))

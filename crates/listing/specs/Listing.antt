@@ -1,7 +1,7 @@
 -- Document 01, "Plates and cuts": the walk that numbers plate types and cuts, and where it is refused, 6 and 7.
 use Prim.Native.Nat.{ℕ, zero, suc, _-_}
 use mathlib.Core.Bool.{true, false}
-use mathlib.Core.List.{List, [], _∷_, _++_}
+use mathlib.Core.List.{List, [], _∷_, _++_, map}
 use lib.Dec.{ltb}
 use lib.ListN.{length, getD}
 pub use Rattle.job.specs.Sizes.{maxPlates, maxCuts}
@@ -20,8 +20,11 @@ pub record Cut : Type 0 where
   pub top : ℕ
   pub right : ℕ
 
--- the plate types and the cuts in the order of their numbers: plate type j stands at place j, cut k at place k - 1
+-- the plate types and the cuts in the order of their numbers: plate type j stands at place j, cut k at place k - 1; "sizes take plate numbers 0 to t−1;
+-- residual types follow" (request Six)
 pub record Listing : Type 0 where
+  -- how many of the plate types are sizes
+  pub sizes : ℕ
   pub plates : List Plate
   pub cuts : List Cut
 
@@ -48,6 +51,12 @@ unfoldable pub numberIn : List Plate → Plate → ℕ
 numberIn [] p = 0
 numberIn (q ∷ qs) p = elim (same p q) [ true ↦ 0 | false ↦ suc (numberIn qs p) ]
 
+-- its place where it is sought among the residual types alone (request Six): the first t plate types, which are the sizes, are passed over
+unfoldable pub numberFrom : ℕ → List Plate → Plate → ℕ
+numberFrom zero ps p = numberIn ps p
+numberFrom (suc t) [] p = 0
+numberFrom (suc t) (q ∷ qs) p = suc (numberFrom t qs p)
+
 -- a residual's number, and the plate types with it among them
 pub record Entry : Type 0 where
   pub number : ℕ
@@ -59,7 +68,7 @@ entered job p ps =
     elim (kept job p) [
       | false ↦ record { number = 0; plates = ps }
       | true ↦
-          let j = numberIn ps p in
+          let j = numberFrom (length (job .sizes)) ps p in
           record { number = j; plates = elim (ltb j (length ps)) [ true ↦ ps | false ↦ ps ++ (p ∷ []) ] }
     ]
 
@@ -69,13 +78,14 @@ cutDone job j i r l =
     let t = entered job (r .top) (l .plates) in
     let u = entered job (r .right) (t .plates) in
     record {
+      sizes = l .sizes;
       plates = u .plates;
       cuts = l .cuts ++ (record { plate = j; item = i; top = t .number; right = u .number } ∷ []);
     }
 
--- where the walk begins: the board alone
+-- where the walk begins: the sizes alone, each a plate type of stage 1 whatever fits it, two equal ones with a number each (request Six)
 abbrev pub walkStart : Job → Listing
-walkStart job = record { plates = board job ∷ []; cuts = [] }
+walkStart job = record { sizes = length (job .sizes); plates = map board (job .sizes); cuts = [] }
 
 -- The walk, over its two limits, so that it can also be computed with small ones.
 module _ (plateLimit cutLimit : ℕ) (job : Job) where
@@ -118,7 +128,7 @@ module _ (plateLimit cutLimit : ℕ) (job : Job) where
             ]
       ]
 
-  -- the whole walk, from the board alone
+  -- the whole walk, from the sizes alone
   unfoldable pub walkWithin : Walk
   walkWithin = overPlates plateLimit 0 (walkStart job)
 
@@ -131,8 +141,8 @@ modelRow job = elim (walk job) [ going l ↦ pass | stopped n ↦ refuse n 0 ]
 
 -- the listing of a job; where the walk is refused there is none
 unfoldable pub listingOf : Job → Listing
-listingOf job = elim (walk job) [ going l ↦ l | stopped n ↦ record { plates = []; cuts = [] } ]
+listingOf job = elim (walk job) [ going l ↦ l | stopped n ↦ record { sizes = 0; plates = []; cuts = [] } ]
 
--- the number of residual types: all plate types but type 0
+-- the number of residual types: all plate types but the sizes (request Six)
 unfoldable pub residualTypes : Listing → ℕ
-residualTypes l = length (l .plates) - 1
+residualTypes l = length (l .plates) - l .sizes

@@ -6,17 +6,17 @@ use mathlib.Core.Logic.{_⊎_}
 use mathlib.Core.Bool.{true, false}
 use lib.ListN.{length}
 use Rattle.job.specs.declared.item.Position.{Position}
-use Rattle.job.specs.Job.{Job, positions, positionAt}
+use Rattle.job.specs.Job.{Job, sizeAt, positions, positionAt}
 use Rattle.listing.specs.declared.plate.Plate.{Plate}
 use Rattle.listing.specs.declared.plate.Residuals.{Residuals}
 use Rattle.listing.specs.Plate.{board, mayCut, leaves, kept}
 use Rattle.listing.specs.Listing.{Cut, Listing, plateAt, cutAt, maxPlates, maxCuts}
 
--- r is the number of the residual q: that of its plate type where it is kept, else 0
+-- r is the number of the residual q: that of its residual type where it is kept, a number that no size has (request Six), else 0
 abbrev pub Numbered : Job → Listing → Plate → ℕ → Type 0
 Numbered job l q r =
     ((kept job q ≡ false) × (r ≡ 0))
-    ⊎ ((kept job q ≡ true) × (0 < r) × (r < length (l .plates)) × (plateAt l r ≡ q))
+    ⊎ ((kept job q ≡ true) × (0 < r) × (r < length (l .plates)) × (plateAt l r ≡ q) × (length (job .sizes) ≤ r))
 
 -- pair (j, i) comes before pair (j′, i′) in the walk
 abbrev pub Before : Cut → Cut → Type 0
@@ -34,13 +34,15 @@ pub record Model (job : Job) (l : Listing) : Type 0 where
   -- within the limits
   pub few-plates : length (l .plates) ≤ maxPlates
   pub few-cuts : length (l .cuts) ≤ maxCuts
-  -- type 0 is the board
-  pub some-plate : 0 < length (l .plates)
-  pub first : plateAt l 0 ≡ board job
-  -- plate types are distinct
-  pub distinct : (j k : ℕ) → j < length (l .plates) → k < length (l .plates) → plateAt l j ≡ plateAt l k → j ≡ k
+  -- the sizes are the first plate types (request Six)
+  pub sized : l .sizes ≡ length (job .sizes)
+  pub some-size : 0 < length (job .sizes)
+  pub size-plates : length (job .sizes) ≤ length (l .plates)
+  pub first : (j : ℕ) → j < length (job .sizes) → plateAt l j ≡ board (sizeAt job j)
+  -- residual types are distinct
+  pub distinct : (j k : ℕ) → length (job .sizes) ≤ j → length (job .sizes) ≤ k → j < length (l .plates) → k < length (l .plates) → plateAt l j ≡ plateAt l k → j ≡ k
   -- each residual type has an item type that may be cut from it, in some position, and a stage from 1 to 3
-  pub all-kept : (j : ℕ) → 0 < j → j < length (l .plates) → kept job (plateAt l j) ≡ true
+  pub all-kept : (j : ℕ) → length (job .sizes) ≤ j → j < length (l .plates) → kept job (plateAt l j) ≡ true
   pub staged : (j : ℕ) → j < length (l .plates) → (1 ≤ plateAt l j .stage) × (plateAt l j .stage ≤ 3)
   -- a cut is a permitted pair of a plate type and a position of an item type
   pub on-plate : (c : ℕ) → c < length (l .cuts) → cutAt l (suc c) .plate < length (l .plates)

@@ -1,12 +1,12 @@
 -- Document 01, "Numbering", without the walk: what the listing of a job is, in plain statements, and that there is exactly one, the walk's.
-use Prim.Native.Nat.{ℕ, suc, _<_}
+use Prim.Native.Nat.{ℕ, suc, _≤_, _<_}
 use mathlib.Core.Path.{_≡_}
 use mathlib.Core.Logic.{_⊎_, _↔_}
 use mathlib.Core.List.{List}
 use lib.ListN.{length}
 use Rattle.job.specs.Verdict.{pass, _then_}
 use Rattle.job.specs.Job.{Job, jobOf, jobWords, admission}
-use Rattle.job.specs.Admitted.{Sided}
+use Rattle.job.specs.Admitted.{Sided, Stocked}
 use Rattle.listing.specs.Listing.{Cut, Listing, going, stopped, cutAt, walk, modelRow, listingOf}
 use Rattle.listing.specs.Model.{Model}
 
@@ -26,27 +26,28 @@ abbrev pub Met : Listing → ℕ → ℕ → Type 0
 Met l c k = (b : ℕ) × (b < c) × LeavesType (cutAt l (suc b)) k
 
 -- residual types are numbered in the order in which the cuts first leave them, each cut "its top and after it its right": a cut leaves type k + 1
--- only where type k has been left before. So type 1 is the first that is left. Of cut suc c, which has c cuts before it:
+-- only where the residual type k has been left before. So the first that is left has the number that follows the sizes (request Six). Of cut suc c, which
+-- has c cuts before it:
 pub record AsMet (l : Listing) : Type 0 where
   pub top-after :
       (c k : ℕ)
       → c < length (l .cuts)
-      → 0 < k
+      → l .sizes ≤ k
       → cutAt l (suc c) .top ≡ suc k
       → Met l c k
   pub right-after :
       (c k : ℕ)
       → c < length (l .cuts)
-      → 0 < k
+      → l .sizes ≤ k
       → cutAt l (suc c) .right ≡ suc k
       → Met l c k ⊎ (cutAt l (suc c) .top ≡ k)
 
 -- l is the listing of the job
 pub record IsListing (job : Job) (l : Listing) : Type 0 where
-  -- within the limits: the board and further plate types, no two alike; each permitted pair one cut, in rising order, with the numbers of what it leaves
+  -- within the limits: the sizes and residual types, no two of these alike; each permitted pair one cut, in rising order, with the numbers of what it leaves
   pub model : Model job l
-  -- a plate type that is not the board is there only because a cut on a lower one leaves it
-  pub each-left : (k : ℕ) → 0 < k → k < length (l .plates) → Left l k
+  -- a plate type that is not a size is there only because a cut on a lower one leaves it
+  pub each-left : (k : ℕ) → l .sizes ≤ k → k < length (l .plates) → Left l k
   -- and has its number by the order in which they are met
   pub as-met : AsMet l
 
@@ -59,7 +60,7 @@ pub record OneListing (job : Job) : Type 0 where
   pub passed : (modelRow job ≡ pass) ↔ ((l : Listing) × IsListing job l)
   pub refused : ((n : ℕ) × (walk job ≡ stopped n)) ↔ ((l : Listing) → IsListing job l → ⊥)
 
--- so it is for every job whose item types have sides of at least 1, and thus for every job whose words are admitted
+-- so it is for every job with 1 to 6 sizes whose item types have sides of at least 1, and thus for every job whose words are admitted
 pub record ListingExact : Type 0 where
-  pub sided : (job : Job) → Sided job → OneListing job
+  pub sided : (job : Job) → Sided job → Stocked job → OneListing job
   pub admitted : (ws : List ℕ) → (jobWords ws then admission (jobOf ws)) ≡ pass → OneListing (jobOf ws)

@@ -3,6 +3,7 @@ use Prim.Native.Nat.{ℕ, _-_}
 use mathlib.Core.Bool.{Bool, true, cond, not, _&&_, _||_}
 use lib.Dec.{leb, eqb}
 use Rattle.job.specs.declared.mode.Mode.{Mode}
+use Rattle.job.specs.declared.size.Size.{Size}
 use Rattle.job.specs.declared.item.Position.{Position}
 use Rattle.job.specs.Lists.{any}
 use Rattle.job.specs.Mode.{three, exact}
@@ -14,9 +15,9 @@ use Rattle.listing.specs.declared.plate.Residuals.{Residuals}
 abbrev pub plate : ℕ → ℕ → ℕ → Plate
 plate w h s = record { width = w; height = h; stage = s }
 
--- plate type 0 of a job
-abbrev pub board : Job → Plate
-board job = plate (job .width) (job .height) 1
+-- a board of a size (request Six)
+abbrev pub board : Size → Plate
+board z = plate (z .width) (z .height) 1
 
 -- what is not a plate: nothing can be cut from it, since every item has sides of at least 1
 abbrev pub waste : Plate

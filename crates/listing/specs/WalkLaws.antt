@@ -6,10 +6,10 @@ use Rattle.job.specs.Job.{Job}
 use Rattle.listing.specs.Listing.{Listing, going, stopped, walkStart, overPlates, walkWithin}
 use Rattle.listing.specs.Numbering.{Left}
 
--- a walk within P plate types and C cuts
+-- a walk within P plate types, which leave room for the sizes, and C cuts
 pub record WalkLaws (P C : ℕ) (job : Job) : Type 0 where
   -- every residual type is left by a cut on a plate type with a lower number
-  pub left : (l : Listing) → walkWithin P C job ≡ going l → (k : ℕ) → 0 < k → k < length (l .plates) → Left l k
+  pub left : (l : Listing) → walkWithin P C job ≡ going l → (k : ℕ) → length (job .sizes) ≤ k → k < length (l .plates) → Left l k
   -- a walk that is not refused is the same within larger limits
   pub larger-same : (P′ C′ : ℕ) → P ≤ P′ → C ≤ C′ → (l : Listing) → walkWithin P C job ≡ going l → walkWithin P′ C′ job ≡ going l
   -- one that is refused with 7 has more cuts within larger limits; one that is refused with 6, more plate types

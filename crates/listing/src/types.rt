@@ -1,6 +1,6 @@
 // Plate types: whether a residual is kept.
 ghost use mathlib.Core.Path.{_≡_};
-ghost use Rattle.job.specs.Job.{jobOf};
+ghost use Rattle.job.specs.Job.{boardSizes, jobOf};
 ghost use Rattle.job.specs.JobWords.{JobWords};
 ghost use Rattle.listing.specs.Plate.{kept};
 use crate::plate::Plate;
@@ -12,7 +12,7 @@ use job::position::position_at;
 
 // Whether a residual is kept: some item type may be cut from it, unturned or turned. The job has the mode and n item types.
 pub fn kept(job: &[u16], mode: Mode, n: ItemType, p: Plate) -> bool
-    requires { ⌜ JobWords (now job) mode (n .0) ⌝ }
+    requires { ⌜ JobWords (now job) mode (boardSizes (now job)) (n .0) ⌝ }
     ensures { λ r. ⌜ r ≡ kept (jobOf (now (job .entry))) p ⌝ }
 {
     let last = 2 * n.0 + 1;

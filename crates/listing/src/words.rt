@@ -3,6 +3,7 @@ ghost use mathlib.Core.Path.{_≡_};
 ghost use mathlib.Core.List.{List, [], _∷_, _++_};
 ghost use lib.ListN.{length};
 ghost use Rattle.job.specs.Sizes.{wordsOfPlate, wordsOfCut, RecordIn};
+ghost use Rattle.job.specs.Job.{Job, sizeAt};
 ghost use Rattle.listing.specs.Listing.{Cut};
 ghost use Rattle.listing.specs.Records.{plateWords, cutWords};
 ghost use Rattle.listing.specs.Holds.{Holds, plateRead, cutOfWords};
@@ -28,15 +29,16 @@ pub fn plate_at(plates: &[u16], j: PlateType) -> Plate
     }
 }
 
-// Writes the next plate type behind the m that the buffer holds.
-pub fn put_plate(plates: &mut [u16], m: PlateTypes, p: Plate)
+// Writes the next plate type and its cost, that of a size and 0 of a residual, behind the m that the buffer holds.
+pub fn put_plate(plates: &mut [u16], m: PlateTypes, p: Plate, cost: u16)
     requires { ⌜ RecordIn wordsOfPlate (m .0) (now plates) ⌝ }
-    ensures { λ _. ⌜ ((ps : List Plate) → length ps ≡ m .0 → Holds (now (plates .entry)) (plateWords ps) → Holds (now (plates .exit)) (plateWords (ps ++ p ∷ []))) ⌝ }
+    ensures { λ _. ⌜ ((job : Job) (ps : List Plate) → length ps ≡ m .0 → sizeAt job (m .0) .cost ≡ cost → Holds (now (plates .entry)) (plateWords job ps) → Holds (now (plates .exit)) (plateWords job (ps ++ p ∷ []))) ⌝ }
 {
     let at = PLATE_WORDS * (m.0 as usize);
     plates[at] = p.width;
     plates[at + 1] = p.height;
     plates[at + 2] = p.stage;
+    plates[at + 3] = cost;
 }
 
 // Writes a cut, of plate type j and an item in position i, behind the k cuts that the buffer holds.

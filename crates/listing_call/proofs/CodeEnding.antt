@@ -1,54 +1,54 @@
 -- How a call ends, on plain values, by the rows before the model and by those from it on; and how the walk of the listing ends.
 use mathlib.Core.Path.{_≡_, refl, sym, ap, subst, _∙_}
 use Prim.Native.Nat.{ℕ, _-_, _≤_, _<_}
-use mathlib.Core.List.{List, [], _∷_, flatMap}
+use mathlib.Core.List.{List, [], _∷_, flatMap, map}
 use native.Mathlib.Omega.{arith}
-use lib.ListN.{length, replicate}
+use lib.ListN.{length, replicate, length-map}
 use Rattle.job.specs.declared.counters.PlateTypes.{PlateTypes}
 use Rattle.job.specs.declared.counters.CutNumber.{CutNumber}
-use Rattle.job.specs.declared.head.Head.{Head}
-use Rattle.job.specs.Sizes.{platesSize, cutsSize}
+use Rattle.job.specs.Sizes.{maxSizes, platesSize, cutsSize}
 use Rattle.job.specs.Verdict.{Verdict, pass, refuse, _then_}
 use Rattle.job.specs.Buffers.{Answer, given, refused, answer, ends, sized}
-use Rattle.job.specs.Job.{jobOf, jobWords, admission}
-use Rattle.job.specs.Head.{HeadOf}
+use Rattle.job.specs.Job.{Job, jobOf, jobWords, admission}
 use Rattle.job.proofs.Verdicts.{then-assoc, then-first, then-second}
 use Rattle.job.proofs.Buffers.{sized-pass}
 use Rattle.job.proofs.CodeEnds.{given-pass, not5-refuse, ends-zeros}
 use Rattle.listing.specs.Listing.{going, stopped, walkStart, walk, modelRow, listingOf, residualTypes}
 use Rattle.listing.specs.Numbering.{IsListing}
 use Rattle.listing.specs.ListCall.{listVerdict, platesEnd, cutsEnd}
-use Rattle.listing.specs.Plate.{plate}
-use Rattle.listing.specs.Records.{plateWords, cutWords}
+use Rattle.listing.specs.Plate.{board}
+use Rattle.listing.specs.Records.{plateWordsFrom, plateWords, cutWords}
 use Rattle.listing.specs.Holds.{Holds}
 use Rattle.listing.proofs.CodeHolds.{cleared}
 use Rattle.listing.proofs.Steps.{row-going, row-stopped, row-listing, listing-going}
 use Rattle.listing.proofs.ListingExact.{listing-exact}
 use Rattle.listing_call.specs.declared.call.Listed.{Listed}
 use Rattle.listing_call.specs.declared.call.Listed.the-variants.{Done, Refused}
-use Rattle.listing_call.specs.ListSays.{saysOf, SomePlate, OnListed}
+use Rattle.listing_call.specs.ListSays.{saysOf, SizesListed, OnListed}
 use Rattle.listing_call.specs.Steps.{Rep, Here}
 
--- before the walk: cleared buffers, and the board written as the first plate type
-pub none-held : {buffer : List ℕ} (n : ℕ) → buffer ≡ replicate n 0 → Holds buffer (plateWords [])
-unfolding plateWords flatMap
-none-held n e = cleared n e
+-- before the walk: cleared buffers, and the sizes written as the first plate types
+pub none-held : (job : Job) {buffer : List ℕ} (n : ℕ) → buffer ≡ replicate n 0 → Holds buffer (plateWords job [])
+unfolding plateWords plateWordsFrom
+none-held job n e = cleared n e
 
-pub board-held :
-    (ws : List ℕ) {head : Head} {plates cuts : List ℕ} (n : ℕ)
-    → HeadOf ws head
-    → Holds plates (plateWords (plate (head .width) (head .height) 1 ∷ []))
+pub sizes-held :
+    (job : Job) {plates cuts : List ℕ} (n t : ℕ)
+    → length (job .sizes) ≡ t
+    → t ≤ maxSizes
+    → Holds plates (plateWords job (map board (job .sizes)))
     → cuts ≡ replicate n 0
-    → Rep (walkStart (jobOf ws)) plates cuts 1 0
+    → Rep job (walkStart job) plates cuts t 0
 unfolding cutWords flatMap
-board-held ws n d h e = record {
-  of-plates = rw (← d .of-width, ← d .of-height) h;
+sizes-held job n t l few h e = record {
+  of-sizes = refl;
+  of-plates = h;
   of-cuts = cleared n e;
-  plate-count = refl;
+  plate-count = length-map (job .sizes) board ∙ l;
   cut-count = refl;
   few-plates = omega arith;
   few-cuts = omega arith;
-  some-plate = omega arith;
+  some-plates = omega arith;
 }
 
 -- how a call ends, by the verdict of its rows: its answer, which has the results `bs` where it succeeds, and what it leaves in plates and cuts
@@ -90,10 +90,10 @@ listingResults ws = residualTypes (listingOf (jobOf ws)) ∷ length (listingOf (
 
 module _ (ws plates cuts plates′ cuts′ : List ℕ) where
   -- the walk went to its end
-  pub walked : {m k : ℕ} → Here going (walk (jobOf ws)) plates′ cuts′ m k → length plates′ ≡ length plates → length cuts′ ≡ length cuts → Ended (modelRow (jobOf ws)) (listingResults ws) ws plates cuts (given ((m - 1) ∷ k ∷ [])) plates′ cuts′
+  pub walked : {m k : ℕ} → Here (jobOf ws) going (walk (jobOf ws)) plates′ cuts′ m k → length plates′ ≡ length plates → length cuts′ ≡ length cuts → Ended (modelRow (jobOf ws)) (listingResults ws) ws plates cuts (given ((m - length (jobOf ws .sizes)) ∷ k ∷ [])) plates′ cuts′
   unfolding residualTypes platesEnd cutsEnd
   walked h ep ec =
-      rw (row-going (jobOf ws) (h .l) (sym (h .goes-on)), listing-going (jobOf ws) (h .l) (sym (h .goes-on)), h .rep .plate-count, h .rep .cut-count)
+      rw (row-going (jobOf ws) (h .l) (sym (h .goes-on)), listing-going (jobOf ws) (h .l) (sym (h .goes-on)), h .rep .of-sizes, h .rep .plate-count, h .rep .cut-count)
       (refl, (rw (← ep) (h .rep .of-plates .words), rw (← ec) (h .rep .of-cuts .words)))
 
   -- the walk met 6 or 7, and both buffers have been cleared
@@ -131,15 +131,15 @@ module _ (ws plates cuts : List ℕ) where
       let b = then-second (jobWords ws then admission (jobOf ws)) _ e in
       (then-first (jobWords ws) _ a, (sized-pass 1 platesSize plates (then-first (sized 1 platesSize plates) _ b), sized-pass 2 cutsSize cuts (then-second (sized 1 platesSize plates) _ b)))
 
--- a listing that is done has a plate type
-pub some-types : {a : Listed} {m : PlateTypes} {k : CutNumber} → a ≡ Done m k → SomePlate a → 1 ≤ m .0
-some-types e = subst SomePlate e
+-- a listing that is done has the sizes among its plate types
+pub sizes-listed : (job : Job) {a : Listed} {m : PlateTypes} {k : CutNumber} → a ≡ Done m k → SizesListed job a → length (job .sizes) ≤ m .0
+sizes-listed job e = subst (SizesListed job) e
 
 -- what a call that succeeds has listed is the listing of the job
 pub listed-is :
     (ws : List ℕ) (a : Listed)
     → (jobWords ws then admission (jobOf ws)) ≡ pass
-    → saysOf a ≡ answer (modelRow (jobOf ws)) (listingResults ws)
+    → saysOf (jobOf ws) a ≡ answer (modelRow (jobOf ws)) (listingResults ws)
     → OnListed a (IsListing (jobOf ws) (listingOf (jobOf ws)))
 listed-is ws (Done m k) admitted e =
     listing-exact .admitted ws admitted .walked (listingOf (jobOf ws)) .0 (row-listing (jobOf ws) (given-pass (modelRow (jobOf ws)) (listingResults ws) e))

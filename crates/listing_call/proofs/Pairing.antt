@@ -18,12 +18,12 @@ use Rattle.listing.proofs.Steps.{limited-cuts, limited-plates, limited-going, p
 use Rattle.listing_call.specs.Steps.{Rep, Here, EnteredIn}
 use Rattle.listing_call.proofs.Entering.{entered-more}
 
-module _ (job : Job) (j : ℕ) (p : Plate) (i : ℕ) (item : Position) (l : Listing) {plates cuts : List ℕ} {m k : ℕ} (h : Rep l plates cuts m k) where
+module _ (job : Job) (j : ℕ) (p : Plate) (i : ℕ) (item : Position) (l : Listing) {plates cuts : List ℕ} {m k : ℕ} (h : Rep job l plates cuts m k) where
   abbrev of-pair : Walk
   of-pair = pair maxPlates maxCuts job j p i item l
 
   -- the pair is not permitted
-  pub step-none : mayCut (job .mode) item p ≡ false → Here going of-pair plates cuts m k
+  pub step-none : mayCut (job .mode) item p ≡ false → Here job going of-pair plates cuts m k
   step-none e = record { l = l; rep = h; goes-on = sym (pair-skipped maxPlates maxCuts job j p i item l e) }
 
   -- the pair is permitted, and leaves `left`
@@ -35,7 +35,7 @@ module _ (job : Job) (j : ℕ) (p : Plate) (i : ℕ) (item : Position) (l : List
     right = entered job (left .right) (top .plates)
 
     abbrev after : Listing
-    after = record { plates = right .plates; cuts = l .cuts ++ cutOfWords j i (top .number) (right .number) ∷ [] }
+    after = record { sizes = l .sizes; plates = right .plates; cuts = l .cuts ++ cutOfWords j i (top .number) (right .number) ∷ [] }
 
     permitted : limited maxPlates maxCuts job after ≡ of-pair
     unfolding cutDone
@@ -60,17 +60,18 @@ module _ (job : Job) (j : ℕ) (p : Plate) (i : ℕ) (item : Position) (l : List
       step-top-full full = step-right-full (omega (arith, entered-more job (left .right) (top .plates)))
 
       -- both residuals are entered, and the cut is written
-      pub step-next : {t m₁ r m₂ : ℕ} {plates₁ plates₂ cuts₂ : List ℕ} → EnteredIn top t m₁ plates₁ → EnteredIn right r m₂ plates₂ → Holds cuts₂ (cutWords (l .cuts ++ cutOfWords j i t r ∷ [])) → Here going of-pair plates₂ cuts₂ m₂ (k + 1)
+      pub step-next : {t m₁ r m₂ : ℕ} {plates₁ plates₂ cuts₂ : List ℕ} → EnteredIn job top t m₁ plates₁ → EnteredIn job right r m₂ plates₂ → Holds cuts₂ (cutWords (l .cuts ++ cutOfWords j i t r ∷ [])) → Here job going of-pair plates₂ cuts₂ m₂ (k + 1)
       step-next a b c = record {
         l = after;
         rep = record {
+          of-sizes = h .of-sizes;
           of-plates = b .held;
           of-cuts = rw (← a .number, ← b .number) c;
           plate-count = b .types;
           cut-count = one-more;
           few-plates = b .few;
           few-cuts = omega arith;
-          some-plate = omega (arith, h .some-plate, entered-more job (left .top) (l .plates), entered-more job (left .right) (top .plates));
+          some-plates = omega (arith, h .some-plates, h .plate-count, b .types, entered-more job (left .top) (l .plates), entered-more job (left .right) (top .plates));
         };
         goes-on = sym (limited-going maxPlates maxCuts job after (omega (arith, one-more)) (omega arith)) ∙ permitted;
       }

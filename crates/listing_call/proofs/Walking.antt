@@ -12,7 +12,8 @@ use Rattle.job.specs.declared.mode.Mode.{Mode}
 use Rattle.job.specs.Sizes.{maxPlates, maxCuts}
 use Rattle.job.specs.Job.{Job, jobOf, positions, positionAt}
 use Rattle.job.specs.JobWords.{JobWords}
-use Rattle.job.proofs.CodeItems.{items-length, positions-from, positions-end}
+use Rattle.job.proofs.CodeItems.{positions-from, positions-end}
+use Rattle.job.proofs.CodeJobWords.{words-items}
 use Rattle.job.proofs.Positions.{positions-length}
 use Rattle.listing.specs.declared.plate.Plate.{Plate}
 use Rattle.listing.specs.Plate.{mayCut}
@@ -41,11 +42,11 @@ abbrev pub restRow : Job → ℕ → Plate → ℕ → Listing → Walk
 restRow job j q i l = andThen (overItems maxPlates maxCuts job j q i (drop (i - 1) (positions job)) l) (restWalk job (j + 1))
 
 -- there are two positions for each item type, from 2 on
-pub last-position : {ws : List ℕ} {mode : Mode} {n : ℕ} → JobWords ws mode n → length (positions (jobOf ws)) ≡ 2 * n + 1
-last-position {ws} {n = n} w = omega (arith, positions-length (jobOf ws), items-length ws n (w .words))
+pub last-position : {ws : List ℕ} {mode : Mode} {t n : ℕ} → JobWords ws mode t n → length (positions (jobOf ws)) ≡ 2 * n + 1
+last-position {ws} w = omega (arith, positions-length (jobOf ws), words-items w)
 
 -- before the first plate type
-pub walk-start : (job : Job) {plates cuts : List ℕ} → Rep (walkStart job) plates cuts 1 0 → Here (restWalk job 0) (walk job) plates cuts 1 0
+pub walk-start : (job : Job) {plates cuts : List ℕ} {t : ℕ} → Rep job (walkStart job) plates cuts t 0 → Here job (restWalk job 0) (walk job) plates cuts t 0
 unfolding walk walkWithin
 walk-start job r = record { l = walkStart job; rep = r; goes-on = refl }
 
@@ -71,7 +72,7 @@ unfolding overItems
 row-over job j q i l a = rw (positions-end job i a)
 
 module _ (job : Job) (j : ℕ) {whole : Walk} {plates cuts : List ℕ} {m k : ℕ} where
-  pub walk-end : Here (restWalk job j) whole plates cuts m k → m ≤ j → Here going whole plates cuts m k
+  pub walk-end : Here job (restWalk job j) whole plates cuts m k → m ≤ j → Here job going whole plates cuts m k
   walk-end h e = record {
     l = h .l;
     rep = h .rep;
@@ -79,24 +80,24 @@ module _ (job : Job) (j : ℕ) {whole : Walk} {plates cuts : List ℕ} {m k : �
   }
 
   -- into the row of plate type j, which is read from the buffer
-  pub row-start : Here (restWalk job j) whole plates cuts m k → j < m → (q : Plate) → q ≡ plateRead plates j → Here (restRow job j q 2) whole plates cuts m k
+  pub row-start : Here job (restWalk job j) whole plates cuts m k → j < m → (q : Plate) → q ≡ plateRead plates j → Here job (restRow job j q 2) whole plates cuts m k
   unfolding plateAt
   row-start h e q eq =
-      let p : q ≡ plateAt (h .l) j = eq ∙ held-plate (h .l .plates) (h .rep .of-plates) j in
+      let p : q ≡ plateAt (h .l) j = eq ∙ held-plate job (h .l .plates) (h .rep .of-plates) j in
       record {
         l = h .l;
         rep = h .rep;
         goes-on = ap (λ (x : Plate). restRow job j x 2 (h .l)) p ∙ row-first job j (plateAt (h .l) j) (h .l) ∙ sym (walk-row job j (h .l) (omega (arith, h .rep .plate-count)) (omega (arith, h .rep .plate-count, h .rep .few-plates))) ∙ h .goes-on;
       }
 
-  module _ (q : Plate) (i : ℕ) (h : Here (restRow job j q i) whole plates cuts m k) where
+  module _ (q : Plate) (i : ℕ) (h : Here job (restRow job j q i) whole plates cuts m k) where
     module _ (a : 1 ≤ i) (b : i ≤ length (positions job)) where
       -- position i is next, and then those after it
       turned : andThen (pair maxPlates maxCuts job j q i (positionAt job i) (h .l)) (restRow job j q (i + 1)) ≡ whole
       turned = sym (ap (λ (w : Walk). andThen w (restWalk job (j + 1))) (row-turn job j q i (h .l) a b) ∙ then-then (pair maxPlates maxCuts job j q i (positionAt job i) (h .l)) _ _) ∙ h .goes-on
 
       -- its pair goes on, and so does the row
-      pub row-next : {plates′ cuts′ : List ℕ} {m′ k′ : ℕ} → Here going (pair maxPlates maxCuts job j q i (positionAt job i) (h .l)) plates′ cuts′ m′ k′ → Here (restRow job j q (i + 1)) whole plates′ cuts′ m′ k′
+      pub row-next : {plates′ cuts′ : List ℕ} {m′ k′ : ℕ} → Here job going (pair maxPlates maxCuts job j q i (positionAt job i) (h .l)) plates′ cuts′ m′ k′ → Here job (restRow job j q (i + 1)) whole plates′ cuts′ m′ k′
       row-next p = record {
         l = p .l;
         rep = p .rep;
@@ -108,7 +109,7 @@ module _ (job : Job) (j : ℕ) {whole : Walk} {plates cuts : List ℕ} {m k : �
       row-stop p = sym turned ∙ ap (λ (w : Walk). andThen w (restRow job j q (i + 1))) p
 
     -- past the last position the row is at its end
-    pub row-end : length (positions job) < i → Here (restWalk job (j + 1)) whole plates cuts m k
+    pub row-end : length (positions job) < i → Here job (restWalk job (j + 1)) whole plates cuts m k
     row-end a = record {
       l = h .l;
       rep = h .rep;
@@ -116,9 +117,9 @@ module _ (job : Job) (j : ℕ) {whole : Walk} {plates cuts : List ℕ} {m k : �
     }
 
 -- a step's answer taken apart
-module _ {w : Walk} {a : Step} where
-  pub as-next : {m : PlateTypes} {k : CutNumber} {plates cuts : List ℕ} → a ≡ Next m k → Stepped w a plates cuts → Here going w plates cuts (m .0) (k .0)
-  as-next {plates = plates} {cuts = cuts} e = subst (λ (x : Step). Stepped w x plates cuts) e
+module _ {job : Job} {w : Walk} {a : Step} where
+  pub as-next : {m : PlateTypes} {k : CutNumber} {plates cuts : List ℕ} → a ≡ Next m k → Stepped job w a plates cuts → Here job going w plates cuts (m .0) (k .0)
+  as-next {plates = plates} {cuts = cuts} e = subst (λ (x : Step). Stepped job w x plates cuts) e
 
-pub as-stop : {w : Walk} {a : Step} {number : ℕ} (plates cuts : List ℕ) → a ≡ Stop number → Stepped w a plates cuts → (w ≡ stopped number) × (5 < number)
-as-stop {w} plates cuts e = subst (λ (x : Step). Stepped w x plates cuts) e
+pub as-stop : (job : Job) {w : Walk} {a : Step} {number : ℕ} (plates cuts : List ℕ) → a ≡ Stop number → Stepped job w a plates cuts → (w ≡ stopped number) × (5 < number)
+as-stop job {w} plates cuts e = subst (λ (x : Step). Stepped job w x plates cuts) e

@@ -1,27 +1,33 @@
 // The listing call.
 ghost use mathlib.Core.Path.{_≡_};
-ghost use mathlib.Core.List.{[], _∷_};
-ghost use Prim.Native.Nat.{_≤_};
+ghost use mathlib.Core.List.{[], _∷_, map};
+ghost use Prim.Native.Nat.{_*_, _≤_};
 ghost use lib.ListN.{length};
-ghost use Rattle.job.specs.Sizes.{platesSize, cutsSize};
+ghost use Rattle.job.specs.Sizes.{wordsOfPlate, wordsBefore, platesSize, cutsSize};
 ghost use Rattle.job.specs.Verdict.{pass, _then_};
 ghost use Rattle.job.specs.Buffers.{answer, sized};
-ghost use Rattle.job.specs.Job.{jobOf, jobWords, admission};
+ghost use Rattle.job.specs.Job.{boardSizes, jobOf, jobWords, admission};
 ghost use Rattle.job.specs.Row.{rowVerdict};
+ghost use Rattle.listing.specs.Plate.{board};
+ghost use Rattle.listing.specs.Records.{plateWords};
+ghost use Rattle.listing.specs.Holds.{Holds};
 ghost use Rattle.listing.specs.Listing.{listingOf, modelRow, residualTypes};
 ghost use Rattle.listing.specs.Numbering.{IsListing};
 ghost use Rattle.listing.specs.ListCall.{listVerdict, listAnswer, platesEnd, cutsEnd};
-ghost use Rattle.listing_call.specs.ListSays.{saysOf, SomePlate, OnListed};
+ghost use Rattle.listing_call.specs.ListSays.{saysOf, SizesListed, OnListed};
 use crate::walk::Step;
 use crate::walk::walk;
 use job::admit::check_job;
+use job::counters::BoardSizes;
 use job::counters::CutNumber;
+use job::counters::PlateType;
 use job::counters::PlateTypes;
 use job::head::head_of;
 use job::lent::end_refused;
 use job::lent::model_sized;
 use job::row::Row;
 use job::words::clear;
+use job::words::size_at;
 use listing::plate::Plate;
 use listing::words::put_plate;
 
@@ -31,26 +37,49 @@ pub enum Listed {
     Refused(u16, usize),
 }
 
+// Writes the sizes of a job, t of them, as the first plate types into a buffer that holds none.
+fn put_sizes(job: &[u16], sizes: BoardSizes, plates: &mut [u16])
+    requires { ⌜ (sizes .0 ≡ boardSizes (now job)) × ((wordsBefore (boardSizes (now job)) ≤ length (now job)) × (wordsOfPlate * sizes .0 ≤ length (now plates))) ⌝ }
+    requires { ⌜ Holds (now plates) (plateWords (jobOf (now job)) []) ⌝ }
+    ensures { λ _. ⌜ Holds (now (plates .exit)) (plateWords (jobOf (now (job .entry))) (map board (jobOf (now (job .entry)) .sizes))) ⌝ }
+{
+    let t = sizes.0;
+    let mut j: u16 = 0;
+    while j < t {
+        let size = size_at(job, PlateType(j));
+        let board = Plate {
+            width: size.width,
+            height: size.height,
+            stage: 1,
+        };
+        put_plate(plates, PlateTypes(j), board, size.cost);
+        j += 1;
+    }
+}
+
 // Lists a job whose words have passed into buffers of full size: plate types and cuts, and zeros past them. Refused are 6 and 7, naming 0; every word of
 // both buffers is then 0.
 pub fn list_into(job: &[u16], plates: &mut [u16], cuts: &mut [u16]) -> Listed
     requires { ⌜ jobWords (now job) ≡ pass ⌝ }
     requires { ⌜ (platesSize ≤ length (now plates)) × (cutsSize ≤ length (now cuts)) ⌝ }
-    ensures { λ a. ⌜ SomePlate a ⌝ }
-    ensures { λ a. ⌜ saysOf a ≡ answer (modelRow (jobOf (now (job .entry)))) (residualTypes (listingOf (jobOf (now (job .entry)))) ∷ length (listingOf (jobOf (now (job .entry))) .cuts) ∷ []) ⌝ }
+    ensures { λ a. ⌜ SizesListed (jobOf (now (job .entry))) a ⌝ }
+    ensures { λ a. ⌜ saysOf (jobOf (now (job .entry))) a ≡ answer (modelRow (jobOf (now (job .entry)))) (residualTypes (listingOf (jobOf (now (job .entry)))) ∷ length (listingOf (jobOf (now (job .entry))) .cuts) ∷ []) ⌝ }
     ensures { λ _. ⌜ now (plates .exit) ≡ platesEnd (modelRow (jobOf (now (job .entry)))) (now (job .entry)) (now (plates .entry)) ⌝ }
     ensures { λ _. ⌜ now (cuts .exit) ≡ cutsEnd (modelRow (jobOf (now (job .entry)))) (now (job .entry)) (now (cuts .entry)) ⌝ }
 {
     clear(plates);
     clear(cuts);
     let head = head_of(job);
-    let board = Plate {
-        width: head.width,
-        height: head.height,
-        stage: 1,
-    };
-    put_plate(plates, PlateTypes(0), board);
-    match walk(job, head.mode, head.blade, head.types, plates, cuts) {
+    put_sizes(job, head.sizes, plates);
+    match walk(
+        job,
+        head.mode,
+        head.blade,
+        head.sizes,
+        head.types,
+        plates,
+        cuts,
+    ) {
         Step::Next(m, k) => Listed::Done(m, k),
         Step::Stop(number) => {
             clear(plates);
@@ -76,9 +105,9 @@ fn list_checks(job: &[u16], plates: &[u16], cuts: &[u16]) -> Row
 // unchanged, after another refusal every word of them is 0, after success the unused words are 0. On success what they hold is the listing of the job, of which
 // there is exactly one.
 pub fn list(job: &[u16], plates: &mut [u16], cuts: &mut [u16]) -> Listed
-    ensures { λ a. ⌜ SomePlate a ⌝ }
+    ensures { λ a. ⌜ SizesListed (jobOf (now (job .entry))) a ⌝ }
     ensures { λ a. ⌜ OnListed a (IsListing (jobOf (now (job .entry))) (listingOf (jobOf (now (job .entry))))) ⌝ }
-    ensures { λ a. ⌜ saysOf a ≡ listAnswer (now (job .entry)) (now (plates .entry)) (now (cuts .entry)) ⌝ }
+    ensures { λ a. ⌜ saysOf (jobOf (now (job .entry))) a ≡ listAnswer (now (job .entry)) (now (plates .entry)) (now (cuts .entry)) ⌝ }
     ensures { λ _. ⌜ now (plates .exit) ≡ platesEnd (listVerdict (now (job .entry)) (now (plates .entry)) (now (cuts .entry))) (now (job .entry)) (now (plates .entry)) ⌝ }
     ensures { λ _. ⌜ now (cuts .exit) ≡ cutsEnd (listVerdict (now (job .entry)) (now (plates .entry)) (now (cuts .entry))) (now (job .entry)) (now (cuts .entry)) ⌝ }
 {

@@ -4,13 +4,14 @@ ghost use mathlib.Core.List.{List};
 ghost use Prim.Native.Nat.{_≤_, _*_};
 ghost use lib.ListN.{length};
 ghost use Rattle.job.specs.Sizes.{maxPlates, wordsOfPlate, platesSize};
-ghost use Rattle.job.specs.Job.{jobOf};
+ghost use Rattle.job.specs.Job.{Job, jobOf};
 ghost use Rattle.job.specs.JobWords.{JobWords};
 ghost use Rattle.listing.specs.declared.plate.Plate.{Plate};
-ghost use Rattle.listing.specs.Listing.{numberIn, entered};
+ghost use Rattle.listing.specs.Listing.{numberFrom, entered};
 ghost use Rattle.listing.specs.Records.{plateWords};
 ghost use Rattle.listing.specs.Holds.{Holds};
-ghost use Rattle.listing_call.specs.Steps.{EnteredAs, typesAfter};
+ghost use Rattle.listing_call.specs.Steps.{EnteredAs, TypesAfter};
+use job::counters::BoardSizes;
 use job::counters::ItemType;
 use job::counters::PlateType;
 use job::counters::PlateTypes;
@@ -28,14 +29,14 @@ pub enum Entered {
     Full,
 }
 
-// The number of a plate type among the m of the buffer, or, where it is new, the next number.
-pub fn find(plates: &[u16], m: PlateTypes, p: Plate) -> PlateType
-    requires { ⌜ wordsOfPlate * m .0 ≤ length (now plates) ⌝ }
-    ensures { λ r. ⌜ ((ps : List Plate) → length ps ≡ m .0 → Holds (now (plates .entry)) (plateWords ps) → r .0 ≡ numberIn ps p) ⌝ }
+// The number of a residual type among the m plate types of the buffer, past the sizes; or, where it is new, the next number.
+pub fn find(plates: &[u16], sizes: BoardSizes, m: PlateTypes, p: Plate) -> PlateType
+    requires { ⌜ (sizes .0 ≤ m .0) × (wordsOfPlate * m .0 ≤ length (now plates)) ⌝ }
+    ensures { λ r. ⌜ ((job : Job) (ps : List Plate) → length ps ≡ m .0 → Holds (now (plates .entry)) (plateWords job ps) → r .0 ≡ numberFrom (sizes .0) ps p) ⌝ }
     ensures { λ r. ⌜ r .0 ≤ m .0 ⌝ }
 {
     let end = m.0;
-    let mut j: u16 = 0;
+    let mut j = sizes.0;
     while j < end {
         let q = plate_at(plates, PlateType(j));
         if same(p, q) {
@@ -50,20 +51,21 @@ pub fn find(plates: &[u16], m: PlateTypes, p: Plate) -> PlateType
 pub fn enter(
     job: &[u16],
     mode: Mode,
+    sizes: BoardSizes,
     n: ItemType,
     plates: &mut [u16],
     m: PlateTypes,
     p: Plate,
 ) -> Entered
-    requires { ⌜ JobWords (now job) mode (n .0) ⌝ }
-    requires { ⌜ (platesSize ≤ length (now plates)) × (m .0 ≤ maxPlates) ⌝ }
-    ensures { λ a. ⌜ ((ps : List Plate) → length ps ≡ m .0 → Holds (now (plates .entry)) (plateWords ps) → EnteredAs (entered (jobOf (now (job .entry))) p ps) a (now (plates .exit))) ⌝ }
-    ensures { λ a. ⌜ typesAfter a ≤ maxPlates ⌝ }
+    requires { ⌜ JobWords (now job) mode (sizes .0) (n .0) ⌝ }
+    requires { ⌜ (platesSize ≤ length (now plates)) × ((sizes .0 ≤ m .0) × (m .0 ≤ maxPlates)) ⌝ }
+    ensures { λ a. ⌜ ((ps : List Plate) → length ps ≡ m .0 → Holds (now (plates .entry)) (plateWords (jobOf (now (job .entry))) ps) → EnteredAs (jobOf (now (job .entry))) (entered (jobOf (now (job .entry))) p ps) a (now (plates .exit))) ⌝ }
+    ensures { λ a. ⌜ TypesAfter (sizes .0) a ⌝ }
 {
     if !kept(job, mode, n, p) {
         return Entered::As(PlateType(0), m);
     }
-    let j = find(plates, m, p);
+    let j = find(plates, sizes, m, p);
     let types = m.0;
     if j.0 < types {
         return Entered::As(j, m);
@@ -71,6 +73,6 @@ pub fn enter(
     if MAX_PLATES <= types {
         return Entered::Full;
     }
-    put_plate(plates, m, p);
+    put_plate(plates, m, p, 0);
     Entered::As(j, PlateTypes(types + 1))
 }

@@ -6,6 +6,7 @@ ghost use Rattle.listing.specs.Listing.{Listing, walkStart, pair, walk};
 ghost use Rattle.listing_call.specs.Steps.{Room, Rep, Stepped};
 use crate::entry::Entered;
 use crate::entry::enter;
+use job::counters::BoardSizes;
 use job::counters::CutNumber;
 use job::counters::ItemPosition;
 use job::counters::ItemType;
@@ -32,6 +33,7 @@ pub fn pair_step(
     job: &[u16],
     mode: Mode,
     blade: u16,
+    sizes: BoardSizes,
     n: ItemType,
     plates: &mut [u16],
     cuts: &mut [u16],
@@ -41,9 +43,9 @@ pub fn pair_step(
     plate: Plate,
     i: ItemPosition,
 ) -> Step
-    requires { ⌜ Room (now job) mode blade (n .0) (now plates) (now cuts) (m .0) (k .0) ⌝ }
+    requires { ⌜ Room (now job) mode blade (sizes .0) (n .0) (now plates) (now cuts) (m .0) (k .0) ⌝ }
     requires { ⌜ (1 ≤ typeOf (i .0)) × (typeOf (i .0) ≤ n .0) ⌝ }
-    ensures { λ a. ⌜ ((l : Listing) → Rep l (now (plates .entry)) (now (cuts .entry)) (m .0) (k .0) → Stepped (pair maxPlates maxCuts (jobOf (now (job .entry))) (j .0) plate (i .0) (positionAt (jobOf (now (job .entry))) (i .0)) l) a (now (plates .exit)) (now (cuts .exit))) ⌝ }
+    ensures { λ a. ⌜ ((l : Listing) → Rep (jobOf (now (job .entry))) l (now (plates .entry)) (now (cuts .entry)) (m .0) (k .0) → Stepped (jobOf (now (job .entry))) (pair maxPlates maxCuts (jobOf (now (job .entry))) (j .0) plate (i .0) (positionAt (jobOf (now (job .entry))) (i .0)) l) a (now (plates .exit)) (now (cuts .exit))) ⌝ }
 {
     let item = position_at(job, i);
     if !may_cut(mode, item, plate) {
@@ -56,31 +58,32 @@ pub fn pair_step(
     let left = cut_leaves(mode, blade, item, plate);
     let top = left.top;
     let right = left.right;
-    let Entered::As(t, m1) = enter(job, mode, n, plates, m, top) else {
+    let Entered::As(t, m1) = enter(job, mode, sizes, n, plates, m, top) else {
         return Step::Stop(6);
     };
-    let Entered::As(r, m2) = enter(job, mode, n, plates, m1, right) else {
+    let Entered::As(r, m2) = enter(job, mode, sizes, n, plates, m1, right) else {
         return Step::Stop(6);
     };
     put_cut(cuts, k, j, i, t, r);
     Step::Next(m2, CutNumber(done + 1))
 }
 
-// The whole walk, from buffers that hold the board alone; it is left when a 2,049th plate type or an 8,193rd cut is met.
+// The whole walk, from buffers that hold the sizes alone; it is left when a 2,049th plate type or an 8,193rd cut is met.
 pub fn walk(
     job: &[u16],
     mode: Mode,
     blade: u16,
+    sizes: BoardSizes,
     n: ItemType,
     plates: &mut [u16],
     cuts: &mut [u16],
 ) -> Step
-    requires { ⌜ Room (now job) mode blade (n .0) (now plates) (now cuts) 1 0 ⌝ }
-    requires { ⌜ Rep (walkStart (jobOf (now job))) (now plates) (now cuts) 1 0 ⌝ }
-    ensures { λ a. ⌜ Stepped (walk (jobOf (now (job .entry)))) a (now (plates .exit)) (now (cuts .exit)) ⌝ }
+    requires { ⌜ Room (now job) mode blade (sizes .0) (n .0) (now plates) (now cuts) (sizes .0) 0 ⌝ }
+    requires { ⌜ Rep (jobOf (now job)) (walkStart (jobOf (now job))) (now plates) (now cuts) (sizes .0) 0 ⌝ }
+    ensures { λ a. ⌜ Stepped (jobOf (now (job .entry))) (walk (jobOf (now (job .entry)))) a (now (plates .exit)) (now (cuts .exit)) ⌝ }
 {
     let last = 2 * n.0 + 1;
-    let mut m = PlateTypes(1);
+    let mut m = PlateTypes(sizes.0);
     let mut k = CutNumber(0);
     let mut j: u16 = 0;
     'walk: loop {
@@ -94,6 +97,7 @@ pub fn walk(
                 job,
                 mode,
                 blade,
+                sizes,
                 n,
                 plates,
                 cuts,

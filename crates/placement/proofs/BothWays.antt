@@ -17,7 +17,7 @@ use Rattle.placement.proofs.Rows.{row-read}
 -- a buffer reads as the words that it holds
 held-placement : {buffer : List ℕ} (ws : List ℕ) → Holds buffer ws → (c : ℕ) → placementAt buffer c ≡ placementAt ws c
 held-placement {buffer} ws h c =
-    rw (held-word ws h (wordsOfPlacement * c), at 1, at 2, at 3, at 4, at 5, at 6, at 7)
+    rw (held-word ws h (wordsOfPlacement * c), at 1, at 2, at 3, at 4, at 5, at 6, at 7, at 8)
   where
     at : (k : ℕ) → getD buffer (wordsOfPlacement * c + k) 0 ≡ getD ws (wordsOfPlacement * c + k) 0
     at k = held-word ws h (wordsOfPlacement * c + k)

@@ -16,45 +16,48 @@ pub length-lines : (n : ℕ) (ws : List ℕ) → wordsOfPlacement * n ≤ length
 unfolding linesIn
 length-lines zero [] h l = refl
 length-lines zero (b ∷ []) h l = refl
-length-lines zero (b ∷ s ∷ []) h l = refl
-length-lines zero (b ∷ s ∷ k ∷ []) h l = refl
-length-lines zero (b ∷ s ∷ k ∷ p ∷ []) h l = refl
-length-lines zero (b ∷ s ∷ k ∷ p ∷ i ∷ []) h l = refl
-length-lines zero (b ∷ s ∷ k ∷ p ∷ i ∷ x ∷ []) h l = refl
-length-lines zero (b ∷ s ∷ k ∷ p ∷ i ∷ x ∷ y ∷ []) h l = refl
-length-lines zero (b ∷ s ∷ k ∷ p ∷ i ∷ x ∷ y ∷ t ∷ ws) h l = absurd (omega arith)
+length-lines zero (b ∷ z ∷ []) h l = refl
+length-lines zero (b ∷ z ∷ s ∷ []) h l = refl
+length-lines zero (b ∷ z ∷ s ∷ k ∷ []) h l = refl
+length-lines zero (b ∷ z ∷ s ∷ k ∷ p ∷ []) h l = refl
+length-lines zero (b ∷ z ∷ s ∷ k ∷ p ∷ i ∷ []) h l = refl
+length-lines zero (b ∷ z ∷ s ∷ k ∷ p ∷ i ∷ x ∷ []) h l = refl
+length-lines zero (b ∷ z ∷ s ∷ k ∷ p ∷ i ∷ x ∷ y ∷ []) h l = refl
+length-lines zero (b ∷ z ∷ s ∷ k ∷ p ∷ i ∷ x ∷ y ∷ t ∷ ws) h l = absurd (omega arith)
 length-lines (suc n) [] h l = absurd (omega arith)
 length-lines (suc n) (b ∷ []) h l = absurd (omega arith)
-length-lines (suc n) (b ∷ s ∷ []) h l = absurd (omega arith)
-length-lines (suc n) (b ∷ s ∷ k ∷ []) h l = absurd (omega arith)
-length-lines (suc n) (b ∷ s ∷ k ∷ p ∷ []) h l = absurd (omega arith)
-length-lines (suc n) (b ∷ s ∷ k ∷ p ∷ i ∷ []) h l = absurd (omega arith)
-length-lines (suc n) (b ∷ s ∷ k ∷ p ∷ i ∷ x ∷ []) h l = absurd (omega arith)
-length-lines (suc n) (b ∷ s ∷ k ∷ p ∷ i ∷ x ∷ y ∷ []) h l = absurd (omega arith)
-length-lines (suc n) (b ∷ s ∷ k ∷ p ∷ i ∷ x ∷ y ∷ t ∷ ws) h l = ap suc (length-lines n ws (omega arith) (omega arith))
+length-lines (suc n) (b ∷ z ∷ []) h l = absurd (omega arith)
+length-lines (suc n) (b ∷ z ∷ s ∷ []) h l = absurd (omega arith)
+length-lines (suc n) (b ∷ z ∷ s ∷ k ∷ []) h l = absurd (omega arith)
+length-lines (suc n) (b ∷ z ∷ s ∷ k ∷ p ∷ []) h l = absurd (omega arith)
+length-lines (suc n) (b ∷ z ∷ s ∷ k ∷ p ∷ i ∷ []) h l = absurd (omega arith)
+length-lines (suc n) (b ∷ z ∷ s ∷ k ∷ p ∷ i ∷ x ∷ []) h l = absurd (omega arith)
+length-lines (suc n) (b ∷ z ∷ s ∷ k ∷ p ∷ i ∷ x ∷ y ∷ []) h l = absurd (omega arith)
+length-lines (suc n) (b ∷ z ∷ s ∷ k ∷ p ∷ i ∷ x ∷ y ∷ t ∷ ws) h l = ap suc (length-lines n ws (omega arith) (omega arith))
 
 -- .. each by its words
 pub line-read : (ws : List ℕ) (c : ℕ) → RecordIn wordsOfPlacement c ws → getD (linesIn ws) c noLine ≡ lineAt ws c
 unfolding linesIn
 line-read [] c h = absurd (omega arith)
 line-read (b ∷ []) c h = absurd (omega arith)
-line-read (b ∷ s ∷ []) c h = absurd (omega arith)
-line-read (b ∷ s ∷ k ∷ []) c h = absurd (omega arith)
-line-read (b ∷ s ∷ k ∷ p ∷ []) c h = absurd (omega arith)
-line-read (b ∷ s ∷ k ∷ p ∷ i ∷ []) c h = absurd (omega arith)
-line-read (b ∷ s ∷ k ∷ p ∷ i ∷ x ∷ []) c h = absurd (omega arith)
-line-read (b ∷ s ∷ k ∷ p ∷ i ∷ x ∷ y ∷ []) c h = absurd (omega arith)
-line-read (b ∷ s ∷ k ∷ p ∷ i ∷ x ∷ y ∷ t ∷ ws) zero h = refl
-line-read (b ∷ s ∷ k ∷ p ∷ i ∷ x ∷ y ∷ t ∷ ws) (suc c) h = line-read ws c (omega arith) ∙ shifted
+line-read (b ∷ z ∷ []) c h = absurd (omega arith)
+line-read (b ∷ z ∷ s ∷ []) c h = absurd (omega arith)
+line-read (b ∷ z ∷ s ∷ k ∷ []) c h = absurd (omega arith)
+line-read (b ∷ z ∷ s ∷ k ∷ p ∷ []) c h = absurd (omega arith)
+line-read (b ∷ z ∷ s ∷ k ∷ p ∷ i ∷ []) c h = absurd (omega arith)
+line-read (b ∷ z ∷ s ∷ k ∷ p ∷ i ∷ x ∷ []) c h = absurd (omega arith)
+line-read (b ∷ z ∷ s ∷ k ∷ p ∷ i ∷ x ∷ y ∷ []) c h = absurd (omega arith)
+line-read (b ∷ z ∷ s ∷ k ∷ p ∷ i ∷ x ∷ y ∷ t ∷ ws) zero h = refl
+line-read (b ∷ z ∷ s ∷ k ∷ p ∷ i ∷ x ∷ y ∷ t ∷ ws) (suc c) h = line-read ws c (omega arith) ∙ shifted
   where
-    more : (j : ℕ) → wordsOfPlacement * suc c + j ≡ suc (suc (suc (suc (suc (suc (suc (suc (wordsOfPlacement * c + j))))))))
+    more : (j : ℕ) → wordsOfPlacement * suc c + j ≡ suc (suc (suc (suc (suc (suc (suc (suc (suc (wordsOfPlacement * c + j)))))))))
     more j = omega arith
 
-    first : wordsOfPlacement * suc c ≡ suc (suc (suc (suc (suc (suc (suc (suc (wordsOfPlacement * c))))))))
+    first : wordsOfPlacement * suc c ≡ suc (suc (suc (suc (suc (suc (suc (suc (suc (wordsOfPlacement * c)))))))))
     first = omega arith
 
-    shifted : lineAt ws c ≡ lineAt (b ∷ s ∷ k ∷ p ∷ i ∷ x ∷ y ∷ t ∷ ws) (suc c)
-    shifted = rw (more 1, more 2, more 3, more 4, more 5, more 6, more 7, first)
+    shifted : lineAt ws c ≡ lineAt (b ∷ z ∷ s ∷ k ∷ p ∷ i ∷ x ∷ y ∷ t ∷ ws) (suc c)
+    shifted = rw (more 1, more 2, more 3, more 4, more 5, more 6, more 7, more 8, first)
 
 -- the placement of a line that was read is that of the line there
 pub read-placed : {l m : Line} → l ≡ m → l .placement ≡ m .placement

@@ -19,18 +19,19 @@ pub held-placement-put :
     → at + wordsOfPlacement ≤ length buffer
     → Holds buffer (placementWords ps)
     → Holds
-    (set (set (set (set (set (set (set (set buffer at (p .turn .board)) (at + 1) (p .turn .strip)) (at + 2) (p .turn .stack)) (at + 3) (p .turn .place)) (at + 4) (typeOf (p .item))) (at + 5) (p .x)) (at + 6) (p .y)) (at + 7) (turnOf (p .item)))
+    (set (set (set (set (set (set (set (set (set buffer at (p .turn .board .number)) (at + 1) (p .turn .board .size)) (at + 2) (p .turn .strip)) (at + 3) (p .turn .stack)) (at + 4) (p .turn .place)) (at + 5) (typeOf (p .item))) (at + 6) (p .x)) (at + 7) (p .y)) (at + 8) (turnOf (p .item)))
     (placementWords (ps ++ p ∷ []))
 unfolding placementWords
 held-placement-put {buffer} ps at p e h r =
     let l : length (placementWords ps) ≡ at = words-length ps ∙ e in
     rw words-last
     (simp append-assoc at
-    (held-put (at + 7) (turnOf (p .item)) (simp length-append (omega arith)) (simp length-set (omega arith))
-    (held-put (at + 6) (p .y) (simp length-append (omega arith)) (simp length-set (omega arith))
-    (held-put (at + 5) (p .x) (simp length-append (omega arith)) (simp length-set (omega arith))
-    (held-put (at + 4) (typeOf (p .item)) (simp length-append (omega arith)) (simp length-set (omega arith))
-    (held-put (at + 3) (p .turn .place) (simp length-append (omega arith)) (simp length-set (omega arith))
-    (held-put (at + 2) (p .turn .stack) (simp length-append (omega arith)) (simp length-set (omega arith))
-    (held-put (at + 1) (p .turn .strip) (simp length-append (omega arith)) (simp length-set (omega arith))
-    (held-put at (p .turn .board) l (omega arith) r)))))))))
+    (held-put (at + 8) (turnOf (p .item)) (simp length-append (omega arith)) (simp length-set (omega arith))
+    (held-put (at + 7) (p .y) (simp length-append (omega arith)) (simp length-set (omega arith))
+    (held-put (at + 6) (p .x) (simp length-append (omega arith)) (simp length-set (omega arith))
+    (held-put (at + 5) (typeOf (p .item)) (simp length-append (omega arith)) (simp length-set (omega arith))
+    (held-put (at + 4) (p .turn .place) (simp length-append (omega arith)) (simp length-set (omega arith))
+    (held-put (at + 3) (p .turn .stack) (simp length-append (omega arith)) (simp length-set (omega arith))
+    (held-put (at + 2) (p .turn .strip) (simp length-append (omega arith)) (simp length-set (omega arith))
+    (held-put (at + 1) (p .turn .board .size) (simp length-append (omega arith)) (simp length-set (omega arith))
+    (held-put at (p .turn .board .number) l (omega arith) r))))))))))

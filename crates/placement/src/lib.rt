@@ -9,11 +9,13 @@ ghost use Rattle.layouts.specs.Placement.{Placement as Placed, placementWords};
 ghost use Rattle.placement.specs.PlacementRead.{placementIn, lineIn, lineAt};
 use job::counters::ItemPosition;
 use job::counters::ItemType;
+use job::counters::PlateType;
 use job::sizes::PLACEMENT_WORDS;
 
-// Board, strip, stack and place of an item, its type, where it lies, and 1 if it is turned, else 0.
+// The board of an item and the size of that board, the item's strip, stack and place, its type, where it lies, and 1 if it is turned, else 0.
 pub struct Placement {
     pub board: u16,
+    pub size: PlateType,
     pub strip: u16,
     pub stack: u16,
     pub place: u16,
@@ -41,13 +43,14 @@ pub fn placement_at(words: &[u16], c: usize) -> Placement
     let at = PLACEMENT_WORDS * c;
     Placement {
         board: words[at],
-        strip: words[at + 1],
-        stack: words[at + 2],
-        place: words[at + 3],
-        item: ItemType(words[at + 4]),
-        x: words[at + 5],
-        y: words[at + 6],
-        turned: words[at + 7],
+        size: PlateType(words[at + 1]),
+        strip: words[at + 2],
+        stack: words[at + 3],
+        place: words[at + 4],
+        item: ItemType(words[at + 5]),
+        x: words[at + 6],
+        y: words[at + 7],
+        turned: words[at + 8],
     }
 }
 
@@ -58,11 +61,12 @@ pub fn put_placement(words: &mut [u16], n: u16, p: Placement)
 {
     let at = PLACEMENT_WORDS * (n as usize);
     words[at] = p.board;
-    words[at + 1] = p.strip;
-    words[at + 2] = p.stack;
-    words[at + 3] = p.place;
-    words[at + 4] = p.item.0;
-    words[at + 5] = p.x;
-    words[at + 6] = p.y;
-    words[at + 7] = p.turned;
+    words[at + 1] = p.size.0;
+    words[at + 2] = p.strip;
+    words[at + 3] = p.stack;
+    words[at + 4] = p.place;
+    words[at + 5] = p.item.0;
+    words[at + 6] = p.x;
+    words[at + 7] = p.y;
+    words[at + 8] = p.turned;
 }

@@ -68,7 +68,7 @@ module _ (ws plates cuts : List ℕ) where
       (passes-then (full 1 platesSize plates)
       (passes-then (full 2 cutsSize cuts)
       (passes-then (passes-self (modelRow job))
-      (passes-then (passes-test 13 0 (decides-eq (length prices) size)) (prices-exact l (pricesOf job prices)))))))) in (
+      (passes-then (passes-test 13 0 (decides-eq (length prices) size)) (prices-exact job l (pricesOf job prices)))))))) in (
         λ h.
             let (words, (priced, (fits, (plates-full, (cuts-full, (within-limits, (number, feasible))))))) = rows .0 h in
             let limits = price-words-exact prices (omega arith) .0 priced in

@@ -1,9 +1,9 @@
 -- Document 01, "Plan": what the plan test says in plain statements, both ways, and that words past the last cut play no part in it.
-use Prim.Native.Nat.{ℕ, zero, suc, _+_, _-_, _≤_, _<_, zero-le}
+use Prim.Native.Nat.{ℕ, zero, suc, _+_, _-_, _≤_, _<_}
 use native.Mathlib.Omega.{arith}
 use mathlib.Core.Path.{_≡_, refl, sym, ap}
 use mathlib.Core.Logic.{_↔_, _⊎_, inl, inr}
-use mathlib.Core.Bool.{Bool, true, false, cond, not}
+use mathlib.Core.Bool.{Bool, false, not}
 use mathlib.Core.List.{List, [], _∷_}
 use lib.Dec.{eqb}
 use lib.ListN.{length, getD, take, drop, length-drop, List·getD-eq-default}
@@ -32,22 +32,23 @@ module _ (job : Job) (l : Listing) (ns : List ℕ) where
   unfolding short itemAt
   met-from h i p = rw (one-more i) (le-ltb _ _ (h (suc i) (omega arith) (omega arith)))
 
-  covered-to : ((j : ℕ) → j < length (drop 1 (l .plates)) → overdrawn l ns (1 + j) (getD (drop 1 (l .plates)) j waste) ≡ false) → (j : ℕ) → 1 ≤ j → j < length (l .plates) → countOf (onPlate j) (l .cuts) ns ≤ countOf (leavesPlate j) (l .cuts) ns
+  covered-to : ((j : ℕ) → j < length (drop (l .sizes) (l .plates)) → overdrawn l ns (l .sizes + j) (getD (drop (l .sizes) (l .plates)) j waste) ≡ false) → (j : ℕ) → l .sizes ≤ j → j < length (l .plates) → countOf (onPlate j) (l .cuts) ns ≤ countOf (leavesPlate j) (l .cuts) ns
   unfolding overdrawn
-  covered-to h zero p q = absurd (omega arith)
-  covered-to h (suc j) p q = ltb-false _ _ (rw (one-more j) at (h j (omega (arith, length-drop 1 (l .plates)))))
+  covered-to h j p q =
+      let e : l .sizes + (j - l .sizes) ≡ j = omega arith in
+      ltb-false _ _ (rw e at (h (j - l .sizes) (omega (arith, length-drop (l .sizes) (l .plates)))))
 
-  covered-from : ((j : ℕ) → 1 ≤ j → j < length (l .plates) → countOf (onPlate j) (l .cuts) ns ≤ countOf (leavesPlate j) (l .cuts) ns) → (j : ℕ) → j < length (drop 1 (l .plates)) → overdrawn l ns (1 + j) (getD (drop 1 (l .plates)) j waste) ≡ false
+  covered-from : ((j : ℕ) → l .sizes ≤ j → j < length (l .plates) → countOf (onPlate j) (l .cuts) ns ≤ countOf (leavesPlate j) (l .cuts) ns) → (j : ℕ) → j < length (drop (l .sizes) (l .plates)) → overdrawn l ns (l .sizes + j) (getD (drop (l .sizes) (l .plates)) j waste) ≡ false
   unfolding overdrawn
   covered-from h j p =
-      rw (one-more j) (le-ltb _ _ (h (suc j) (omega arith) (omega (arith, length-drop 1 (l .plates)))))
+      le-ltb _ _ (h (l .sizes + j) (omega arith) (omega (arith, length-drop (l .sizes) (l .plates))))
 
   -- the plan row passes exactly where the plan is accepted
   pub plan-exact : (planRow job l ns ≡ pass) ↔ Feasible job l ns
   unfolding planRow
   plan-exact =
       let types = passes-places 11 (short l ns) noItem 1 (job .items) in
-      let residuals = passes-places 12 (overdrawn l ns) waste 1 (drop 1 (l .plates)) in
+      let residuals = passes-places 12 (overdrawn l ns) waste (l .sizes) (drop (l .sizes) (l .plates)) in
       let rows = passes-then (passes-limit maxPieces (total ns) 10 0) (passes-then types residuals) in (
         λ h.
             let a = rows .0 h in
@@ -123,14 +124,3 @@ module _ (job : Job) (l : Listing) (ns : List ℕ) (none : NonePast l ns) where
             met = λ i p q. omega (arith, a .met i p q, same (ofItem i));
             covered = λ j p q. omega (arith, a .covered j p q, same (onPlate j), same (leavesPlate j));
           }
-
--- the counts of some cuts are at most all counts together
-pub countOf-total : (test : Cut → Bool) (cs : List Cut) (ns : List ℕ) → countOf test cs ns ≤ total ns
-unfolding countOf total sumOf
-countOf-total test [] ns = zero-le
-countOf-total test (c ∷ cs) [] = zero-le
-countOf-total test (c ∷ cs) (n ∷ ns) = go (test c) (countOf-total test cs ns)
-  where
-    go : (t : Bool) → countOf test cs ns ≤ total ns → cond t n 0 + countOf test cs ns ≤ n + total ns
-    go true h = omega arith
-    go false h = omega arith

@@ -1,8 +1,8 @@
--- Document 01, "Prices": what the price test and "fewest" say in plain statements, both ways.
+-- Document 01, "Prices": what the price test and "cheapest" say in plain statements, both ways.
 use Prim.Native.Nat.{ℕ, zero, suc, _*_, _-_, _≤_, _<_}
 use native.Mathlib.Omega.{arith}
-use mathlib.Core.Path.{_≡_, refl}
-use mathlib.Core.Logic.{_↔_}
+use mathlib.Core.Path.{_≡_}
+use mathlib.Core.Logic.{_↔_, _⊎_, inl, inr}
 use mathlib.Core.Bool.{true, false}
 use mathlib.Core.List.{List, [], _∷_}
 use lib.Dec.{ltb}
@@ -13,49 +13,59 @@ use Rattle.job.specs.Verdict.{pass}
 use Rattle.job.specs.Job.{Job}
 use Rattle.job.specs.Admitted.{Between}
 use Rattle.job.proofs.Decides.{decides-within, Passes, passes-then, passes-test, passes-places}
+use Rattle.job.proofs.Tests.{at-most-or-above}
 use Rattle.listing.specs.Listing.{Listing, cutAt, noCut}
-use Rattle.plan.specs.Prices.{Prices, priceWords, residualPrice, priceLimit, worth, overLimit, pricesRow, priceSum, fewest}
+use Rattle.plan.specs.Plan.{costAt}
+use Rattle.plan.specs.Prices.{Prices, priceWords, residualPrice, priceLimit, worth, overLimit, pricesRow, priceSum, isCheapest, cheapest}
 use Rattle.plan.specs.Feasible.{DualFeasible}
 
--- the limit of a cut on type 0, and of a cut on a residual type
-pub limit-board : (ps : Prices) (j : ℕ) → j ≡ 0 → priceLimit ps j ≡ ps .denominator
+-- the limit of a cut on a size, and of a cut on a residual type
+pub limit-size : (job : Job) (ps : Prices) (j : ℕ) → j < length (job .sizes) → priceLimit job ps j ≡ ps .denominator * costAt job j
 unfolding priceLimit
-limit-board ps zero e = refl
-limit-board ps (suc j) e = absurd (omega arith)
+limit-size job ps j p = rw (lt-ltb j (length (job .sizes)) p)
 
-pub limit-residual : (ps : Prices) (j : ℕ) → 0 < j → priceLimit ps j ≡ residualPrice ps j
+pub limit-residual : (job : Job) (ps : Prices) (j : ℕ) → length (job .sizes) ≤ j → priceLimit job ps j ≡ residualPrice job ps j
 unfolding priceLimit
-limit-residual ps zero p = absurd (omega arith)
-limit-residual ps (suc j) p = refl
+limit-residual job ps j p = rw (le-ltb j (length (job .sizes)) p)
 
-module _ (l : Listing) (ps : Prices) where
+-- residual types have their prices in order, the first that of number t; below t there is none
+pub residual-priced : (job : Job) (ps : Prices) (j : ℕ) → length (job .sizes) ≤ j → residualPrice job ps j ≡ getD (ps .residuals) (j - length (job .sizes)) 0
+unfolding residualPrice
+residual-priced job ps j p = rw (le-ltb j (length (job .sizes)) p)
+
+pub not-priced : (job : Job) (ps : Prices) (j : ℕ) → j < length (job .sizes) → residualPrice job ps j ≡ 0
+unfolding residualPrice
+not-priced job ps j p = rw (lt-ltb j (length (job .sizes)) p)
+
+module _ (job : Job) (l : Listing) (ps : Prices) where
   -- the prices row passes exactly where the prices are accepted
-  pub prices-exact : (pricesRow l ps ≡ pass) ↔ DualFeasible l ps
+  pub prices-exact : (pricesRow job l ps ≡ pass) ↔ DualFeasible job l ps
   unfolding pricesRow overLimit worth cutAt
   prices-exact = (to, from)
     where
-      to : pricesRow l ps ≡ pass → DualFeasible l ps
+      to : pricesRow job l ps ≡ pass → DualFeasible job l ps
       to h =
-          let within : (c : ℕ) → c < length (l .cuts) → worth ps (cutAt l (suc c)) ≤ priceLimit ps (cutAt l (suc c) .plate)
-          = λ c p. ltb-false _ _ (passes-places 14 (λ _ c. overLimit ps c) noCut 1 (l .cuts) .0 h c p) in
+          let within : (c : ℕ) → c < length (l .cuts) → worth job ps (cutAt l (suc c)) ≤ priceLimit job ps (cutAt l (suc c) .plate)
+          = λ c p. ltb-false _ _ (passes-places 14 (λ _ c. overLimit job ps c) noCut 1 (l .cuts) .0 h c p) in
           record {
-            on-board = λ c p e. omega (arith, within c p, limit-board ps (cutAt l (suc c) .plate) e);
-            on-residual = λ c p q. omega (arith, within c p, limit-residual ps (cutAt l (suc c) .plate) q);
+            on-size = λ c p e. omega (arith, within c p, limit-size job ps (cutAt l (suc c) .plate) e);
+            on-residual = λ c p q. omega (arith, within c p, limit-residual job ps (cutAt l (suc c) .plate) q);
           }
 
-      from : DualFeasible l ps → pricesRow l ps ≡ pass
+      from : DualFeasible job l ps → pricesRow job l ps ≡ pass
       from a =
-          passes-places 14 (λ _ c. overLimit ps c) noCut 1 (l .cuts) .1
-          (λ c p. le-ltb _ _ (at c p (cutAt l (suc c) .plate) refl))
+          passes-places 14 (λ _ c. overLimit job ps c) noCut 1 (l .cuts) .1
+          (λ c p. le-ltb _ _ (at c p (at-most-or-above (length (job .sizes)) (cutAt l (suc c) .plate))))
         where
-          at : (c : ℕ) → c < length (l .cuts) → (j : ℕ) → cutAt l (suc c) .plate ≡ j → worth ps (cutAt l (suc c)) ≤ priceLimit ps (cutAt l (suc c) .plate)
-          at c p zero e = omega (arith, a .on-board c p e, limit-board ps (cutAt l (suc c) .plate) e)
-          at c p (suc j) e = omega (arith, a .on-residual c p (omega arith), limit-residual ps (cutAt l (suc c) .plate) (omega arith))
+          at : (c : ℕ) → c < length (l .cuts) → (length (job .sizes) ≤ cutAt l (suc c) .plate) ⊎ (cutAt l (suc c) .plate < length (job .sizes))
+              → worth job ps (cutAt l (suc c)) ≤ priceLimit job ps (cutAt l (suc c) .plate)
+          at c p (inr e) = omega (arith, a .on-size c p e, limit-size job ps (cutAt l (suc c) .plate) e)
+          at c p (inl e) = omega (arith, a .on-residual c p e, limit-residual job ps (cutAt l (suc c) .plate) e)
 
--- "fewest" says that one board less would come to less than the sum of price times demand, nothing rounded
-pub fewest-exact : (job : Job) (ps : Prices) (n : ℕ) → (fewest job ps n ≡ true) ↔ ((n - 1) * ps .denominator < priceSum job ps)
-unfolding fewest
-fewest-exact job ps n = (ltb-true _ _, lt-ltb _ _)
+-- "cheapest" says that a cost of one less would come to less than the sum of price times demand, nothing rounded
+pub cheapest-exact : (job : Job) (ps : Prices) (cost : ℕ) → (cheapest job ps cost ≡ true) ↔ ((cost - 1) * ps .denominator < priceSum job ps)
+unfolding isCheapest
+cheapest-exact job ps cost = (ltb-true _ _, lt-ltb _ _)
 
 -- the line row of price words passes exactly where D and every price is within its limits
 pub price-words-exact :

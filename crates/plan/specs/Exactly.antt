@@ -46,7 +46,7 @@ pub record PricesRight (ws prices plates cuts : List ℕ) : Type 0 where
   -- "a price 0 to 9,999 for each item type and each residual type", the words after it
   pub price-limits : (k : ℕ) → 1 ≤ k → k < length prices → getD prices k 0 ≤ maxPrice
   -- no cut is over its limit
-  pub feasible : DualFeasible (listingOf (jobOf ws)) (pricesOf (jobOf ws) prices)
+  pub feasible : DualFeasible (jobOf ws) (listingOf (jobOf ws)) (pricesOf (jobOf ws) prices)
 
 -- an answer that accepts gives results
 abbrev pub Accepts : Answer → Type 0

@@ -3,9 +3,9 @@ use Prim.Native.Nat.{ℕ}
 use mathlib.Core.List.{List, [], _∷_}
 use Rattle.job.specs.Verdict.{Verdict, _then_}
 use Rattle.job.specs.Buffers.{Answer, answer, sized, platesSize, cutsSize, countsSize}
-use Rattle.job.specs.Job.{jobOf, jobWords, admission}
-use Rattle.listing.specs.Listing.{modelRow, listingOf}
-use Rattle.plan.specs.Plan.{boards, countsRow, planRow}
+use Rattle.job.specs.Job.{Job, jobOf, jobWords, admission}
+use Rattle.listing.specs.Listing.{Listing, modelRow, listingOf}
+use Rattle.plan.specs.Plan.{boards, planCost, countsRow, planRow}
 
 -- `ws` are the job's words, `counts` the counts passed in, `plates` and `cuts` the lent buffers as they were
 unfoldable pub planVerdict : List ℕ → List ℕ → List ℕ → List ℕ → Verdict
@@ -19,7 +19,10 @@ planVerdict ws counts plates cuts =
     then countsRow (listingOf (jobOf ws)) counts
     then planRow (jobOf ws) (listingOf (jobOf ws)) counts
 
--- "plan test and folding, boards"
+-- "the plan test and folding give boards and cost" (request Six)
+abbrev pub boardsAndCost : Job → Listing → List ℕ → List ℕ
+boardsAndCost job l counts = boards l counts ∷ planCost job l counts ∷ []
+
 unfoldable pub planAnswer : List ℕ → List ℕ → List ℕ → List ℕ → Answer
 planAnswer ws counts plates cuts =
-    answer (planVerdict ws counts plates cuts) (boards (listingOf (jobOf ws)) counts ∷ [])
+    answer (planVerdict ws counts plates cuts) (boardsAndCost (jobOf ws) (listingOf (jobOf ws)) counts)

@@ -18,7 +18,7 @@ priceVerdict ws prices plates cuts =
     then sized 2 cutsSize cuts
     then modelRow (jobOf ws)
     then pricesSized (jobOf ws) (listingOf (jobOf ws)) prices
-    then pricesRow (listingOf (jobOf ws)) (pricesOf (jobOf ws) prices)
+    then pricesRow (jobOf ws) (listingOf (jobOf ws)) (pricesOf (jobOf ws) prices)
 
 -- "price test, sum and D"
 unfoldable pub priceAnswer : List ℕ → List ℕ → List ℕ → List ℕ → Answer

@@ -1,6 +1,6 @@
 -- Document 01, "Prices": a denominator and prices, when they are refused, and the bound that they give.
 use Prim.Native.Nat.{ℕ, zero, suc, _+_, _*_, _-_}
-use mathlib.Core.Bool.{Bool, not, _||_}
+use mathlib.Core.Bool.{Bool, cond, not, _||_}
 use mathlib.Core.List.{List, [], _∷_}
 use lib.Dec.{ltb, eqb}
 use lib.ListN.{length, getD, take, drop}
@@ -9,6 +9,7 @@ use Rattle.job.specs.declared.item.Item.{Item}
 use Rattle.job.specs.Verdict.{Verdict, pass, _then_, refuseIf, within, lowest}
 use Rattle.job.specs.Job.{Job, typeOf}
 use Rattle.listing.specs.Listing.{Cut, Listing, residualTypes}
+use Rattle.plan.specs.Plan.{costAt}
 
 -- the denominator D; a price for each item type and each residual type, both in order
 pub record Prices : Type 0 where
@@ -36,22 +37,21 @@ unfoldable pub itemPrice : Prices → ℕ → ℕ
 itemPrice ps zero = 0
 itemPrice ps (suc i) = getD (ps .items) i 0
 
--- the price of residual type j, from 1; 0 stands for a residual that is not kept, which has no price
-unfoldable pub residualPrice : Prices → ℕ → ℕ
-residualPrice ps zero = 0
-residualPrice ps (suc j) = getD (ps .residuals) j 0
+-- the price of residual type j; the first has the number that follows the sizes (request Six), and 0, which is a size's, stands for a residual that is not
+-- kept and has no price
+unfoldable pub residualPrice : Job → Prices → ℕ → ℕ
+residualPrice job ps j = cond (ltb j (length (job .sizes))) 0 (getD (ps .residuals) (j - length (job .sizes)) 0)
 
--- what a cut may come to: "at most D for a cut on type 0, else at most the price of the plate cut"
-unfoldable pub priceLimit : Prices → ℕ → ℕ
-priceLimit ps zero = ps .denominator
-priceLimit ps (suc j) = residualPrice ps (suc j)
+-- what a cut may come to: on a size "D times its cost" (request Six), "else at most the price of the plate cut"
+unfoldable pub priceLimit : Job → Prices → ℕ → ℕ
+priceLimit job ps j = cond (ltb j (length (job .sizes))) (ps .denominator * costAt job j) (residualPrice job ps j)
 
 -- "the item's price plus the prices of its kept residuals": a type has one price in both turns (request One)
-unfoldable pub worth : Prices → Cut → ℕ
-worth ps c = itemPrice ps (typeOf (c .item)) + residualPrice ps (c .top) + residualPrice ps (c .right)
+unfoldable pub worth : Job → Prices → Cut → ℕ
+worth job ps c = itemPrice ps (typeOf (c .item)) + residualPrice job ps (c .top) + residualPrice job ps (c .right)
 
-unfoldable pub overLimit : Prices → Cut → Bool
-overLimit ps c = ltb (priceLimit ps (c .plate)) (worth ps c)
+unfoldable pub overLimit : Job → Prices → Cut → Bool
+overLimit job ps c = ltb (priceLimit job ps (c .plate)) (worth job ps c)
 
 -- 13: "n or m not the model's"
 unfoldable pub modelSized : Job → Listing → ℕ → ℕ → Verdict
@@ -63,8 +63,8 @@ unfoldable pub pricesSized : Job → Listing → List ℕ → Verdict
 pricesSized job l ws = refuseIf (not (eqb (length ws) (1 + length (job .items) + residualTypes l))) 13 0
 
 -- the prices row from 14 on: 14 a cut over its limit
-unfoldable pub pricesRow : Listing → Prices → Verdict
-pricesRow l ps = lowest 14 (λ _ c. overLimit ps c) 1 (l .cuts)
+unfoldable pub pricesRow : Job → Listing → Prices → Verdict
+pricesRow job l ps = lowest 14 (λ _ c. overLimit job ps c) 1 (l .cuts)
 
 -- price times demand, added up over item types and their prices
 unfoldable pub priced : List Item → List ℕ → ℕ
@@ -76,6 +76,10 @@ priced (item ∷ items) (p ∷ ps) = p * item .demand + priced items ps
 unfoldable pub priceSum : Job → Prices → ℕ
 priceSum job ps = priced (job .items) (ps .items)
 
--- "Fewest is 1 exactly if (boards−1)×D is below that sum"
-unfoldable pub fewest : Job → Prices → ℕ → Bool
-fewest job ps n = ltb ((n - 1) * ps .denominator) (priceSum job ps)
+-- request Six, "cheapest": "cost minus 1, times D, below the sum"
+unfoldable pub isCheapest : ℕ → ℕ → ℕ → Bool
+isCheapest cost sum d = ltb ((cost - 1) * d) sum
+
+-- the same of the sum and D of prices
+abbrev pub cheapest : Job → Prices → ℕ → Bool
+cheapest job ps cost = isCheapest cost (priceSum job ps) (ps .denominator)

@@ -1,6 +1,6 @@
 -- The plan row that the code decides by its sums is that of the definitions.
 use mathlib.Core.Path.{_≡_, sym, ap, _∙_}
-use Prim.Native.Nat.{ℕ, suc, _-_, _≤_, _<_}
+use Prim.Native.Nat.{ℕ, suc, _*_, _-_, _≤_, _<_}
 use mathlib.Core.Bool.{Bool, not}
 use mathlib.Core.List.{List, [], _∷_}
 use native.Mathlib.Omega.{arith}
@@ -10,14 +10,17 @@ use lib.ListN.{length, getD, take, drop, replicate, length-drop, length-replicat
 use Rattle.job.specs.Sizes.{maxTypes, maxPieces, maxPlates}
 use Rattle.job.specs.Verdict.{pass, _then_, lowest}
 use Rattle.job.specs.Buffers.{Answer, given, refused, answer}
-use Rattle.job.specs.Job.{Job}
+use Rattle.job.specs.Job.{Job, sizeAt}
 use Rattle.listing.specs.Listing.{Cut, Listing}
-use Rattle.plan.specs.Plan.{countOf, ofItem, onPlate, leavesPlate, boards, total, short, overdrawn, countsRow, balanceRow, planRow}
+use Rattle.plan.specs.Plan.{countOf, ofItem, onPlate, leavesPlate, total, short, overdrawn, countsRow, balanceRow, planRow}
+use Rattle.plan.specs.PlanCall.{boardsAndCost}
 use Rattle.job.specs.declared.row.Row.{Row}
 use Rattle.job.specs.declared.row.Row.the-variants.{Passes, Refuses}
 use Rattle.job.specs.Row.{rowVerdict}
 use Rattle.listing.specs.CutRead.{Sound}
-use Rattle.plan_test.specs.Sums.{Sums, SumRoom}
+use Rattle.plan_test.specs.Sums.{SumsOf, Sums, SumRoom, sumBelow}
+use Rattle.plan_test.proofs.CodeSums.{countOf-le}
+use Rattle.plan_test.proofs.CodeOpened.{boards-summed, cost-summed}
 use Rattle.plan_test.proofs.CodeRow.{row-refused, row-passed}
 use Rattle.plan.proofs.PlanExact.{counts-exact, total-take}
 use Rattle.job.proofs.CodeLowest.{lowest-agree}
@@ -37,6 +40,10 @@ room-zeros a b d p q r = record { for-items = rw length-replicate p; for-plates 
 pub sound-more : {m n m′ n′ : ℕ} (cs : List Cut) → m ≤ m′ → n ≤ n′ → Sound m n cs → Sound m′ n′ cs
 sound-more cs p q s = record { each = λ c h. let r = s .each c h in record { on-plate = omega arith; from-one = r .from-one; of-item = omega arith; top-plate = omega arith; right-plate = omega arith } }
 
+-- counts that come to at most 4,000 do so on each plate type
+pub sums-small : (cs : List Cut) (ns on : List ℕ) (k : ℕ) → SumsOf onPlate cs ns on → length cs ≤ k → total (take k ns) ≤ maxPieces → (j : ℕ) → j < length on → getD on j 0 ≤ maxPieces
+sums-small cs ns on k s few t j h = omega (arith, s j h, countOf-le (onPlate j) cs ns k few)
+
 -- sums of a listing's cuts, with a word for each type
 module _ (job : Job) (l : Listing) (ns items on left : List ℕ) (s : Sums (l .cuts) ns items on left) (room : SumRoom items on left) (few : length (job .items) ≤ maxTypes) (few-plates : length (l .plates) ≤ maxPlates) where
   -- 11 by the sums is 11
@@ -45,26 +52,25 @@ module _ (job : Job) (l : Listing) (ns items on left : List ℕ) (s : Sums (l .c
   short-row = lowest-agree 11 _ (short l ns) 1 (job .items) (λ i item p q. rw (s .by-item i (omega arith)))
 
   -- 12 by the sums is 12
-  overdrawn-row : lowest 12 (λ j _. ltb (getD left j 0) (getD on j 0)) 1 (drop 1 (l .plates)) ≡ lowest 12 (overdrawn l ns) 1 (drop 1 (l .plates))
+  overdrawn-row : lowest 12 (λ j _. ltb (getD left j 0) (getD on j 0)) (l .sizes) (drop (l .sizes) (l .plates)) ≡ lowest 12 (overdrawn l ns) (l .sizes) (drop (l .sizes) (l .plates))
   unfolding overdrawn
   overdrawn-row =
-      lowest-agree 12 _ (overdrawn l ns) 1 (drop 1 (l .plates)) (λ j p a b.
-      let e : length (drop 1 (l .plates)) ≡ length (l .plates) - 1 = length-drop 1 (l .plates) in
+      lowest-agree 12 _ (overdrawn l ns) (l .sizes) (drop (l .sizes) (l .plates)) (λ j p a b.
+      let e : length (drop (l .sizes) (l .plates)) ≡ length (l .plates) - l .sizes = length-drop (l .sizes) (l .plates) in
       rw (s .by-residual j (omega arith), s .by-plate j (omega arith)))
 
   module _ {r : Row} (says : rowVerdict r ≡ lowest 11 (λ i item. ltb (getD items i 0) (item .demand)) 1 (job .items)) where
-    pub short-refused : {number place : ℕ} → r ≡ Refuses number place → refused number place ≡ answer (balanceRow job l ns) (boards l ns ∷ [])
-    short-refused e = row-refused (says ∙ short-row) (lowest 12 (overdrawn l ns) 1 (drop 1 (l .plates))) (boards l ns ∷ []) e
+    pub short-refused : {number place : ℕ} → r ≡ Refuses number place → refused number place ≡ answer (balanceRow job l ns) (boardsAndCost job l ns)
+    short-refused e = row-refused (says ∙ short-row) (lowest 12 (overdrawn l ns) (l .sizes) (drop (l .sizes) (l .plates))) (boardsAndCost job l ns) e
 
-    module _ (passes : r ≡ Passes) {q : Row} (says′ : rowVerdict q ≡ lowest 12 (λ j _. ltb (getD left j 0) (getD on j 0)) 1 (drop 1 (l .plates))) where
-      pub overdrawn-refused : {number place : ℕ} → q ≡ Refuses number place → refused number place ≡ answer (balanceRow job l ns) (boards l ns ∷ [])
+    module _ (passes : r ≡ Passes) {q : Row} (says′ : rowVerdict q ≡ lowest 12 (λ j _. ltb (getD left j 0) (getD on j 0)) (l .sizes) (drop (l .sizes) (l .plates))) where
+      pub overdrawn-refused : {number place : ℕ} → q ≡ Refuses number place → refused number place ≡ answer (balanceRow job l ns) (boardsAndCost job l ns)
       overdrawn-refused e =
-          row-passed (says ∙ short-row) (lowest 12 (overdrawn l ns) 1 (drop 1 (l .plates))) (boards l ns ∷ []) passes (rw (← overdrawn-row, ← says′, e))
+          row-passed (says ∙ short-row) (lowest 12 (overdrawn l ns) (l .sizes) (drop (l .sizes) (l .plates))) (boardsAndCost job l ns) passes (rw (← overdrawn-row, ← says′, e))
 
-      pub balance-accepted : q ≡ Passes → given (getD on 0 0 ∷ []) ≡ answer (balanceRow job l ns) (boards l ns ∷ [])
-      unfolding boards
-      balance-accepted e =
-          row-passed (says ∙ short-row) (lowest 12 (overdrawn l ns) 1 (drop 1 (l .plates))) (boards l ns ∷ []) passes (rw (← overdrawn-row, ← says′, e, s .by-plate 0 (omega arith)))
+      pub balance-accepted : q ≡ Passes → (t boards cost : ℕ) → t ≤ length on → l .sizes ≡ t → length (job .sizes) ≡ t → boards ≡ sumBelow (λ j. getD on j 0) t → cost ≡ sumBelow (λ j. sizeAt job j .cost * getD on j 0) t → given (boards ∷ cost ∷ []) ≡ answer (balanceRow job l ns) (boardsAndCost job l ns)
+      balance-accepted e t boards cost h z z′ b c =
+          row-passed (says ∙ short-row) (lowest 12 (overdrawn l ns) (l .sizes) (drop (l .sizes) (l .plates))) (boardsAndCost job l ns) passes (rw (← overdrawn-row, ← says′, e, b ∙ boards-summed job l ns on (s .by-plate) t h z, c ∙ cost-summed job l ns on (s .by-plate) t h z′))
 
 -- the plan row of counts for k cuts: 8 of those past them, 10 by the total of the first k
 module _ (job : Job) (l : Listing) (k : ℕ) (ns : List ℕ) (e : length (l .cuts) ≡ k) (r : Row) (says : rowVerdict r ≡ lowest 8 (λ _ n. not (eqb n 0)) (suc k) (drop k ns)) where
@@ -72,8 +78,8 @@ module _ (job : Job) (l : Listing) (k : ℕ) (ns : List ℕ) (e : length (l .cut
   unfolding countsRow
   counts-row = rw e says
 
-  pub past-refused : {number place : ℕ} → r ≡ Refuses number place → refused number place ≡ answer (countsRow l ns then planRow job l ns) (boards l ns ∷ [])
-  past-refused p = row-refused counts-row (planRow job l ns) (boards l ns ∷ []) p
+  pub past-refused : {number place : ℕ} → r ≡ Refuses number place → refused number place ≡ answer (countsRow l ns then planRow job l ns) (boardsAndCost job l ns)
+  past-refused p = row-refused counts-row (planRow job l ns) (boardsAndCost job l ns) p
 
   module _ (passes : r ≡ Passes) where
     all-first : total ns ≡ total (take k ns)
@@ -81,10 +87,10 @@ module _ (job : Job) (l : Listing) (k : ℕ) (ns : List ℕ) (e : length (l .cut
         let none : countsRow l ns ≡ pass = sym counts-row ∙ ap rowVerdict passes in
         sym (rw (← e) (total-take (length (l .cuts)) ns (counts-exact l ns .0 none)))
 
-    pub total-refused : maxPieces < total (take k ns) → refused 10 0 ≡ answer (countsRow l ns then planRow job l ns) (boards l ns ∷ [])
+    pub total-refused : maxPieces < total (take k ns) → refused 10 0 ≡ answer (countsRow l ns then planRow job l ns) (boardsAndCost job l ns)
     unfolding planRow
-    total-refused t = row-passed counts-row (planRow job l ns) (boards l ns ∷ []) passes (rw (all-first, lt-ltb maxPieces (total (take k ns)) t))
+    total-refused t = row-passed counts-row (planRow job l ns) (boardsAndCost job l ns) passes (rw (all-first, lt-ltb maxPieces (total (take k ns)) t))
 
-    pub total-passed : total (take k ns) ≤ maxPieces → {x : Answer} → x ≡ answer (balanceRow job l ns) (boards l ns ∷ []) → x ≡ answer (countsRow l ns then planRow job l ns) (boards l ns ∷ [])
+    pub total-passed : total (take k ns) ≤ maxPieces → {x : Answer} → x ≡ answer (balanceRow job l ns) (boardsAndCost job l ns) → x ≡ answer (countsRow l ns then planRow job l ns) (boardsAndCost job l ns)
     unfolding planRow
-    total-passed t h = row-passed counts-row (planRow job l ns) (boards l ns ∷ []) passes (rw (all-first, le-ltb maxPieces (total (take k ns)) t) h)
+    total-passed t h = row-passed counts-row (planRow job l ns) (boardsAndCost job l ns) passes (rw (all-first, le-ltb maxPieces (total (take k ns)) t) h)

@@ -2,7 +2,7 @@
 use mathlib.Core.Path.{_≡_, sym, ap, _∙_}
 use mathlib.Core.Logic.{_↔_}
 use Prim.Native.Nat.{ℕ, _≤_}
-use mathlib.Core.List.{List, [], _∷_}
+use mathlib.Core.List.{List}
 use native.Mathlib.Omega.{arith}
 use lib.Dec.{ltb}
 use lib.ListN.{length, drop}
@@ -16,8 +16,8 @@ use Rattle.job.proofs.CodeEnds.{Not5, not5-if, not5-then, not5-lowest}
 use Rattle.listing.specs.Listing.{Listing, listingOf}
 use Rattle.listing.specs.ListCall.{platesEnd, cutsEnd}
 use Rattle.listing_call.proofs.CodeEnding.{Ended}
-use Rattle.plan.specs.Plan.{boards, total, short, overdrawn, countsRow, planRow}
-use Rattle.plan.specs.PlanCall.{planVerdict, planAnswer}
+use Rattle.plan.specs.Plan.{total, short, overdrawn, countsRow, planRow}
+use Rattle.plan.specs.PlanCall.{planVerdict, boardsAndCost, planAnswer}
 use Rattle.plan.specs.Exactly.{Accepts, PlanRight}
 use Rattle.plan.proofs.AcceptsExactly.{accepts-exactly, answer-accepts}
 use Rattle.plan_test.specs.PlanSays.{planTail}
@@ -27,10 +27,10 @@ pub plan-not5 : (job : Job) (l : Listing) (ns : List ℕ) → Not5 (countsRow l 
 unfolding countsRow planRow
 plan-not5 job l ns =
     let short-row = lowest 11 (short l ns) 1 (job .items) in
-    let overdrawn-row = lowest 12 (overdrawn l ns) 1 (drop 1 (l .plates)) in
+    let overdrawn-row = lowest 12 (overdrawn l ns) (l .sizes) (drop (l .sizes) (l .plates)) in
     not5-then (countsRow l ns) (planRow job l ns) (not5-lowest 8 _ _ _ (λ e. omega arith))
     (not5-then (refuseIf (ltb maxPieces (total ns)) 10 0) (short-row then overdrawn-row) (not5-if (ltb maxPieces (total ns)) 10 0 (λ e. omega arith))
-    (not5-then short-row overdrawn-row (not5-lowest 11 (short l ns) 1 (job .items) (λ e. omega arith)) (not5-lowest 12 (overdrawn l ns) 1 (drop 1 (l .plates)) (λ e. omega arith))))
+    (not5-then short-row overdrawn-row (not5-lowest 11 (short l ns) 1 (job .items) (λ e. omega arith)) (not5-lowest 12 (overdrawn l ns) (l .sizes) (drop (l .sizes) (l .plates)) (λ e. omega arith))))
 
 -- the rows before the model: the job, and then the lent buffers
 abbrev rowsBefore : List ℕ → List ℕ → List ℕ → List ℕ → Verdict
@@ -59,7 +59,7 @@ module _ (ws counts plates cuts : List ℕ) where
   -- what the call ensures: its answer, both buffers, and what it accepts
   pub with-exactly :
       (a : Answer) {plates′ cuts′ : List ℕ}
-      → Ended (planVerdict ws counts plates cuts) (boards (listingOf (jobOf ws)) counts ∷ []) ws plates cuts a plates′ cuts′
+      → Ended (planVerdict ws counts plates cuts) (boardsAndCost (jobOf ws) (listingOf (jobOf ws)) counts) ws plates cuts a plates′ cuts′
       → (a ≡ planAnswer ws counts plates cuts)
       × ((plates′ ≡ platesEnd (planVerdict ws counts plates cuts) ws plates)
       × ((cuts′ ≡ cutsEnd (planVerdict ws counts plates cuts) ws cuts)

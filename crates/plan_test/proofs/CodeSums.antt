@@ -45,7 +45,7 @@ cond-le : (t : Bool) (n : ℕ) → cond t n 0 ≤ n
 cond-le true n = omega arith
 cond-le false n = omega arith
 
-countOf-le : (test : Cut → Bool) (cs : List Cut) (ns : List ℕ) (c : ℕ) → length cs ≤ c → countOf test cs ns ≤ total (take c ns)
+pub countOf-le : (test : Cut → Bool) (cs : List Cut) (ns : List ℕ) (c : ℕ) → length cs ≤ c → countOf test cs ns ≤ total (take c ns)
 unfolding countOf total sumOf
 countOf-le test [] ns c h = omega arith
 countOf-le test (d ∷ cs) ns zero h = absurd (omega arith)

@@ -2,6 +2,7 @@
 pub mod CodeSums
 pub mod CodeRow
 pub mod CodePass
+pub mod CodeOpened
 pub mod CodePlan
 pub mod CodeListed
 pub mod CodeCall

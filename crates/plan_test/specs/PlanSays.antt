@@ -1,4 +1,5 @@
--- What the plan test's answer says: the boards that the plan opens, or a refusal's number and place; and the last rows of its verdict.
+-- What the plan test's answer says: the boards that the plan opens and what they cost (request Six), or a refusal's number and place; and the last rows of
+-- its verdict.
 use Prim.Native.Nat.{ℕ}
 use mathlib.Core.List.{List, [], _∷_}
 use Rattle.job.specs.Verdict.{Verdict, _then_}
@@ -10,7 +11,7 @@ use Rattle.plan_test.specs.declared.plan_row.PlanAnswer.{PlanAnswer}
 use Rattle.plan_test.specs.declared.plan_row.PlanAnswer.the-variants.{Accepted, Refused}
 
 abbrev pub saysOf : PlanAnswer → Answer
-saysOf (Accepted boards) = given (boards ∷ [])
+saysOf (Accepted boards cost) = given (boards ∷ cost ∷ [])
 saysOf (Refused number place) = refused number place
 
 -- the rows from the model on

@@ -1,5 +1,5 @@
--- The counts of a plan, added up in words: by item type, by the plate type that a cut is on, by the residual types that it leaves.
-use Prim.Native.Nat.{ℕ, _+_, _≤_, _<_}
+-- The counts of a plan, added up in words: by item type, by the plate type that a cut is on, by the residual types that it leaves; and over the sizes.
+use Prim.Native.Nat.{ℕ, zero, suc, _+_, _≤_, _<_}
 use mathlib.Core.Path.{_≡_}
 use mathlib.Core.Bool.{Bool}
 use mathlib.Core.List.{List}
@@ -32,3 +32,8 @@ pub record SumRoom (items on left : List ℕ) : Type 0 where
   pub for-items : maxTypes < length items
   pub for-plates : maxPlates ≤ length on
   pub for-residuals : maxPlates ≤ length left
+
+-- the values of f at 0 to t - 1, added up
+unfoldable pub sumBelow : (ℕ → ℕ) → ℕ → ℕ
+sumBelow f zero = 0
+sumBelow f (suc t) = sumBelow f t + f t

@@ -1,7 +1,7 @@
 // The plan row: 8 a count past the last cut, 10 the total, 11 an item type short, 12 a residual type overdrawn.
 ghost use mathlib.Core.Path.{_≡_};
 ghost use mathlib.Core.Bool.{not};
-ghost use mathlib.Core.List.{List, [], _∷_};
+ghost use mathlib.Core.List.{List};
 ghost use Prim.Native.Nat.{suc, _≤_};
 ghost use lib.Dec.{ltb, eqb};
 ghost use lib.ListN.{length, getD, take, drop};
@@ -13,9 +13,12 @@ ghost use Rattle.job.specs.Job.{jobOf};
 ghost use Rattle.listing.specs.declared.plate.Plate.{Plate};
 ghost use Rattle.listing.specs.Listing.{Listing};
 ghost use Rattle.listing.specs.CutRead.{cutsRead, Lent};
-ghost use Rattle.plan.specs.Plan.{boards, total, countsRow, balanceRow, planRow};
+ghost use Rattle.plan.specs.Plan.{total, countsRow, balanceRow, planRow};
+ghost use Rattle.plan.specs.PlanCall.{boardsAndCost};
 ghost use Rattle.plan_test.specs.PlanSays.{saysOf};
+use crate::opened::boards_opened;
 use crate::sums::sum_counts;
+use job::counters::BoardSizes;
 use job::counters::CutNumber;
 use job::counters::ItemType;
 use job::counters::PlateTypes;
@@ -28,9 +31,9 @@ use job::sizes::TYPE_SUMS;
 // A word for each plate type, which are numbered from 0.
 const PLATE_SUMS: usize = MAX_PLATES as usize;
 
-// The boards that an accepted plan opens, or a refusal's number and place.
+// The boards that an accepted plan opens and what they cost, or a refusal's number and place.
 pub enum PlanAnswer {
-    Accepted(u16),
+    Accepted(u16, u32),
     Refused(u16, usize),
 }
 
@@ -63,13 +66,13 @@ fn total(counts: &[u16], k: CutNumber) -> u32
     sum
 }
 
-// 12 for the lowest residual type, of m plate types, whose counts on it are more than the counts of cuts that leave it.
-fn types_overdrawn(on: &[u16], left: &[u16], m: PlateTypes) -> Row
+// 12 for the lowest residual type, of the m plate types those past the sizes, whose counts on it are more than the counts of cuts that leave it.
+fn types_overdrawn(on: &[u16], left: &[u16], sizes: BoardSizes, m: PlateTypes) -> Row
     requires { ⌜ (m .0 ≤ length (now on)) × (m .0 ≤ length (now left)) ⌝ }
-    ensures { λ r. ⌜ ((ps : List Plate) → length ps ≡ m .0 → rowVerdict r ≡ lowest 12 (λ j _. ltb (getD (now (left .entry)) j 0) (getD (now (on .entry)) j 0)) 1 (drop 1 ps)) ⌝ }
+    ensures { λ r. ⌜ ((ps : List Plate) → length ps ≡ m .0 → rowVerdict r ≡ lowest 12 (λ j _. ltb (getD (now (left .entry)) j 0) (getD (now (on .entry)) j 0)) (sizes .0) (drop (sizes .0) ps)) ⌝ }
 {
     let end = m.0 as usize;
-    let mut j: usize = 1;
+    let mut j = sizes.0 as usize;
     while j < end {
         if left[j] < on[j] {
             return Row::Refuses(12, j);
@@ -82,15 +85,16 @@ fn types_overdrawn(on: &[u16], left: &[u16], m: PlateTypes) -> Row
 // The plan row from 11 on, of counts that come to at most 4,000.
 fn balance(
     job: &[u16],
+    sizes: BoardSizes,
     n: ItemType,
     cuts: &[u16],
     m: PlateTypes,
     k: CutNumber,
     counts: &[u16],
 ) -> PlanAnswer
-    requires { ⌜ Lent (now job) (now cuts) (n .0) (m .0) (k .0) ⌝ }
+    requires { ⌜ Lent (now job) (now cuts) (sizes .0) (n .0) (m .0) (k .0) ⌝ }
     requires { ⌜ (k .0 ≤ length (now counts)) × (total (take (k .0) (now counts)) ≤ maxPieces) ⌝ }
-    ensures { λ r. ⌜ ((l : Listing) → length (l .plates) ≡ m .0 → l .cuts ≡ cutsRead (k .0) (now (cuts .entry)) → saysOf r ≡ answer (balanceRow (jobOf (now (job .entry))) l (now (counts .entry))) (boards l (now (counts .entry)) ∷ [])) ⌝ }
+    ensures { λ r. ⌜ ((l : Listing) → l .sizes ≡ sizes .0 → length (l .plates) ≡ m .0 → l .cuts ≡ cutsRead (k .0) (now (cuts .entry)) → saysOf r ≡ answer (balanceRow (jobOf (now (job .entry))) l (now (counts .entry))) (boardsAndCost (jobOf (now (job .entry))) l (now (counts .entry)))) ⌝ }
 {
     let mut items = [0u16; TYPE_SUMS];
     let mut on = [0u16; PLATE_SUMS];
@@ -98,25 +102,29 @@ fn balance(
     sum_counts(cuts, counts, k, &mut items, &mut on, &mut left);
     match types_short(job, n, &items) {
         Row::Refuses(number, place) => PlanAnswer::Refused(number, place),
-        Row::Passes => match types_overdrawn(&on, &left, m) {
+        Row::Passes => match types_overdrawn(&on, &left, sizes, m) {
             Row::Refuses(number, place) => PlanAnswer::Refused(number, place),
-            Row::Passes => PlanAnswer::Accepted(on[0]),
+            Row::Passes => {
+                let opening = boards_opened(job, sizes, &on);
+                PlanAnswer::Accepted(opening.boards, opening.cost)
+            }
         },
     }
 }
 
-// The plan row, whole, for a listing of m plate types and k cuts of a job of n item types.
+// The plan row, whole, for a listing of m plate types, the sizes among them, and k cuts of a job of n item types.
 pub fn plan_rows(
     job: &[u16],
+    sizes: BoardSizes,
     n: ItemType,
     cuts: &[u16],
     m: PlateTypes,
     k: CutNumber,
     counts: &[u16],
 ) -> PlanAnswer
-    requires { ⌜ Lent (now job) (now cuts) (n .0) (m .0) (k .0) ⌝ }
+    requires { ⌜ Lent (now job) (now cuts) (sizes .0) (n .0) (m .0) (k .0) ⌝ }
     requires { ⌜ k .0 ≤ length (now counts) ⌝ }
-    ensures { λ r. ⌜ ((l : Listing) → length (l .plates) ≡ m .0 → l .cuts ≡ cutsRead (k .0) (now (cuts .entry)) → saysOf r ≡ answer (countsRow l (now (counts .entry)) then planRow (jobOf (now (job .entry))) l (now (counts .entry))) (boards l (now (counts .entry)) ∷ [])) ⌝ }
+    ensures { λ r. ⌜ ((l : Listing) → l .sizes ≡ sizes .0 → length (l .plates) ≡ m .0 → l .cuts ≡ cutsRead (k .0) (now (cuts .entry)) → saysOf r ≡ answer (countsRow l (now (counts .entry)) then planRow (jobOf (now (job .entry))) l (now (counts .entry))) (boardsAndCost (jobOf (now (job .entry))) l (now (counts .entry)))) ⌝ }
 {
     if let Row::Refuses(number, place) = past_cuts(counts, k) {
         return PlanAnswer::Refused(number, place);
@@ -124,5 +132,5 @@ pub fn plan_rows(
     if (MAX_PIECES as u32) < total(counts, k) {
         return PlanAnswer::Refused(10, 0);
     }
-    balance(job, n, cuts, m, k, counts)
+    balance(job, sizes, n, cuts, m, k, counts)
 }

@@ -19,10 +19,10 @@ use Rattle.plan.specs.PriceCall.{priceVerdict}
 use Rattle.price_test.specs.PriceSays.{priceTail}
 
 -- the prices row does not refuse with 5
-pub prices-not5 : (job : Job) (l : Listing) (ws : List ℕ) (ps : Prices) → Not5 (pricesSized job l ws then pricesRow l ps)
+pub prices-not5 : (job : Job) (l : Listing) (ws : List ℕ) (ps : Prices) → Not5 (pricesSized job l ws then pricesRow job l ps)
 unfolding pricesSized pricesRow
 prices-not5 job l ws ps =
-    not5-then (pricesSized job l ws) (pricesRow l ps)
+    not5-then (pricesSized job l ws) (pricesRow job l ps)
     (not5-if (not (eqb (length ws) (1 + length (job .items) + residualTypes l))) 13 0 (λ e. omega arith))
     (not5-lowest 14 _ 1 (l .cuts) (λ e. omega arith))
 

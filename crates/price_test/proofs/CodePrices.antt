@@ -19,6 +19,7 @@ use Rattle.job.proofs.Tests.{within-high, within-limits, above-limits, at-most-
 use Rattle.job.proofs.Verdicts.{then-first, then-second, refuseIf-pass, lowest-good}
 use Rattle.job.proofs.Admission.{words-right}
 use Rattle.listing.specs.Listing.{Cut}
+use Rattle.plan.proofs.PriceExact.{residual-priced, not-priced}
 use Rattle.plan.specs.Prices.{Prices, pricesAt, priceWords, itemPrice, residualPrice, priceLimit, worth, overLimit, priced}
 
 -- prices by their words
@@ -28,24 +29,23 @@ module _ (n : ℕ) (ws : List ℕ) where
   item-price zero h l = absurd (omega arith)
   item-price (suc i) h l = let e : 1 + i ≡ suc i = omega arith in sym (getD-take n (drop 1 ws) i 0 (omega arith) ∙ getD-drop 1 ws i 0 ∙ rw e)
 
-  -- a residual that is not kept has none
-  pub no-residual : (j : ℕ) → j ≡ 0 → 0 ≡ residualPrice (pricesAt n ws) j
-  unfolding residualPrice
-  no-residual j e = rw e
+  -- of a job of t sizes
+  module _ (job : Job) (t : ℕ) (sizes : length (job .sizes) ≡ t) where
+    -- a residual that is not kept has none, and its number is a size's
+    pub no-residual : (j : ℕ) → j < t → 0 ≡ residualPrice job (pricesAt n ws) j
+    no-residual j h = sym (not-priced job (pricesAt n ws) j (omega arith))
 
-  pub residual-price : (j : ℕ) → (j ≡ 0 → ⊥) → getD ws (n + j) 0 ≡ residualPrice (pricesAt n ws) j
-  unfolding residualPrice
-  residual-price zero h = absurd (h refl)
-  residual-price (suc j) h = let e : 1 + n + j ≡ n + suc j = omega arith in sym (getD-drop (1 + n) ws j 0 ∙ rw e)
+    pub residual-price : (j : ℕ) → t ≤ j → getD ws (1 + n + (j - t)) 0 ≡ residualPrice job (pricesAt n ws) j
+    residual-price j h = sym (residual-priced job (pricesAt n ws) j (omega arith) ∙ getD-drop (1 + n) ws (j - length (job .sizes)) 0 ∙ rw sizes)
 
   -- a cut is over its limit if the limit is below its item's price and those of its residuals
-  pub over-limit : (c : Cut) {item top right limit : ℕ} → item ≡ itemPrice (pricesAt n ws) (typeOf (c .item)) → top ≡ residualPrice (pricesAt n ws) (c .top) → right ≡ residualPrice (pricesAt n ws) (c .right) → limit ≡ priceLimit (pricesAt n ws) (c .plate) → ltb limit (item + top + right) ≡ overLimit (pricesAt n ws) c
+  pub over-limit : (job : Job) (c : Cut) {item top right limit : ℕ} → item ≡ itemPrice (pricesAt n ws) (typeOf (c .item)) → top ≡ residualPrice job (pricesAt n ws) (c .top) → right ≡ residualPrice job (pricesAt n ws) (c .right) → limit ≡ priceLimit job (pricesAt n ws) (c .plate) → ltb limit (item + top + right) ≡ overLimit job (pricesAt n ws) c
   unfolding overLimit worth
-  over-limit c a b d e = rw (a, b, d, e)
+  over-limit job c a b d e = rw (a, b, d, e)
 
 -- what is said of the cut that was read is said of that cut of the list
-pub over-said : (ps : Prices) {b t : Bool} {x y z : Cut} → b ≡ overLimit ps x → x ≡ y → z ≡ y → b ≡ t → overLimit ps z ≡ t
-over-said ps e f g h = cc
+pub over-said : (job : Job) (ps : Prices) {b t : Bool} {x y z : Cut} → b ≡ overLimit job ps x → x ≡ y → z ≡ y → b ≡ t → overLimit job ps z ≡ t
+over-said job ps e f g h = cc
 
 -- no words at all pass
 pub no-words : (ws : List ℕ) → length ws ≡ 0 → pass ≡ priceWords ws
@@ -84,7 +84,7 @@ prices-small (d ∷ ws) e (suc i) = go (ltb i (length ws)) refl
     go false h = rw (List·getD-eq-default ws 0 {n = i} (ltb-false _ _ h)) (omega arith)
 
 -- demands of words that passed are at most 4,000
-pub demands-small : (ws : List ℕ) (n : ℕ) → jobWords ws ≡ pass → length ws ≡ jobSize n → (i : ℕ) → 1 ≤ i → i ≤ n → itemAt (jobOf ws) i .demand ≤ maxPieces
+pub demands-small : (ws : List ℕ) (n : ℕ) → jobWords ws ≡ pass → length ws ≡ jobSize (getD ws 2 0) n → (i : ℕ) → 1 ≤ i → i ≤ n → itemAt (jobOf ws) i .demand ≤ maxPieces
 demands-small ws n e l i h g = let r = words-right ws e in r .each-item i h (omega (arith, r .whole)) .demand-limits .1
 
 -- a price times a demand

@@ -1,2 +1,3 @@
--- The definitions of this crate: what the answer of the price test says.
+-- The definitions of this crate: what the answer of the price test says, and what the code knows when it prices a cut.
+pub mod PriceRoom
 pub mod PriceSays

@@ -20,7 +20,7 @@ OnAccepted (Refused number place) promise = Unit {0}
 
 -- the rows from the model on
 abbrev pub priceTail : Job → List ℕ → Verdict
-priceTail job ws = modelRow job then pricesSized job (listingOf job) ws then pricesRow (listingOf job) (pricesOf job ws)
+priceTail job ws = modelRow job then pricesSized job (listingOf job) ws then pricesRow job (listingOf job) (pricesOf job ws)
 
 -- the results of price words that are accepted, "sum and D"
 abbrev pub sumAndD : Job → List ℕ → List ℕ

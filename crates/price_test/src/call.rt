@@ -65,7 +65,7 @@ fn price_into(job: &[u16], prices: &[u16], plates: &mut [u16], cuts: &mut [u16])
         Listed::Refused(number, place) => PriceAnswer::Refused(number, place),
         Listed::Done(m, k) => {
             let head = head_of(job);
-            match price_rows(job, head.types, cuts, m, k, prices) {
+            match price_rows(job, head.sizes, head.types, cuts, m, k, prices) {
                 PriceAnswer::Accepted(sum, d) => PriceAnswer::Accepted(sum, d),
                 PriceAnswer::Refused(number, place) => {
                     clear(plates);
@@ -81,7 +81,7 @@ fn price_into(job: &[u16], prices: &[u16], plates: &mut [u16], cuts: &mut [u16])
 // Refused are 1 and 2 of the job's words; 2 a price word outside its limits, naming it from 1; 3 and 4 of the job; 5 a buffer shorter than its full
 // size, plates 1, cuts 2; 6 and 7 of the model, naming 0; 13 another number of words than the model's, naming 0; 14 a cut over its limit. Plates and
 // cuts end as the listing; after 5 they are unchanged, after another refusal every word of them is 0. Prices are accepted
-// exactly when all that `PricesRight` names is right; their sum and D bound every set of layouts, by demand 3.
+// exactly when all that `PricesRight` names is right; their sum and D bound the cost of every set of layouts, by demand 3.
 pub fn test_prices(job: &[u16], prices: &[u16], plates: &mut [u16], cuts: &mut [u16]) -> PriceAnswer
     ensures { λ r. ⌜ saysOf r ≡ priceAnswer (now (job .entry)) (now (prices .entry)) (now (plates .entry)) (now (cuts .entry)) ⌝ }
     ensures { λ _. ⌜ now (plates .exit) ≡ platesEnd (priceVerdict (now (job .entry)) (now (prices .entry)) (now (plates .entry)) (now (cuts .entry))) (now (job .entry)) (now (plates .entry)) ⌝ }

@@ -1,5 +1,5 @@
 -- Document 01, "Texts": what a program does that reads a text "from standard input and writes" its answer, by the definition of the answer.
--- Which bytes standard input gave, and that bytes reach standard output, no contract can say: these say "some text", and what is handed to the write.
+-- Which bytes standard input gave, and that bytes reach standard output, no contract can say: these speak of some text, and of what is handed to the write.
 use Prim.Native.Nat.{ℕ, _+_, _*_, _/_, _≤_, _<_}
 use mathlib.Core.Path.{_≡_}
 use mathlib.Core.List.{List, _++_}

@@ -9,9 +9,9 @@ use lib.ListN.{length, getD, drop}
 use borrow.Author.Tests.{eq-eqb, ne-eqb}
 use Rattle.job.specs.Verdict.{Verdict, refuse, _then_, refuseIf}
 use Rattle.job.specs.Sizes.{maxTypes, maxResiduals, maxPrice}
-use Rattle.texts.specs.Shape.{Shape, jobLine, itemLine, planLine, pricesLine, itemPriceLine, platePriceLine, begins, formed, eachWithin, values, numbersRow}
+use Rattle.texts.specs.Shape.{Shape, jobLine, sizeLine, itemLine, planLine, pricesLine, itemPriceLine, platePriceLine, begins, formed, eachWithin, values, numbersRow}
 use Rattle.texts.specs.Admitted.{InLimits, OfShape}
-use Rattle.texts.specs.JobLines.{Place, first, types, body, itemPrices, platePrices, done, typesOf, afterType}
+use Rattle.texts.specs.JobLines.{Place, first, sizes, types, body, itemPrices, platePrices, done, boardSizes, typesOf, afterSize, afterType}
 use Rattle.texts.specs.SawText.{PriceLines, Saw, countedIn, sawAdmits, sawAfter, bodyRead, priceRead, withPrice, afterItemPrice, afterPlatePrice}
 use Rattle.texts_reading.specs.Judged.{lineVerdict}
 use Rattle.texts_reading.proofs.CodeJobLines.{passed, of-shape}
@@ -23,6 +23,10 @@ module _ (s : Saw) where
   pub admits-first : s .place ≡ first → sawAdmits s ≡ jobLine ∷ []
   unfolding sawAdmits
   admits-first e = rw (e, sawAdmits)
+
+  pub admits-size : (j : ℕ) → s .place ≡ sizes j → sawAdmits s ≡ sizeLine j ∷ []
+  unfolding sawAdmits
+  admits-size j e = rw (e, sawAdmits)
 
   pub admits-item : (i : ℕ) → s .place ≡ types i → sawAdmits s ≡ itemLine i ∷ []
   unfolding sawAdmits
@@ -84,9 +88,21 @@ row-prices s line ns e h =
 -- ---- what an admitted line makes of the text
 
 module _ (s : Saw) (ns : List ℕ) where
-  pub after-first : s .place ≡ first → sawAfter s ns ≡ record { place = types 1; job = drop 1 ns; plan = []; prices = none }
+  pub after-first : s .place ≡ first → sawAfter s ns ≡ record { place = sizes 0; job = drop 1 ns; plan = []; prices = none }
   unfolding sawAfter
   after-first e = rw (e, sawAfter)
+
+  after-size : (j : ℕ) → s .place ≡ sizes j → sawAfter s ns ≡ record { place = afterSize (boardSizes (s .job)) j; job = s .job ++ drop 2 ns; plan = []; prices = none }
+  unfolding sawAfter
+  after-size j e = rw (e, sawAfter)
+
+  pub after-some-sizes : (j : ℕ) → s .place ≡ sizes j → (suc j ≡ boardSizes (s .job) → ⊥) → sawAfter s ns ≡ record { place = sizes (suc j); job = s .job ++ drop 2 ns; plan = []; prices = none }
+  unfolding afterSize
+  after-some-sizes j e h = after-size j e ∙ rw (ne-eqb (suc j) (boardSizes (s .job)) h)
+
+  pub after-all-sizes : (j : ℕ) → s .place ≡ sizes j → suc j ≡ boardSizes (s .job) → sawAfter s ns ≡ record { place = types 1; job = s .job ++ drop 2 ns; plan = []; prices = none }
+  unfolding afterSize
+  after-all-sizes j e h = after-size j e ∙ rw (eq-eqb (suc j) (boardSizes (s .job)) h)
 
   after-item : (i : ℕ) → s .place ≡ types i → sawAfter s ns ≡ record { place = afterType (typesOf (s .job)) i; job = s .job ++ drop 2 ns; plan = []; prices = none }
   unfolding sawAfter
@@ -123,17 +139,17 @@ module _ (s : Saw) (ns : List ℕ) where
       → s .place ≡ itemPrices i
       → s .prices ≡ some ps
       → sawAfter s ns
-      ≡ record { place = afterItemPrice (ps .types) (ps .residuals) i; job = s .job; plan = s .plan; prices = some (withPrice ps (getD ns 2 0)) }
+      ≡ record { place = afterItemPrice (boardSizes (s .job)) (ps .types) (ps .residuals) i; job = s .job; plan = s .plan; prices = some (withPrice ps (getD ns 2 0)) }
   unfolding sawAfter
-  after-item-price i ps e p = rw (e, sawAfter) (price-read (λ n m. afterItemPrice n m i) (getD ns 2 0) ps p)
+  after-item-price i ps e p = rw (e, sawAfter) (price-read (λ n m. afterItemPrice (boardSizes (s .job)) n m i) (getD ns 2 0) ps p)
 
   pub after-plate-price :
       (j : ℕ) (ps : PriceLines)
       → s .place ≡ platePrices j
       → s .prices ≡ some ps
-      → sawAfter s ns ≡ record { place = afterPlatePrice (ps .residuals) j; job = s .job; plan = s .plan; prices = some (withPrice ps (getD ns 2 0)) }
+      → sawAfter s ns ≡ record { place = afterPlatePrice (boardSizes (s .job)) (ps .residuals) j; job = s .job; plan = s .plan; prices = some (withPrice ps (getD ns 2 0)) }
   unfolding sawAfter
-  after-plate-price j ps e p = rw (e, sawAfter) (price-read (λ n m. afterPlatePrice m j) (getD ns 2 0) ps p)
+  after-plate-price j ps e p = rw (e, sawAfter) (price-read (λ n m. afterPlatePrice (boardSizes (s .job)) m j) (getD ns 2 0) ps p)
 
 -- ---- the numbers of a line that passes
 

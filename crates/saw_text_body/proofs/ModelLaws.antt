@@ -8,8 +8,9 @@ use lib.ListN.{length, replicate}
 use Rattle.job.specs.Verdict.{Verdict, pass, refuse}
 use Rattle.job.specs.Buffers.{given, ends, sized, platesSize, cutsSize}
 use Rattle.job.specs.Job.{jobOf, jobWords, admission}
+use Rattle.job.specs.Admitted.{Admitted}
 use Rattle.job.proofs.Verdicts.{then-first, then-second, then-both}
-use Rattle.job.proofs.Admission.{admitted-words, admitted-job, admitted-sided}
+use Rattle.job.proofs.Admission.{admitted-words, admitted-job, admitted-sided, admitted-stocked}
 use Rattle.listing.specs.Listing.{modelRow, listingOf}
 use Rattle.listing.specs.Model.{Model}
 use Rattle.listing.specs.Records.{plateWords}
@@ -21,10 +22,10 @@ use Rattle.job.specs.declared.counters.CutNumber.{CutNumber}
 use Rattle.job.proofs.CodeEnds.{given-pass}
 use Rattle.listing_call.specs.declared.call.Listed.{Listed}
 use Rattle.listing_call.specs.declared.call.Listed.the-variants.{Done}
-use Rattle.listing_call.specs.ListSays.{saysOf, SomePlate}
-use Rattle.listing_call.proofs.CodeEnding.{some-types}
+use Rattle.listing_call.specs.ListSays.{saysOf, SizesListed}
+use Rattle.listing_call.proofs.CodeEnding.{sizes-listed}
 use Rattle.plan_test.proofs.CodeListed.{Ready, ready}
-use Rattle.texts.specs.JobLines.{typesOf}
+use Rattle.texts.specs.JobLines.{boardSizes, typesOf}
 use Rattle.listing_find.specs.Rising.{Rising}
 use Rattle.listing_find.proofs.Narrowing.{model-rising}
 use Rattle.saw_text_body.specs.ModelRead.{ModelKept}
@@ -47,8 +48,8 @@ pub model-kept :
     (ws : List ℕ) (a : Listed) (plates cuts plates′ cuts′ : List ℕ)
     → length plates′ ≡ length plates
     → length cuts′ ≡ length cuts
-    → SomePlate a
-    → saysOf a ≡ listAnswer ws plates cuts
+    → SizesListed (jobOf ws) a
+    → saysOf (jobOf ws) a ≡ listAnswer ws plates cuts
     → plates′ ≡ platesEnd (listVerdict ws plates cuts) ws plates
     → cuts′ ≡ cutsEnd (listVerdict ws plates cuts) ws cuts
     → ModelKept ws a plates′ cuts′
@@ -56,7 +57,7 @@ unfolding listAnswer platesEnd cutsEnd
 model-kept ws a plates cuts plates′ cuts′ p c o s e f =
     let v = verdict-again ws plates cuts plates′ cuts′ p c in
     record {
-      some-plate = o;
+      sizes-listed = o;
       says = rw v s;
       plates-are = rw v (ends-again (listVerdict ws plates cuts) plates plates′ _ p e);
       cuts-are = rw v (ends-again (listVerdict ws plates cuts) cuts cuts′ _ c f);
@@ -67,10 +68,10 @@ pub record Modelled (ws cuts : List ℕ) (m k : ℕ) : Type 0 where
   pub words : jobWords ws ≡ pass
   pub admitted : admission (jobOf ws) ≡ pass
   pub listed : modelRow (jobOf ws) ≡ pass
-  pub is-ready : Ready ws cuts (typesOf ws) m k
+  pub is-ready : Ready ws cuts (boardSizes ws) (typesOf ws) m k
   pub rising : Rising (listingOf (jobOf ws) .cuts)
 
-pub modelled : (ws plates cuts : List ℕ) (m k : ℕ) → cutsSize ≤ length cuts → 1 ≤ m → given ((m - 1) ∷ k ∷ []) ≡ listAnswer ws plates cuts → cuts ≡ cutsEnd (listVerdict ws plates cuts) ws cuts → Modelled ws cuts m k
+pub modelled : (ws plates cuts : List ℕ) (m k : ℕ) → cutsSize ≤ length cuts → length (jobOf ws .sizes) ≤ m → given ((m - length (jobOf ws .sizes)) ∷ k ∷ []) ≡ listAnswer ws plates cuts → cuts ≡ cutsEnd (listVerdict ws plates cuts) ws cuts → Modelled ws cuts m k
 unfolding listAnswer listVerdict
 modelled ws plates cuts m k room some says e =
     let job = jobOf ws in
@@ -81,22 +82,23 @@ modelled ws plates cuts m k room some says e =
     let p : modelRow job ≡ pass = then-second (sized 2 cutsSize cuts) _ v3 in
     let w : jobWords ws ≡ pass = then-first (jobWords ws) _ v in
     let a : admission job ≡ pass = then-first (admission job) _ v1 in
-    let model : Model job (listingOf job) = row-model job (admitted-sided job (admitted-job ws (admitted-words ws .0 (then-both (jobWords ws) (admission job) w a)))) p in
+    let all : Admitted job = admitted-job ws (admitted-words ws .0 (then-both (jobWords ws) (admission job) w a)) in
+    let model : Model job (listingOf job) = row-model job (admitted-sided job all) (admitted-stocked job all) p in
     record {
       words = w;
       admitted = a;
       listed = p;
-      is-ready = ready ws cuts cuts (typesOf ws) m k w a refl (rw p (rw v at says)) some (rw p (rw v at e)) refl room;
+      is-ready = ready ws cuts cuts (boardSizes ws) (typesOf ws) m k w a refl refl (rw p (rw v at says)) some (rw p (rw v at e)) refl room;
       rising = model-rising job (listingOf job) model;
     }
 
 -- the same of a kept model that is not refused
 pub kept-modelled : (ws plates cuts : List ℕ) (a : Listed) (m : PlateTypes) (k : CutNumber) → a ≡ Done m k → cutsSize ≤ length cuts → ModelKept ws a plates cuts → Modelled ws cuts (m .0) (k .0)
-kept-modelled ws plates cuts a m k e room kept = modelled ws plates cuts (m .0) (k .0) room (some-types e (kept .some-plate)) (sym (ap saysOf e) ∙ kept .says) (kept .cuts-are)
+kept-modelled ws plates cuts a m k e room kept = modelled ws plates cuts (m .0) (k .0) room (sizes-listed (jobOf ws) e (kept .sizes-listed)) (sym (ap (saysOf (jobOf ws)) e) ∙ kept .says) (kept .cuts-are)
 
 -- and the plates that it leaves
-pub kept-plates : (ws plates cuts : List ℕ) (a : Listed) (m : PlateTypes) (k : CutNumber) → a ≡ Done m k → ModelKept ws a plates cuts → Holds plates (plateWords (listingOf (jobOf ws) .plates))
+pub kept-plates : (ws plates cuts : List ℕ) (a : Listed) (m : PlateTypes) (k : CutNumber) → a ≡ Done m k → ModelKept ws a plates cuts → Holds plates (plateWords (jobOf ws) (listingOf (jobOf ws) .plates))
 unfolding listAnswer platesEnd
 kept-plates ws plates cuts a m k e kept =
-    let v : listVerdict ws plates cuts ≡ pass = given-pass (listVerdict ws plates cuts) _ (sym (ap saysOf e) ∙ kept .says) in
+    let v : listVerdict ws plates cuts ≡ pass = given-pass (listVerdict ws plates cuts) _ (sym (ap (saysOf (jobOf ws)) e) ∙ kept .says) in
     record { words = rw v at (kept .plates-are) }

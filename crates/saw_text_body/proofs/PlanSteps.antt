@@ -11,6 +11,7 @@ use Rattle.job.specs.Verdict.{pass, refuse, refuseIf, lowest}
 use Rattle.listing.specs.declared.plate.Plate.{Plate}
 use Rattle.listing.specs.Plate.{same}
 use Rattle.listing.specs.Listing.{Listing, plateAt}
+use Rattle.job.specs.Job.{Job}
 use Rattle.listing.specs.Records.{plateWords}
 use Rattle.listing.specs.Holds.{Holds, plateRead}
 use Rattle.listing.proofs.CodeHolds.{held-plate}
@@ -63,13 +64,13 @@ module _ (s p q : Plate) (read : p ≡ q) where
 
 -- the plate that a line shows is another than the model's, by the words of the plate
 pub shown-other :
-    (l : Listing) {plates : List ℕ} (here : PlanLine) (r : Counted) {o : Bool}
-    → Holds plates (plateWords (l .plates))
+    (job : Job) (l : Listing) {plates : List ℕ} (here : PlanLine) (r : Counted) {o : Bool}
+    → Holds plates (plateWords job (l .plates))
     → LineOf here r
     → o ≡ not (same (plateShown (here .shown)) (plateRead plates (here .plate .0)))
     → o ≡ misshown l r
 unfolding misshown plateAt
-shown-other l here r h line e = e ∙ rw (line .shown-is, line .plate-is, held-plate (l .plates) h (here .plate .0))
+shown-other job l here r h line e = e ∙ rw (line .shown-is, line .plate-is, held-plate job (l .plates) h (here .plate .0))
 
 -- `c` is the cut that line r names, `o` whether it shows another plate, `p′` what is kept after it
 module _ (l : Listing) (first line c : ℕ) (o : Bool) (rs : List Counted) (r : Counted) (p p′ : PlanLines) (counts : List ℕ) (here : first + length rs ≡ line) (from : 0 < line) (cut : c ≡ namedCut l r) (other : o ≡ misshown l r) (unnamed : p′ .unnamed ≡ firstLine (p .unnamed) (eqb c 0) line) (shows : p′ .misshown ≡ firstLine (p .misshown) o line) (kept : PlanKept l first rs p counts) where

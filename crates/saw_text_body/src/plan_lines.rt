@@ -5,6 +5,7 @@ ghost use mathlib.Core.List.{List, [], _∷_, _++_};
 ghost use Prim.Native.Nat.{ℕ, _+_, _*_, _≤_, _<_};
 ghost use lib.ListN.{length};
 ghost use Rattle.job.specs.Sizes.{wordsOfPlate, wordsOfCut, RecordIn};
+ghost use Rattle.job.specs.Job.{Job};
 ghost use Rattle.listing.specs.Plate.{same};
 ghost use Rattle.listing.specs.Listing.{Listing};
 ghost use Rattle.layouts.specs.Fold.{cutOf};
@@ -158,7 +159,7 @@ impl PlanLines {
     ) -> PlanLines
         requires { ⌜ (0 < line) × ((wordsOfCut * k .0 ≤ length (now cuts)) × (k .0 ≤ length (now counts))) ⌝ }
         requires { ⌜ RecordIn wordsOfPlate (here .plate .0) (now plates) ⌝ }
-        ensures { λ p. ⌜ ((l : Listing) (first : ℕ) (rs : List Counted) (r : Counted) → Holds (now (plates .entry)) (plateWords (l .plates)) → l .cuts ≡ cutsRead (k .0) (now (cuts .entry)) → Rising (l .cuts) → first + length rs ≡ line → LineOf here r → PlanKept l first rs self (now (counts .entry)) → PlanKept l first (rs ++ r ∷ []) p (now (counts .exit))) ⌝ }
+        ensures { λ p. ⌜ ((job : Job) (l : Listing) (first : ℕ) (rs : List Counted) (r : Counted) → Holds (now (plates .entry)) (plateWords job (l .plates)) → l .cuts ≡ cutsRead (k .0) (now (cuts .entry)) → Rising (l .cuts) → first + length rs ≡ line → LineOf here r → PlanKept l first rs self (now (counts .entry)) → PlanKept l first (rs ++ r ∷ []) p (now (counts .exit))) ⌝ }
     {
         let last = self.last;
         let j = here.plate;

@@ -6,6 +6,7 @@ use mathlib.Core.Option.{Option}
 use lib.ListN.{length, replicate}
 use Rattle.job.specs.Verdict.{Verdict, pass, refuse}
 use Rattle.job.specs.Buffers.{filled, ends}
+use Rattle.job.specs.Job.{jobOf}
 use Rattle.job.proofs.Buffers.{filled-none}
 use Rattle.job.proofs.CodeEnds.{Not5, ends-zeros, given-pass, refused-refuse}
 use Rattle.listing.specs.Holds.{Holds}
@@ -13,7 +14,7 @@ use Rattle.listing.specs.ListCall.{listVerdict, listAnswer, platesEnd, cutsEnd}
 use Rattle.listing_call.specs.declared.call.Listed.{Listed}
 use Rattle.listing_call.specs.declared.call.Listed.the-variants.{Done, Refused}
 use Rattle.listing_call.specs.ListSays.{saysOf}
-use Rattle.texts.specs.JobLines.{Place, first, types, body, itemPrices, platePrices, done}
+use Rattle.texts.specs.JobLines.{Place, first, sizes, types, body, itemPrices, platePrices, done, boardSizes}
 use Rattle.texts.specs.SawText.{PriceLines, Saw}
 use Rattle.saw_text_body.specs.declared.price_lines.PriceLines.{PriceLines as CodePrices}
 use Rattle.saw_text_lines.specs.declared.held.SawHeld.{SawHeld}
@@ -58,7 +59,7 @@ module _ (s : Saw) (h : SawHeld) (b b′ : Lent) (long : AsLong b′ b) (room : 
 
   counts-left :
       (a : Listed) (v : Verdict) (p : PlanLines)
-      → saysOf a ≡ listAnswer (s .job) (b′ .plates) (b′ .cuts)
+      → saysOf (jobOf (s .job)) a ≡ listAnswer (s .job) (b′ .plates) (b′ .cuts)
       → listVerdict (s .job) (b′ .plates) (b′ .cuts) ≡ v
       → PlanHeld (s .job) a (s .plan) p (b′ .counts)
       → b′ .counts ≡ filled (length (b .counts)) (countsBy v s)
@@ -84,6 +85,7 @@ module _ (s : Saw) (h : SawHeld) (b b′ : Lent) (long : AsLong b′ b) (room : 
 
   modelled : (p : Place) → JobHeld p h (s .job) (s .plan) b′ → ModelLeft (listedBy p (s .job) b) s b b′
   modelled first k = unlisted (k .1)
+  modelled (sizes j) k = unlisted (k .1)
   modelled (types i) k = unlisted (k .1)
   modelled body k = listed k
   modelled (itemPrices i) k = listed k
@@ -98,13 +100,14 @@ module _ (o : Option PriceLines) (p : CodePrices) (b : List ℕ) (n : ℕ) (long
   some-prices : {m : ℕ} → PricesTo m o p b → b ≡ filled n (pricesBy o)
   some-prices h = rw (h .some-is) (held-as n long (h .words))
 
-  prices-left : (q : Place) → PricesHeld q o p b → b ≡ filled n (pricesBy o)
-  prices-left first h = no-prices h
-  prices-left (types i) h = no-prices h
-  prices-left body h = no-prices h
-  prices-left (itemPrices i) h = some-prices (h .1 .1)
-  prices-left (platePrices j) h = some-prices (h .1 .1)
-  prices-left done h = some-prices h
+  prices-left : (t : ℕ) (q : Place) → PricesHeld t q o p b → b ≡ filled n (pricesBy o)
+  prices-left t first h = no-prices h
+  prices-left t (sizes j) h = no-prices h
+  prices-left t (types i) h = no-prices h
+  prices-left t body h = no-prices h
+  prices-left t (itemPrices i) h = some-prices (h .1 .1)
+  prices-left t (platePrices j) h = some-prices (h .1 .1)
+  prices-left t done h = some-prices h
 
 -- all that is held
 pub held-after : (s : Saw) (lines : ℕ) (h : SawHeld) (b b′ : Lent) → AsLong b′ b → Room b′ → HeldAs s lines h b′ → LentAfter s b b′
@@ -115,5 +118,5 @@ held-after s lines h b b′ long room k =
       plates = m .plates;
       cuts = m .cuts;
       counts = m .counts;
-      prices = prices-left (s .prices) (h .prices) (b′ .prices) (length (b .prices)) (long .prices) (s .place) (k .of-prices);
+      prices = prices-left (s .prices) (h .prices) (b′ .prices) (length (b .prices)) (long .prices) (boardSizes (s .job)) (s .place) (k .of-prices);
     }

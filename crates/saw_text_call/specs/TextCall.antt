@@ -10,7 +10,7 @@ use Rattle.job.specs.Job.{jobOf}
 use Rattle.listing.specs.Listing.{listingOf}
 use Rattle.listing.specs.ListCall.{listVerdict, platesEnd, cutsEnd}
 use Rattle.columns.specs.Group.{put}
-use Rattle.texts.specs.JobLines.{Place, first, types, body, itemPrices, platePrices, done}
+use Rattle.texts.specs.JobLines.{Place, first, sizes, types, body, itemPrices, platePrices, done}
 use Rattle.texts.specs.SawText.{PriceLines, Saw, planCounts, sawText}
 use Rattle.texts.specs.Printed.{sawHolds}
 use Rattle.texts.specs.Refused.{verdictOnSaw}
@@ -21,6 +21,7 @@ use Rattle.saw_text_ending.specs.SawEnd.{placedEnd, RoomToEnd}
 -- what the reader has listed: nothing before the job's lines are complete, which is as if refused; from then on what the listing call says of the job's words
 abbrev pub listedBy : Place → List ℕ → Lent → Verdict
 listedBy first ws b = refuse 1 0
+listedBy (sizes j) ws b = refuse 1 0
 listedBy (types i) ws b = refuse 1 0
 listedBy body ws b = listVerdict ws (b .plates) (b .cuts)
 listedBy (itemPrices i) ws b = listVerdict ws (b .plates) (b .cuts)

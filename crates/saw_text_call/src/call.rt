@@ -27,8 +27,8 @@ fn read_whole(
 
 // The saw text of some bytes: the answer is written at the start of the output, lines 7 and line 8, or one line 9 alone, and its number of bytes is
 // handed back; the bytes behind it stay. The job's words, plates, cuts, counts, prices and placements end as the words of the text and then zeros.
-// Where a lent buffer is shorter than its full size, 166 words of the job, 6,144 of plates, 32,768 of cuts, 8,192 counts, 2,088 prices, 32,000 words of
-// placements, or the output than 328,046 bytes, nothing is written, no lent word changes, and 0 is handed back.
+// Where a lent buffer is shorter than its full size, 183 words of the job, 8,192 of plates, 32,768 of cuts, 8,192 counts, 2,088 prices, 36,000 words of
+// placements, or the output than 364,046 bytes, nothing is written, no lent word changes, and 0 is handed back.
 pub fn saw_text(
     text: &[u8],
     out: &mut [u8],

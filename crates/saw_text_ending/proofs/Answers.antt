@@ -12,21 +12,22 @@ use Rattle.job.proofs.Verdicts.{then-assoc, then-both, then-passed, then-refuse
 use Rattle.job.proofs.CodeEnds.{given-pass, refused-refuse}
 use Rattle.listing.specs.Listing.{listingOf}
 use Rattle.listing.specs.Holds.{Holds}
-use Rattle.plan.specs.Plan.{boards, planRow}
+use Rattle.plan.specs.Plan.{planCost, planRow}
+use Rattle.plan.specs.PlanCall.{boardsAndCost}
 use Rattle.layouts.specs.Placement.{placementWords}
 use Rattle.layouts.specs.Unfold.{unfolded}
 use Rattle.layouts.specs.UnfoldCall.{unfoldingOf}
 use Rattle.columns.specs.Line.{lineOf}
 use Rattle.texts.specs.JobLines.{Place, bodyLine}
 use Rattle.texts.specs.SawText.{Counted, PriceLines, Saw, sawOf, cutsNamed, platesShown, cutsRising, planCounts, priceLinesRow, placementLine, sawLines}
-use Rattle.texts.specs.Printed.{sawRun}
+use Rattle.texts.specs.Printed.{sawRun, sawCost}
 use Rattle.texts.proofs.CallRows.{counts-length}
 use Rattle.texts_writing.specs.Wrote.{Wrote, summaryLine, sumGiven, denominatorGiven}
 use Rattle.texts_writing.proofs.WroteLaws.{written-passed, written-refused}
 use Rattle.texts_writing.proofs.SawOutput.{saw-output}
 use Rattle.saw_text_rows.specs.Tail.{linesRow, listedRows}
 use Rattle.saw_text_ending.specs.SawEnd.{placedEnd, Answered}
-use Rattle.saw_text_rows.proofs.Filled.{placements-filled, board-filled}
+use Rattle.saw_text_rows.proofs.Filled.{placements-filled, cost-filled}
 use Rattle.saw_text_rows.proofs.PricePart.{results}
 
 -- refused: line 9, and the cleared placements as they are
@@ -101,7 +102,7 @@ module _ (place : Place) (ws : List ℕ) (rs : List Counted) (o : Option PriceLi
   price-rows = priceLinesRow (jobOf ws) (listingOf (jobOf ws)) o
 
   abbrev opened : List ℕ
-  opened = boards (listingOf (jobOf ws)) (planCounts (listingOf (jobOf ws)) rs) ∷ []
+  opened = boardsAndCost (jobOf ws) (listingOf (jobOf ws)) (planCounts (listingOf (jobOf ws)) rs)
 
   -- the plan row refuses
   pub plan-refused : {number place : ℕ} → refused number place ≡ answer plan-rows opened → listedRows s ≡ refuse number place
@@ -132,16 +133,19 @@ module _ (place : Place) (ws : List ℕ) (rs : List Counted) (o : Option PriceLi
             ap (λ (ns : List ℕ). unfolded (jobOf ws) l ns .placements) kept
             ∙ placements-filled (length counts) (jobOf ws) l (planCounts l rs) (counts-length l rs)
 
-        board-is : unfoldingOf ws counts .last .turn .board ≡ sawRun s .last .turn .board
-        unfolding unfoldingOf
-        board-is =
+        -- and what its boards cost
+        cost-is : {cost : ℕ} → cost ≡ planCost (jobOf ws) (listingOf (jobOf ws)) counts → cost ≡ sawCost s
+        cost-is e =
             let l = listingOf (jobOf ws) in
-            ap (λ (ns : List ℕ). unfolded (jobOf ws) l ns .last .turn .board) kept
-            ∙ board-filled (length counts) (jobOf ws) l (planCounts l rs) (counts-length l rs)
+            e
+            ∙ ap (planCost (jobOf ws) l) kept
+            ∙ cost-filled (length counts) (jobOf ws) l (planCounts l rs) (counts-length l rs)
 
         pub bytes-are :
-            flatMap placementLine (unfoldingOf ws counts .placements) ++ summaryLine (unfoldingOf ws counts .last .turn .board) sum d ≡ sawLines s
-        bytes-are =
-            saw-output s (unfoldingOf ws counts .placements) (unfoldingOf ws counts .last .turn .board) sum d placements-are board-is
-            (let g = prices-given in let e : sum ≡ sumGiven (jobOf ws) o = cc in e)
-            (let g = prices-given in let e : d ≡ denominatorGiven (jobOf ws) o = cc in e)
+            {cost : ℕ}
+            → cost ≡ planCost (jobOf ws) (listingOf (jobOf ws)) counts
+            → flatMap placementLine (unfoldingOf ws counts .placements) ++ summaryLine cost sum d ≡ sawLines s
+        bytes-are {cost} e =
+            saw-output s (unfoldingOf ws counts .placements) cost sum d placements-are (cost-is e)
+            (let g = prices-given in let q : sum ≡ sumGiven (jobOf ws) o = cc in q)
+            (let g = prices-given in let q : d ≡ denominatorGiven (jobOf ws) o = cc in q)

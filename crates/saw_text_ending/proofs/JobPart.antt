@@ -4,7 +4,7 @@ use mathlib.Core.Path.{_≡_, refl, sym, ap, _∙_, subst}
 use mathlib.Core.List.{List}
 use mathlib.Core.Option.{Option}
 use lib.ListN.{length, take}
-use Rattle.job.specs.Sizes.{maxTypes, jobSize, platesSize, cutsSize}
+use Rattle.job.specs.Sizes.{maxSizes, maxTypes, jobSize, platesSize, cutsSize}
 use Rattle.job.specs.Verdict.{pass, refuse, _then_}
 use Rattle.job.specs.Job.{jobOf, jobWords, admission}
 use Rattle.job.specs.declared.counters.PlateTypes.{PlateTypes}
@@ -16,14 +16,13 @@ use Rattle.listing.specs.ListCall.{listVerdict, listAnswer, platesEnd, cutsEnd}
 use Rattle.listing_call.specs.declared.call.Listed.{Listed}
 use Rattle.listing_call.specs.declared.call.Listed.the-variants.{Done, Refused}
 use Rattle.listing_call.specs.ListSays.{saysOf}
-use Rattle.listing_call.proofs.CodeEnding.{some-types}
 use Rattle.unfold_call.proofs.CodeAccepted.{listed-lent}
 use Rattle.texts.specs.Widths.{placeLimit}
-use Rattle.texts.specs.JobLines.{Place, typesOf, bodyLine}
+use Rattle.texts.specs.JobLines.{Place, boardSizes, typesOf, bodyLine}
 use Rattle.texts.specs.SawText.{Counted, PriceLines, Saw, sawOf, sawRows}
 use Rattle.texts.proofs.Places.{near-place, near-job}
 use Rattle.texts_reading.specs.TextEnd.{jobModelRow}
-use Rattle.texts_reading.proofs.JobKept.{few-kept, words-kept, list-refused}
+use Rattle.texts_reading.proofs.JobKept.{few-sizes-kept, few-kept, words-kept, list-refused}
 use Rattle.saw_text_lines.specs.declared.held.SawHeld.{SawHeld}
 use Rattle.saw_text_body.specs.PlanRead.{PlanKept}
 use Rattle.saw_text_body.specs.ModelRead.{ModelKept}
@@ -44,17 +43,17 @@ module _ (ws plates cuts : List ℕ) (ps : platesSize ≤ length plates) (cs : c
     pub listed-so : ListedLent ws plates cuts (m .0) (k .0)
     unfolding listAnswer platesEnd cutsEnd
     listed-so =
-        let s = sym (ap saysOf e) ∙ kept .says in
+        let s = sym (ap (saysOf (jobOf ws)) e) ∙ kept .says in
         let v : listVerdict ws plates cuts ≡ pass = given-pass (listVerdict ws plates cuts) _ s in
         let row : modelRow (jobOf ws) ≡ pass = known .listed in
         record {
           words = known .words;
           lent = known .is-ready .lent;
-          some-plate = some-types e (kept .some-plate);
+          sizes = known .is-ready .sizes;
           types = known .is-ready .types;
           listed = known .is-ready .listed;
           model =
-              listed-lent ws (then-both (jobWords ws) (admission (jobOf ws)) (known .words) (known .admitted)) plates cuts plates cuts (m .0 - 1) (k .0)
+              listed-lent ws (then-both (jobWords ws) (admission (jobOf ws)) (known .words) (known .admitted)) plates cuts plates cuts (m .0 - length (jobOf ws .sizes)) (k .0)
               (rw row (rw v at s))
               (rw row (rw v at (kept .plates-are)))
               (rw row (rw v at (kept .cuts-are)))
@@ -63,7 +62,7 @@ module _ (ws plates cuts : List ℕ) (ps : platesSize ≤ length plates) (cs : c
 
   pub rows-refused : (number place : ℕ) → a ≡ Refused number place → jobWords ws ≡ pass → jobModelRow ws ≡ refuse number place
   unfolding listAnswer
-  rows-refused number place e w = list-refused ws plates cuts ps cs w (refused-refuse (listVerdict ws plates cuts) _ (sym (ap saysOf e) ∙ kept .says))
+  rows-refused number place e w = list-refused ws plates cuts ps cs w (refused-refuse (listVerdict ws plates cuts) _ (sym (ap (saysOf (jobOf ws)) e) ∙ kept .says))
 
 -- the rows of a saw text: the job and the model, then the others
 saw-rows : (s : Saw) → sawRows s ≡ (jobModelRow (s .job) then listedRows s)
@@ -71,11 +70,14 @@ unfolding sawRows listedRows
 saw-rows s = sym (then-assoc (admission (jobOf (s .job))) (modelRow (jobOf (s .job))) (listedRows s))
 
 module _ (s : Saw) (h : SawHeld) (b : Lent) (room : Room b) (w : WholeKept s h b) where
-  -- the buffer holds the job's words, of which there are as many as its number of types says
+  -- the buffer holds the job's words, of which there are as many as its numbers of sizes and of types say
+  pub few-sizes : boardSizes (b .job) ≤ maxSizes
+  few-sizes = few-sizes-kept (b .job) (s .job) (w .words) (w .passed)
+
   pub few-types : typesOf (b .job) ≤ maxTypes
   few-types = few-kept (b .job) (s .job) (w .words) (w .passed)
 
-  words-are : take (jobSize (typesOf (b .job))) (b .job) ≡ s .job
+  words-are : take (jobSize (boardSizes (b .job)) (typesOf (b .job))) (b .job) ≡ s .job
   words-are = words-kept (b .job) (s .job) (w .words) (w .passed)
 
   -- refused by the job or the model
@@ -91,7 +93,7 @@ module _ (s : Saw) (h : SawHeld) (b : Lent) (room : Room b) (w : WholeKept s h b
 
   -- else listed, and answered by the rows after them
   module _ {m : PlateTypes} {k : CutNumber} (e : h .model ≡ Done m k) where
-    pub job-listed : ListedLent (take (jobSize (typesOf (b .job))) (b .job)) (b .plates) (b .cuts) (m .0) (k .0)
+    pub job-listed : ListedLent (take (jobSize (boardSizes (b .job)) (typesOf (b .job))) (b .job)) (b .plates) (b .cuts) (m .0) (k .0)
     job-listed =
         subst (λ (ws : List ℕ). ListedLent ws (b .plates) (b .cuts) (m .0) (k .0)) (sym words-are)
         (listed-so (s .job) (b .plates) (b .cuts) (room .for-plates) (room .for-cuts) (h .model) (w .model) m k e)
@@ -113,5 +115,5 @@ module _ (s : Saw) (h : SawHeld) (b : Lent) (room : Room b) (w : WholeKept s h b
           let p = rows-passed (s .job) (b .plates) (b .cuts) (room .for-plates) (room .for-cuts) (h .model) (w .model) m k e in
           rw (saw-rows s, then-passed (jobModelRow (s .job)) (listedRows s) p) (f (s .place) (s .plan) (s .prices) plan-kept (w .prices))
 
-      pub job-passed : Rest (take (jobSize (typesOf (b .job))) (b .job))
+      pub job-passed : Rest (take (jobSize (boardSizes (b .job)) (typesOf (b .job))) (b .job))
       job-passed = subst Rest (sym words-are) rest-here

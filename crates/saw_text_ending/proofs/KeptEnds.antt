@@ -7,7 +7,7 @@ use mathlib.Core.List.{List}
 use mathlib.Core.Option.{Option, none, some}
 use Rattle.job.specs.Verdict.{Verdict, pass, _then_}
 use Rattle.listing.specs.Holds.{Holds}
-use Rattle.texts.specs.JobLines.{Place}
+use Rattle.texts.specs.JobLines.{Place, boardSizes}
 use Rattle.texts.specs.Reader.{Reader, started, fed, textRow}
 use Rattle.texts.specs.SawText.{Counted, PriceLines, Saw, sawComplete, sawGrammar, sawRows, sawWritten}
 use Rattle.texts.specs.Held.{PricesHeld as PricesWhole}
@@ -45,13 +45,13 @@ job-listed place (some ps) h ws rs b e j = subst (λ (p : Place). JobHeld p h ws
 
 -- its prices are whole
 prices-end :
-    (place : Place) (o : Option PriceLines) (p : CodePrices) (buffer : List ℕ)
+    (t : ℕ) (place : Place) (o : Option PriceLines) (p : CodePrices) (buffer : List ℕ)
     → PricesWhole place o
-    → PricesHeld place o p buffer
+    → PricesHeld t place o p buffer
     → PricesEnd o p buffer
-prices-end place none p buffer e h = subst (λ (q : Place). PricesHeld q none p buffer) e h .given
-prices-end place (some ps) p buffer e h =
-    let q : PricesTo (1 + p .types .0 + p .residuals) (some ps) p buffer = subst (λ (x : Place). PricesHeld x (some ps) p buffer) (e .0) h in
+prices-end t place none p buffer e h = subst (λ (q : Place). PricesHeld t q none p buffer) e h .given
+prices-end t place (some ps) p buffer e h =
+    let q : PricesTo (1 + p .types .0 + p .residuals) (some ps) p buffer = subst (λ (x : Place). PricesHeld t x (some ps) p buffer) (e .0) h in
     let i = q .some-is in
     let l : q .lines ≡ ps = cc in (
       q .given,
@@ -79,7 +79,7 @@ module _ (f : SawReader) (b : Lent) (bs : List ℕ) (k : After bs f b) where
         passed = t .job;
         model = j .model;
         plan = j .plan;
-        prices = prices-end (s .place) (s .prices) (f .held .prices) (b .prices) (t .prices) (k .held .of-prices);
+        prices = prices-end (boardSizes (s .job)) (s .place) (s .prices) (f .held .prices) (b .prices) (t .prices) (k .held .of-prices);
       }
 
   pub text-ends : TextEnds r (f .text) (f .held) b

@@ -13,7 +13,7 @@ use Rattle.listing.specs.CutRead.{cutsRead}
 use Rattle.listing.specs.CutRead.{Lent as CutsLent}
 use Rattle.layouts.specs.Placement.{placementWords}
 use Rattle.unfold_step.specs.Ready.{ModelLent}
-use Rattle.texts.specs.JobLines.{typesOf}
+use Rattle.texts.specs.JobLines.{boardSizes, typesOf}
 use Rattle.texts.specs.Reader.{Reader, maxLines, textRow, written}
 use Rattle.texts.specs.SawText.{Saw, sawGrammar, sawLines}
 use Rattle.texts.specs.Printed.{sawRun}
@@ -28,8 +28,8 @@ use Rattle.saw_text_rows.specs.Tail.{PricesEnd}
 -- `ws` are the words of an admitted job, and the buffers hold its listing, of m plate types and k cuts
 pub record ListedLent (ws plates cuts : List ℕ) (m k : ℕ) : Type 0 where
   pub words : jobWords ws ≡ pass
-  pub lent : CutsLent ws cuts (typesOf ws) m k
-  pub some-plate : 1 ≤ m
+  pub lent : CutsLent ws cuts (boardSizes ws) (typesOf ws) m k
+  pub sizes : listingOf (jobOf ws) .sizes ≡ boardSizes ws
   pub types : length (listingOf (jobOf ws) .plates) ≡ m
   pub listed : listingOf (jobOf ws) .cuts ≡ cutsRead k cuts
   pub model : ModelLent ws plates cuts k

@@ -24,6 +24,7 @@ use job::head::head_of;
 use job::row::Row;
 use job::sizes::HEAD_WORDS;
 use job::sizes::ITEM_WORDS;
+use job::sizes::SIZE_WORDS;
 use job::words::clear;
 use listing_call::call::Listed;
 use plan_test::plan_row::PlanAnswer;
@@ -70,25 +71,15 @@ pub fn answer_listed(
     ensures { λ r. ⌜ ((place : Place) (rs : List Counted) (o : Option Lines456) → PlanKept (listingOf (jobOf (now (job .entry)))) (bodyLine (now (job .entry))) rs plan (now (counts .entry)) → PricesEnd o lines (now (prices .entry)) → Answered (listedRows (sawOf place (now (job .entry)) rs o)) (sawOf place (now (job .entry)) rs o) (now (out .entry)) (now (placements .entry)) r (now (out .exit)) (now (placements .exit))) ⌝ }
 {
     let head = head_of(job);
+    let t = head.sizes;
     let n = head.types;
-    match plan_row_of_text(plan, job, n, cuts, m, k, counts) {
+    match plan_row_of_text(plan, job, t, n, cuts, m, k, counts) {
         PlanAnswer::Refused(number, place) => refuse(out, number, place),
-        PlanAnswer::Accepted(boards) => {
-            match prices_of_text(lines, job, n, cuts, m, k, prices) {
+        PlanAnswer::Accepted(_, cost) => {
+            match prices_of_text(lines, job, t, n, cuts, m, k, prices) {
                 PriceAnswer::Refused(number, place) => refuse(out, number, place),
                 PriceAnswer::Accepted(sum, d) => {
-                    write_plan(
-                        job,
-                        counts,
-                        plates,
-                        cuts,
-                        k,
-                        boards,
-                        sum,
-                        d,
-                        placements,
-                        out,
-                    )
+                    write_plan(job, counts, plates, cuts, k, cost, sum, d, placements, out)
                 }
             }
         }
@@ -118,7 +109,9 @@ fn answer_job(
         Listed::Refused(number, place) => refuse(out, number, place),
         Listed::Done(m, k) => {
             let head = head_of(job);
-            let words = HEAD_WORDS + ITEM_WORDS * (head.types.0 as usize);
+            let words = HEAD_WORDS
+                + SIZE_WORDS * (head.sizes.0 as usize)
+                + ITEM_WORDS * (head.types.0 as usize);
             answer_listed(
                 plan,
                 lines,

@@ -40,10 +40,10 @@ pub fn has_room(
 }
 
 // What the saw program writes where its text ends: lines 7 and line 8, or one line 9 alone. The number of bytes is handed back, and the bytes behind
-// them stay. Placements end as the eight words of each piece and then zeros; where the text is refused every word of them is 0. The model is the one
+// them stay. Placements end as the nine words of each piece and then zeros; where the text is refused every word of them is 0. The model is the one
 // that the reader listed when the job's lines were complete: this is for a caller that can show that state and lent buffers are those that `start` and
-// `feed` left. Where a lent buffer is shorter than its full size, 166 words of the job, 6,144 of plates, 32,768 of cuts, 8,192 counts, 2,088 prices,
-// 32,000 words of placements, or the output than 328,046 bytes, nothing is written, and 0 is handed back.
+// `feed` left. Where a lent buffer is shorter than its full size, 183 words of the job, 8,192 of plates, 32,768 of cuts, 8,192 counts, 2,088 prices,
+// 36,000 words of placements, or the output than 364,046 bytes, nothing is written, and 0 is handed back.
 pub fn finish_listed(
     reader: SawReader,
     job: &[u16],

@@ -1,23 +1,23 @@
 -- Document 01, "Texts": what is kept of a saw text so far, in a state and in lent buffers; it fixes every word of them.
-use Prim.Native.Nat.{ℕ, suc, _+_, _≤_}
+use Prim.Native.Nat.{ℕ, suc, _+_, _-_, _≤_, _<_}
 use mathlib.Core.Path.{_≡_}
 use mathlib.Core.Bool.{Bool, true, false, _&&_}
 use mathlib.Core.List.{List, []}
 use mathlib.Core.Option.{Option, none, some}
-use lib.Dec.{leb}
+use lib.Dec.{leb, ltb}
 use lib.ListN.{length}
-use Rattle.job.specs.Sizes.{maxTypes, maxResiduals, jobSize, wordOfType, longestJob, platesSize, cutsSize, countsSize, pricesSize}
+use Rattle.job.specs.Sizes.{maxSizes, maxTypes, maxResiduals, wordsBefore, jobSize, wordOfType, longestJob, platesSize, cutsSize, countsSize, pricesSize}
 use Rattle.job.specs.Verdict.{within}
 use Rattle.job.specs.Job.{jobOf}
 use Rattle.listing.specs.Listing.{listingOf}
 use Rattle.listing.specs.Holds.{Holds}
 use Rattle.listing_call.specs.declared.call.Listed.{Listed}
 use Rattle.listing_call.specs.declared.call.Listed.the-variants.{Done, Refused}
-use Rattle.texts.specs.JobLines.{Place, first, types, body, itemPrices, platePrices, done, typesOf, bodyLine}
+use Rattle.texts.specs.JobLines.{Place, first, sizes, types, body, itemPrices, platePrices, done, boardSizes, typesOf, bodyLine}
 use Rattle.texts.specs.Shape.{numbersRow}
 use Rattle.texts.specs.SawText.{Counted, PriceLines, Saw, sawAdmits, sawAfter}
 use Rattle.texts_reading.specs.declared.text.Place.{Place as CodePlace}
-use Rattle.texts_reading.specs.declared.text.Place.the-variants.{First, Types, Body, ItemPrices, PlatePrices}
+use Rattle.texts_reading.specs.declared.text.Place.the-variants.{First, Sizes, Types, Body, ItemPrices, PlatePrices}
 use Rattle.texts_reading.specs.declared.text.Place.the-variants.{Done as AllDone}
 use Rattle.texts_reading.specs.Judged.{lineVerdict}
 use Rattle.texts_reading.specs.Standing.{placeOf}
@@ -47,18 +47,29 @@ pub record Room (b : Lent) : Type 0 where
   pub for-counts : countsSize ≤ length (b .counts)
   pub for-prices : pricesSize ≤ length (b .prices)
 
--- the job's words, all of them
-pub record WholeJob (ws : List ℕ) : Type 0 where
+-- the numbers of sizes and of types that the job's words give are within their limits
+pub record FewSizes (ws : List ℕ) : Type 0 where
   pub some-type : 1 ≤ typesOf ws
   pub few-types : typesOf ws ≤ maxTypes
-  pub size : length ws ≡ jobSize (typesOf ws)
+  pub few-sizes : boardSizes ws ≤ maxSizes
+
+-- the job's words, all of them
+pub record WholeJob (ws : List ℕ) : Type 0 where
+  pub head : FewSizes ws
+  pub size : length ws ≡ jobSize (boardSizes ws) (typesOf ws)
+
+-- those before line 10 of size j
+pub record SizesTo (j : ℕ) (ws : List ℕ) : Type 0 where
+  pub head : FewSizes ws
+  pub to : j < boardSizes ws
+  pub size : length ws ≡ wordsBefore j
 
 -- those before line 2 of type i
 pub record JobTo (i : ℕ) (ws : List ℕ) : Type 0 where
+  pub head : FewSizes ws
   pub from : 1 ≤ i
   pub to : i ≤ typesOf ws
-  pub few-types : typesOf ws ≤ maxTypes
-  pub size : length ws ≡ wordOfType i
+  pub size : length ws ≡ wordOfType (boardSizes ws) i
 
 -- no line 3 yet
 pub record NoPlan (p : PlanLines) : Type 0 where
@@ -89,6 +100,7 @@ pub record ListedJob (h : SawHeld) (ws : List ℕ) (rs : List Counted) (b : Lent
 -- the job and the lines 3, by what comes next
 abbrev pub JobHeld : Place → SawHeld → List ℕ → List Counted → Lent → Type 0
 JobHeld first h ws rs b = (ws ≡ []) × Unlisted h rs b
+JobHeld (sizes j) h ws rs b = SizesTo j ws × Unlisted h rs b
 JobHeld (types i) h ws rs b = JobTo i ws × Unlisted h rs b
 JobHeld body h ws rs b = ListedJob h ws rs b
 JobHeld (itemPrices i) h ws rs b = ListedJob h ws rs b
@@ -115,19 +127,21 @@ pub record PricesTo (n : ℕ) (o : Option PriceLines) (p : CodePrices) (buffer :
   pub words : Holds buffer (lines .words)
   pub size : length (lines .words) ≡ n
 
--- the prices, by what comes next
-abbrev pub PricesHeld : Place → Option PriceLines → CodePrices → List ℕ → Type 0
-PricesHeld first o p buffer = NoPrices o p buffer
-PricesHeld (types i) o p buffer = NoPrices o p buffer
-PricesHeld body o p buffer = NoPrices o p buffer
-PricesHeld (itemPrices i) o p buffer = (1 ≤ i) × ((i ≤ p .types .0) × PricesTo i o p buffer)
-PricesHeld (platePrices j) o p buffer = (1 ≤ j) × ((j ≤ p .residuals) × PricesTo (p .types .0 + j) o p buffer)
-PricesHeld done o p buffer = PricesTo (1 + p .types .0 + p .residuals) o p buffer
+-- the prices, by what comes next, of a job of t sizes
+abbrev pub PricesHeld : ℕ → Place → Option PriceLines → CodePrices → List ℕ → Type 0
+PricesHeld t first o p buffer = NoPrices o p buffer
+PricesHeld t (sizes j) o p buffer = NoPrices o p buffer
+PricesHeld t (types i) o p buffer = NoPrices o p buffer
+PricesHeld t body o p buffer = NoPrices o p buffer
+PricesHeld t (itemPrices i) o p buffer = (1 ≤ i) × ((i ≤ p .types .0) × PricesTo i o p buffer)
+PricesHeld t (platePrices j) o p buffer = (t ≤ j) × ((j < t + p .residuals) × PricesTo (p .types .0 + 1 + (j - t)) o p buffer)
+PricesHeld t done o p buffer = PricesTo (1 + p .types .0 + p .residuals) o p buffer
 
--- the number of lines: line 1, a line 2 for each type before, and in the body a line 3 after another
+-- the number of lines: line 1, a line 10 for each size before, a line 2 for each type before, and in the body a line 3 after another
 abbrev pub LinesHeld : Place → List ℕ → List Counted → ℕ → Type 0
 LinesHeld first ws rs lines = lines ≡ 0
-LinesHeld (types i) ws rs lines = i ≡ lines
+LinesHeld (sizes j) ws rs lines = suc j ≡ lines
+LinesHeld (types i) ws rs lines = boardSizes ws + i ≡ lines
 LinesHeld body ws rs lines = bodyLine ws + length rs ≡ suc lines
 LinesHeld (itemPrices i) ws rs lines = Unit {0}
 LinesHeld (platePrices j) ws rs lines = Unit {0}
@@ -137,17 +151,22 @@ LinesHeld done ws rs lines = Unit {0}
 pub record HeldAs (s : Saw) (lines : ℕ) (h : SawHeld) (b : Lent) : Type 0 where
   pub words : Holds (b .job) (s .job)
   pub of-job : JobHeld (s .place) h (s .job) (s .plan) b
-  pub of-prices : PricesHeld (s .place) (s .prices) (h .prices) (b .prices)
+  pub of-prices : PricesHeld (boardSizes (s .job)) (s .place) (s .prices) (h .prices) (b .prices)
   pub of-lines : LinesHeld (s .place) (s .job) (s .plan) lines
 
--- the running number of what comes next is within its limits, where line 4's n is t
-abbrev pub placeSound : CodePlace → ℕ → Bool
-placeSound First t = true
-placeSound (Types i) t = within 1 maxTypes (i .0)
-placeSound Body t = true
-placeSound (ItemPrices i) t = leb (i .0) maxTypes
-placeSound (PlatePrices j) t = leb (j .0) maxResiduals && leb t maxTypes
-placeSound AllDone t = true
+-- j is the number of a residual type, of t sizes, where line 4's n is n
+unfoldable pub plateSound : ℕ → ℕ → ℕ → Bool
+plateSound t n j = leb t maxSizes && leb t j && ltb (j - t) maxResiduals && leb n maxTypes
+
+-- the running number of what comes next is within its limits, where the job has t sizes and line 4's n is n
+abbrev pub placeSound : CodePlace → ℕ → ℕ → Bool
+placeSound First t n = true
+placeSound (Sizes j) t n = ltb (j .0) maxSizes
+placeSound (Types i) t n = within 1 maxTypes (i .0) && leb t maxSizes
+placeSound Body t n = true
+placeSound (ItemPrices i) t n = leb (i .0) maxTypes
+placeSound (PlatePrices j) t n = plateSound t n (j .0)
+placeSound AllDone t n = true
 
 -- what the next line, with the numbers ns, makes of it: its refusal, which changes nothing, or 0, what comes next, and what is then kept
 pub record TakenAs (s : Saw) (lines : ℕ) (ns : List ℕ) (t : Taken) (b : Lent) : Type 0 where

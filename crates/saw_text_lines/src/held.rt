@@ -1,14 +1,15 @@
 // What is kept of a saw text beside where it stands, and what each line makes of it.
 ghost use mathlib.Core.Path.{_≡_};
 ghost use mathlib.Core.List.{List, [], _∷_, _++_};
-ghost use Prim.Native.Nat.{ℕ, suc, _+_, _≤_, _<_};
+ghost use Prim.Native.Nat.{ℕ, suc, _+_, _-_, _≤_, _<_};
 ghost use lib.ListN.{length, getD};
-ghost use Rattle.job.specs.Sizes.{maxTypes, maxResiduals, wordsOfHead, jobSize, platesSize, cutsSize, countsSize, pricesSize};
-ghost use Rattle.texts.specs.JobLines.{first, types, body, itemPrices, platePrices, typesOf, bodyLine};
+ghost use Rattle.job.specs.Sizes.{maxSizes, maxTypes, maxResiduals, wordsOfHead, wordsBefore, jobSize, platesSize, cutsSize, countsSize, pricesSize};
+ghost use Rattle.texts.specs.JobLines.{first, sizes, types, body, itemPrices, platePrices, boardSizes, typesOf, bodyLine};
 ghost use Rattle.texts.specs.SawText.{Counted, Saw, countedIn};
 ghost use Rattle.saw_text_body.specs.PlanRead.{PlanNumbers, LineOf};
 ghost use Rattle.saw_text_body.specs.ModelRead.{ModelKept};
 ghost use Rattle.saw_text_lines.specs.SawKept.{lent, Room, PlanHeld, HeldAs, TakenAs};
+use job::counters::BoardSizes;
 use job::counters::ItemPosition;
 use job::counters::ItemType;
 use job::counters::PlateType;
@@ -24,6 +25,7 @@ use saw_text_body::price_lines::after_item_price;
 use saw_text_body::price_lines::after_plate_price;
 use texts_reading::job_lines::read_first;
 use texts_reading::job_lines::read_item;
+use texts_reading::job_lines::read_size;
 use texts_reading::kinds::item_price_line;
 use texts_reading::kinds::plan_line;
 use texts_reading::kinds::plate_price_line;
@@ -52,6 +54,34 @@ pub fn take_first(held: SawHeld, numbers: &[u32], job: &mut [u16]) -> Taken
     let refusal = read_first(numbers, job);
     Taken {
         refusal,
+        place: Place::Sizes(PlateType(0)),
+        held,
+    }
+}
+
+// Line 10 of size j: its numbers are the next of the job's words.
+pub fn take_size(held: SawHeld, j: PlateType, numbers: &[u32], job: &mut [u16]) -> Taken
+    requires { ⌜ (j .0 < maxSizes) × (wordsBefore (j .0 + 1) ≤ length (now job)) ⌝ }
+    ensures { λ t. ⌜ ((s : Saw) (lines : ℕ) (plates cuts counts prices : List ℕ) → s .place ≡ sizes (j .0) → HeldAs s lines held (lent (now (job .entry)) plates cuts counts prices) → TakenAs s lines (now (numbers .entry)) t (lent (now (job .exit)) plates cuts counts prices)) ⌝ }
+{
+    let refusal = read_size(numbers, j, job);
+    if refusal != 0 {
+        return Taken {
+            refusal,
+            place: Place::Sizes(j),
+            held,
+        };
+    }
+    let head = head_of(job);
+    if head.sizes.0 != j.0 + 1 {
+        return Taken {
+            refusal: 0,
+            place: Place::Sizes(PlateType(j.0 + 1)),
+            held,
+        };
+    }
+    Taken {
+        refusal: 0,
         place: Place::Types(ItemType(1)),
         held,
     }
@@ -66,9 +96,11 @@ pub fn take_item(
     plates: &mut [u16],
     cuts: &mut [u16],
 ) -> Taken
-    requires { ⌜ (1 ≤ i .0) × ((i .0 ≤ maxTypes) × (jobSize (i .0) ≤ length (now job))) ⌝ }
+    requires { ⌜ (1 ≤ i .0) × ((i .0 ≤ maxTypes) × (jobSize (boardSizes (now job)) (i .0) ≤ length (now job))) ⌝ }
     ensures { λ t. ⌜ ((s : Saw) (lines : ℕ) (counts prices : List ℕ) → s .place ≡ types (i .0) → Room (lent (now (job .entry)) (now (plates .entry)) (now (cuts .entry)) counts prices) → HeldAs s lines held (lent (now (job .entry)) (now (plates .entry)) (now (cuts .entry)) counts prices) → TakenAs s lines (now (numbers .entry)) t (lent (now (job .exit)) (now (plates .exit)) (now (cuts .exit)) counts prices)) ⌝ }
 {
+    let head = head_of(job);
+    let n = head.types;
     let refusal = read_item(numbers, i, job);
     if refusal != 0 {
         return Taken {
@@ -77,8 +109,6 @@ pub fn take_item(
             held,
         };
     }
-    let head = head_of(job);
-    let n = head.types;
     if i.0 != n.0 {
         return Taken {
             refusal: 0,
@@ -86,7 +116,7 @@ pub fn take_item(
             held,
         };
     }
-    let model = list_job(job, n, plates, cuts);
+    let model = list_job(job, head.sizes, n, plates, cuts);
     let plan = held.plan;
     let prices = held.prices;
     Taken {
@@ -212,10 +242,16 @@ pub fn take_prices(held: SawHeld, numbers: &[u32], prices: &mut [u16]) -> Taken
     }
 }
 
-// Line 5 of type i: its price is the next price word.
-pub fn take_item_price(held: SawHeld, i: ItemType, numbers: &[u32], prices: &mut [u16]) -> Taken
+// Line 5 of type i, of a job of t sizes: its price is the next price word.
+pub fn take_item_price(
+    held: SawHeld,
+    t: BoardSizes,
+    i: ItemType,
+    numbers: &[u32],
+    prices: &mut [u16],
+) -> Taken
     requires { ⌜ (i .0 ≤ maxTypes) × (i .0 < length (now prices)) ⌝ }
-    ensures { λ t. ⌜ ((s : Saw) (lines : ℕ) (job plates cuts counts : List ℕ) → s .place ≡ itemPrices (i .0) → HeldAs s lines held (lent job plates cuts counts (now (prices .entry))) → TakenAs s lines (now (numbers .entry)) t (lent job plates cuts counts (now (prices .exit)))) ⌝ }
+    ensures { λ r. ⌜ ((s : Saw) (lines : ℕ) (job plates cuts counts : List ℕ) → s .place ≡ itemPrices (i .0) → boardSizes (s .job) ≡ t .0 → HeldAs s lines held (lent job plates cuts counts (now (prices .entry))) → TakenAs s lines (now (numbers .entry)) r (lent job plates cuts counts (now (prices .exit)))) ⌝ }
 {
     let refusal = item_price_line(numbers, i);
     if refusal != 0 {
@@ -230,15 +266,21 @@ pub fn take_item_price(held: SawHeld, i: ItemType, numbers: &[u32], prices: &mut
     let lines = held.prices;
     Taken {
         refusal: 0,
-        place: after_item_price(lines.types, lines.residuals, i),
+        place: after_item_price(t, lines.types, lines.residuals, i),
         held,
     }
 }
 
-// Line 6 of plate type j: its price is the next price word.
-pub fn take_plate_price(held: SawHeld, j: PlateType, numbers: &[u32], prices: &mut [u16]) -> Taken
-    requires { ⌜ (j .0 ≤ maxResiduals) × (held .prices .types .0 + j .0 < length (now prices)) ⌝ }
-    ensures { λ t. ⌜ ((s : Saw) (lines : ℕ) (job plates cuts counts : List ℕ) → s .place ≡ platePrices (j .0) → HeldAs s lines held (lent job plates cuts counts (now (prices .entry))) → TakenAs s lines (now (numbers .entry)) t (lent job plates cuts counts (now (prices .exit)))) ⌝ }
+// Line 6 of plate type j, of a job of t sizes: its price is the next price word.
+pub fn take_plate_price(
+    held: SawHeld,
+    t: BoardSizes,
+    j: PlateType,
+    numbers: &[u32],
+    prices: &mut [u16],
+) -> Taken
+    requires { ⌜ (t .0 ≤ j .0) × ((j .0 < maxSizes + maxResiduals) × (held .prices .types .0 + 1 + (j .0 - t .0) < length (now prices))) ⌝ }
+    ensures { λ r. ⌜ ((s : Saw) (lines : ℕ) (job plates cuts counts : List ℕ) → s .place ≡ platePrices (j .0) → boardSizes (s .job) ≡ t .0 → HeldAs s lines held (lent job plates cuts counts (now (prices .entry))) → TakenAs s lines (now (numbers .entry)) r (lent job plates cuts counts (now (prices .exit)))) ⌝ }
 {
     let refusal = plate_price_line(numbers, j);
     if refusal != 0 {
@@ -249,11 +291,11 @@ pub fn take_plate_price(held: SawHeld, j: PlateType, numbers: &[u32], prices: &m
         };
     }
     let lines = held.prices;
-    let at = lines.types.0 as usize + j.0 as usize;
+    let at = lines.types.0 as usize + 1 + (j.0 - t.0) as usize;
     prices[at] = numbers[2] as u16;
     Taken {
         refusal: 0,
-        place: after_plate_price(lines.residuals, j),
+        place: after_plate_price(t, lines.residuals, j),
         held,
     }
 }

@@ -4,10 +4,10 @@ ghost use mathlib.Core.Bool.{true};
 ghost use Prim.Native.Nat.{ℕ, suc, _<_};
 ghost use lib.Dec.{eqb};
 ghost use lib.ListN.{getD};
-ghost use Rattle.texts.specs.JobLines.{body};
+ghost use Rattle.texts.specs.JobLines.{body, boardSizes};
 ghost use Rattle.texts.specs.SawText.{Saw};
 ghost use Rattle.texts_reading.specs.Standing.{placeOf};
-ghost use Rattle.saw_text_lines.specs.SawKept.{lent, Room, HeldAs, placeSound, TakenAs};
+ghost use Rattle.saw_text_lines.specs.SawKept.{lent, Room, HeldAs, plateSound, placeSound, TakenAs};
 use crate::held::SawHeld;
 use crate::held::Taken;
 use crate::held::take_first;
@@ -16,13 +16,18 @@ use crate::held::take_item_price;
 use crate::held::take_plan;
 use crate::held::take_plate_price;
 use crate::held::take_prices;
+use crate::held::take_size;
 use job::admit::within;
+use job::counters::BoardSizes;
 use job::counters::ItemType;
+use job::counters::PlateType;
 use job::head::head_of;
 use job::sizes::HEAD_WORDS;
 use job::sizes::ITEM_WORDS;
 use job::sizes::MAX_RESIDUALS;
+use job::sizes::MAX_SIZES;
 use job::sizes::MAX_TYPES;
+use job::sizes::SIZE_WORDS;
 use texts_reading::text::Place;
 
 // Whether the numbers are those of a line of kind 4.
@@ -35,8 +40,8 @@ fn begins_prices(numbers: &[u32]) -> bool
     numbers[0] == 4
 }
 
-// A line of the body: a line 4, or else a line 3, judged by the words of its job. The words that are kept of a text have at most 40 types; others, which no text
-// has, are refused.
+// A line of the body: a line 4, or else a line 3, judged by the words of its job. The words that are kept of a text have at most 6 sizes and 40 types;
+// others, which no text has, are refused.
 fn take_body(
     held: SawHeld,
     line: u32,
@@ -55,6 +60,7 @@ fn take_body(
     }
     let head = head_of(job);
     let n = head.types;
+    let t = head.sizes;
     if MAX_TYPES < n.0 {
         return Taken {
             refusal: 2,
@@ -62,20 +68,44 @@ fn take_body(
             held,
         };
     }
-    let words = HEAD_WORDS + ITEM_WORDS * (n.0 as usize);
+    if MAX_SIZES < t.0 {
+        return Taken {
+            refusal: 2,
+            place: Place::Body,
+            held,
+        };
+    }
+    let words = HEAD_WORDS + SIZE_WORDS * (t.0 as usize) + ITEM_WORDS * (n.0 as usize);
     take_plan(held, line, numbers, &job[..words], plates, cuts, counts)
 }
 
-// Whether the running number of what comes next is within its limits, where line 4's n is `types`.
-pub fn sound(place: Place, types: ItemType) -> bool
-    ensures { λ r. ⌜ r ≡ placeSound place (types .0) ⌝ }
+// Whether the number of a plate type is that of a residual type, of t sizes, where line 4's n is `types`.
+fn plate_sound(t: BoardSizes, types: ItemType, j: PlateType) -> bool
+    ensures { λ r. ⌜ r ≡ plateSound (t .0) (types .0) (j .0) ⌝ }
+{
+    if MAX_SIZES < t.0 {
+        return false;
+    }
+    if j.0 < t.0 {
+        return false;
+    }
+    if MAX_RESIDUALS <= j.0 - t.0 {
+        return false;
+    }
+    types.0 <= MAX_TYPES
+}
+
+// Whether the running number of what comes next is within its limits, where the job has t sizes and line 4's n is `types`.
+pub fn sound(place: Place, t: BoardSizes, types: ItemType) -> bool
+    ensures { λ r. ⌜ r ≡ placeSound place (t .0) (types .0) ⌝ }
 {
     match place {
         Place::First => true,
-        Place::Types(i) => within(1, MAX_TYPES, i.0),
+        Place::Sizes(j) => j.0 < MAX_SIZES,
+        Place::Types(i) => within(1, MAX_TYPES, i.0) && t.0 <= MAX_SIZES,
         Place::Body => true,
         Place::ItemPrices(i) => i.0 <= MAX_TYPES,
-        Place::PlatePrices(j) => j.0 <= MAX_RESIDUALS && types.0 <= MAX_TYPES,
+        Place::PlatePrices(j) => plate_sound(t, types, j),
         Place::Done => true,
     }
 }
@@ -93,15 +123,22 @@ pub fn take_numbers(
     prices: &mut [u16],
 ) -> Taken
     requires { ⌜ Room (lent (now job) (now plates) (now cuts) (now counts) (now prices)) ⌝ }
-    requires { ⌜ (0 < line) × (placeSound place (held .prices .types .0) ≡ true) ⌝ }
+    requires { ⌜ (0 < line) × (placeSound place (boardSizes (now job)) (held .prices .types .0) ≡ true) ⌝ }
     ensures { λ t. ⌜ ((s : Saw) (lines : ℕ) → placeOf place ≡ s .place → suc lines ≡ line → HeldAs s lines held (lent (now (job .entry)) (now (plates .entry)) (now (cuts .entry)) (now (counts .entry)) (now (prices .entry))) → TakenAs s lines (now (numbers .entry)) t (lent (now (job .exit)) (now (plates .exit)) (now (cuts .exit)) (now (counts .exit)) (now (prices .exit)))) ⌝ }
 {
     match place {
         Place::First => take_first(held, numbers, job),
+        Place::Sizes(j) => take_size(held, j, numbers, job),
         Place::Types(i) => take_item(held, i, numbers, job, plates, cuts),
         Place::Body => take_body(held, line, numbers, job, plates, cuts, counts, prices),
-        Place::ItemPrices(i) => take_item_price(held, i, numbers, prices),
-        Place::PlatePrices(j) => take_plate_price(held, j, numbers, prices),
+        Place::ItemPrices(i) => {
+            let head = head_of(job);
+            take_item_price(held, head.sizes, i, numbers, prices)
+        }
+        Place::PlatePrices(j) => {
+            let head = head_of(job);
+            take_plate_price(held, head.sizes, j, numbers, prices)
+        }
         Place::Done => Taken {
             refusal: 1,
             place: Place::Done,

@@ -8,7 +8,7 @@ use lib.ListN.{length, replicate}
 use borrow.Author.Tests.{le-ltb}
 use Rattle.job.specs.Verdict.{Verdict, pass, refuse}
 use Rattle.job.specs.Buffers.{Answer, given, refused, filled, ends, sized, platesSize, cutsSize}
-use Rattle.job.specs.Job.{jobOf, jobWords, admission}
+use Rattle.job.specs.Job.{Job, jobOf, jobWords, admission}
 use Rattle.job.proofs.CodeEnds.{Not5, not5-then, ends-zeros}
 use Rattle.job.proofs.CodeAdmission.{words-not5, admission-not5}
 use Rattle.listing.specs.Holds.{Holds}
@@ -16,8 +16,8 @@ use Rattle.listing.specs.ListCall.{listVerdict, listAnswer, platesEnd, cutsEnd}
 use Rattle.listing.proofs.Limits.{model-not5}
 use Rattle.listing_call.specs.declared.call.Listed.{Listed}
 use Rattle.listing_call.specs.declared.call.Listed.the-variants.{Done, Refused}
-use Rattle.listing_call.specs.ListSays.{saysOf, SomePlate}
-use Rattle.texts.specs.JobLines.{Place, first, types, body, itemPrices, platePrices, done}
+use Rattle.listing_call.specs.ListSays.{saysOf, SizesListed}
+use Rattle.texts.specs.JobLines.{Place, first, sizes, types, body, itemPrices, platePrices, done, boardSizes}
 use Rattle.texts.specs.SawText.{Counted, PriceLines, Saw}
 use Rattle.texts_reading.proofs.CodeSplits.{held-same}
 use Rattle.saw_text_body.specs.declared.plan_lines.PlanLines.{PlanLines}
@@ -31,16 +31,16 @@ use Rattle.saw_text_reader.specs.Parts.{AsLong}
 
 -- ---- the model
 
--- an answer of the listing call, from what it says
-abbrev listedFrom : Answer → Listed
-listedFrom (given []) = Refused 0 0
-listedFrom (given (m ∷ [])) = Refused 0 0
-listedFrom (given (m ∷ k ∷ ws)) = Done (record { 0 = m + 1 }) (record { 0 = k })
-listedFrom (refused number place) = Refused number place
+-- an answer of the listing call, from what it says of a job of t sizes
+abbrev listedFrom : ℕ → Answer → Listed
+listedFrom t (given []) = Refused 0 0
+listedFrom t (given (m ∷ [])) = Refused 0 0
+listedFrom t (given (m ∷ k ∷ ws)) = Done (record { 0 = m + t }) (record { 0 = k })
+listedFrom t (refused number place) = Refused number place
 
-listed-from : (a : Listed) → SomePlate a → listedFrom (saysOf a) ≡ a
-listed-from (Done m k) one = let e : m .0 - 1 + 1 ≡ m .0 = omega arith in λ i. Done (record { 0 = e i }) k
-listed-from (Refused number place) one = refl
+listed-from : (job : Job) (a : Listed) → SizesListed job a → listedFrom (length (job .sizes)) (saysOf job a) ≡ a
+listed-from job (Done m k) all = let e : m .0 - length (job .sizes) + length (job .sizes) ≡ m .0 = omega arith in λ i. Done (record { 0 = e i }) k
+listed-from job (Refused number place) all = refl
 
 -- with buffers of full size the listing call does not refuse with 5
 pub list-not5 : (ws plates cuts : List ℕ) → platesSize ≤ length plates → cutsSize ≤ length cuts → Not5 (listVerdict ws plates cuts)
@@ -59,7 +59,7 @@ module _ (ws : List ℕ) (a a′ : Listed) (plates cuts plates′ cuts′ : List
   model-same =
       let v = verdict-again ws plates′ cuts′ plates cuts p c in
       let e : listAnswer ws plates cuts ≡ listAnswer ws plates′ cuts′ = rw v in
-      sym (listed-from a (k .some-plate)) ∙ ap listedFrom (k .says ∙ e ∙ sym (k′ .says)) ∙ listed-from a′ (k′ .some-plate)
+      sym (listed-from (jobOf ws) a (k .sizes-listed)) ∙ ap (listedFrom (length (jobOf ws .sizes))) (k .says ∙ e ∙ sym (k′ .says)) ∙ listed-from (jobOf ws) a′ (k′ .sizes-listed)
 
   module _ (rp : platesSize ≤ length plates) (rc : cutsSize ≤ length cuts) where
     plates-same : plates ≡ plates′
@@ -121,13 +121,14 @@ module _ (o : Option PriceLines) (p p′ : CodePrices) (b b′ : List ℕ) (l : 
       let w : Holds b (h′ .lines .words) = rw (← e) (h .words) in
       (prices-are p p′ (h .given ∙ sym (h′ .given)) t r, held-same b b′ (h′ .lines .words) w (h′ .words) l)
 
-  prices-same : (q : Place) → PricesHeld q o p b → PricesHeld q o p′ b′ → (p ≡ p′) × (b ≡ b′)
-  prices-same first h h′ = none-same h h′
-  prices-same (types i) h h′ = none-same h h′
-  prices-same body h h′ = none-same h h′
-  prices-same (itemPrices i) h h′ = some-same (h .1 .1) (h′ .1 .1)
-  prices-same (platePrices j) h h′ = some-same (h .1 .1) (h′ .1 .1)
-  prices-same done h h′ = some-same h h′
+  prices-same : (t : ℕ) (q : Place) → PricesHeld t q o p b → PricesHeld t q o p′ b′ → (p ≡ p′) × (b ≡ b′)
+  prices-same t first h h′ = none-same h h′
+  prices-same t (sizes j) h h′ = none-same h h′
+  prices-same t (types i) h h′ = none-same h h′
+  prices-same t body h h′ = none-same h h′
+  prices-same t (itemPrices i) h h′ = some-same (h .1 .1) (h′ .1 .1)
+  prices-same t (platePrices j) h h′ = some-same (h .1 .1) (h′ .1 .1)
+  prices-same t done h h′ = some-same h h′
 
 -- ---- the job and the lines 3
 
@@ -165,6 +166,7 @@ module _ (h h′ : SawHeld) (ws : List ℕ) (rs : List Counted) (b b′ : Lent) 
 
   job-same : (q : Place) → JobHeld q h ws rs b → JobHeld q h′ ws rs b′ → JobSame h h′ b b′
   job-same first k k′ = unlisted-same (k .1) (k′ .1)
+  job-same (sizes j) k k′ = unlisted-same (k .1) (k′ .1)
   job-same (types i) k k′ = unlisted-same (k .1) (k′ .1)
   job-same body k k′ = listed-same k k′
   job-same (itemPrices i) k k′ = listed-same k k′
@@ -176,6 +178,6 @@ module _ (h h′ : SawHeld) (ws : List ℕ) (rs : List Counted) (b b′ : Lent) 
 pub held-as-same : (s : Saw) (lines lines′ : ℕ) (h h′ : SawHeld) (b b′ : Lent) → AsLong b b′ → Room b → HeldAs s lines h b → HeldAs s lines′ h′ b′ → (h ≡ h′) × (b ≡ b′)
 held-as-same s lines lines′ h h′ b b′ l room k k′ =
     let j = job-same h h′ (s .job) (s .plan) b b′ l room (s .place) (k .of-job) (k′ .of-job) in
-    let p = prices-same (s .prices) (h .prices) (h′ .prices) (b .prices) (b′ .prices) (l .prices) (s .place) (k .of-prices) (k′ .of-prices) in
+    let p = prices-same (s .prices) (h .prices) (h′ .prices) (b .prices) (b′ .prices) (l .prices) (boardSizes (s .job)) (s .place) (k .of-prices) (k′ .of-prices) in
     let w = held-same (b .job) (b′ .job) (s .job) (k .words) (k′ .words) (l .job) in
     (λ i. record { model = j .model i; plan = j .plan i; prices = p .0 i }, λ i. record { job = w i; plates = j .plates i; cuts = j .cuts i; counts = j .counts i; prices = p .1 i })

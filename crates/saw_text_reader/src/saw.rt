@@ -15,6 +15,7 @@ ghost use Rattle.saw_text_reader.specs.SawFed.{NoneHeld, SawReady, Step,
 use columns::line::Complete;
 use columns::widths::GROUP;
 use columns::widths::MOST_NUMBERS;
+use job::head::head_of;
 use job::words::clear;
 use listing_call::call::Listed;
 use saw_text_body::plan_lines::PlanLines;
@@ -43,7 +44,7 @@ fn none_held() -> SawHeld
     }
 }
 
-// Nothing is read yet: every lent word becomes 0. The job takes 166 words, the prices 2,088.
+// Nothing is read yet: every lent word becomes 0. The job takes 183 words, the prices 2,088.
 pub fn start(
     job: &mut [u16],
     plates: &mut [u16],
@@ -83,7 +84,8 @@ impl SawReader {
         let held = self.held;
         let place = text.place;
         let lines = held.prices;
-        if !sound(place, lines.types) {
+        let head = head_of(job);
+        if !sound(place, head.sizes, lines.types) {
             return self;
         }
         let line = text.lines + 1;

@@ -5,16 +5,16 @@ use mathlib.Core.Path.{_≡_, refl, ap, _∙_, subst}
 use mathlib.Core.List.{List, [], _∷_}
 use lib.ListN.{length}
 use Rattle.job.specs.Verdict.{Verdict, pass, refuse, _then_}
-use Rattle.job.specs.Buffers.{answer, filled}
+use Rattle.job.specs.Buffers.{given, answer, filled}
 use Rattle.job.specs.Job.{Job, jobOf, maxTypes}
 use Rattle.job.proofs.Verdicts.{then-first, then-second, then-passed}
 use Rattle.job.proofs.CodeEnds.{given-pass}
 use Rattle.listing.specs.Listing.{Listing, maxPlates}
-use Rattle.plan.specs.Plan.{countsRow, planRow, boards}
+use Rattle.plan.specs.Plan.{boards, planCost, countsRow, planRow}
+use Rattle.plan.specs.PlanCall.{boardsAndCost}
 use Rattle.plan_test.specs.declared.plan_row.PlanAnswer.{PlanAnswer}
 use Rattle.plan_test.specs.declared.plan_row.PlanAnswer.the-variants.{Accepted, Refused}
 use Rattle.plan_test.specs.PlanSays.{saysOf}
-use Rattle.unfold_call.proofs.CodeEnding.{given-one}
 use Rattle.texts.specs.Widths.{placeLimit}
 use Rattle.texts.specs.SawText.{Counted, cutsNamed, platesShown, cutsRising, planCounts}
 use Rattle.texts.proofs.Places.{Near, near-place, near-plan}
@@ -24,7 +24,7 @@ use Rattle.saw_text_body.specs.PlanRead.{atLine, PlanKept}
 use Rattle.saw_text_body.proofs.PlanLaws.{risen-all}
 use Rattle.saw_text_body.proofs.PlanSteps.{at-refused}
 use Rattle.saw_text_rows.specs.Tail.{linesRow, PlaceFits, Tested, PlanTold}
-use Rattle.saw_text_rows.proofs.Filled.{boards-filled}
+use Rattle.saw_text_rows.proofs.Filled.{boards-filled, cost-filled}
 
 -- an answer by a verdict whose place fits
 near-answer : (v : Verdict) (rs : List ℕ) → Near v → PlaceFits (answer v rs)
@@ -50,10 +50,10 @@ counts-whole job l first rs {counts = counts} kept h =
 
 -- what is known of an answer, by its case
 pub tested-accepted :
-    {a : PlanAnswer} {b : ℕ} (l : Listing) (job : Job) (counts : List ℕ)
-    → a ≡ Accepted b
+    {a : PlanAnswer} {b c : ℕ} (l : Listing) (job : Job) (counts : List ℕ)
+    → a ≡ Accepted b c
     → Tested a l job counts
-    → ((countsRow l counts then planRow job l counts) ≡ pass) × (b ≡ boards l counts)
+    → ((countsRow l counts then planRow job l counts) ≡ pass) × ((b ≡ boards l counts) × (c ≡ planCost job l counts))
 tested-accepted l job counts e t = subst (λ (x : PlanAnswer). Tested x l job counts) e t
 
 pub fits-refused : {a : PlanAnswer} {number place : ℕ} → a ≡ Refused number place → PlaceFits (saysOf a) → place < placeLimit
@@ -117,28 +117,40 @@ module _ (l : Listing) (ws counts : List ℕ) (p : PlanLines) where
       boards-kept : boards l counts ≡ boards l (planCounts l rs)
       boards-kept = ap (boards l) counts-kept ∙ boards-filled (length counts) (jobOf ws) l (planCounts l rs) (counts-length l rs)
 
+      cost-kept : planCost (jobOf ws) l counts ≡ planCost (jobOf ws) l (planCounts l rs)
+      cost-kept = ap (planCost (jobOf ws) l) counts-kept ∙ cost-filled (length counts) (jobOf ws) l (planCounts l rs) (counts-length l rs)
+
     abbrev rows : Verdict
     rows = countsRow l counts then planRow (jobOf ws) l counts
 
-    tested-by : (a : PlanAnswer) → saysOf a ≡ answer rows (boards l counts ∷ []) → Tested a l (jobOf ws) counts
-    tested-by (Accepted b) e = (given-pass rows (boards l counts ∷ []) e, given-one rows b (boards l counts) e)
+    abbrev results : List ℕ
+    results = boardsAndCost (jobOf ws) l counts
+
+    tested-by : (a : PlanAnswer) → saysOf a ≡ answer rows results → Tested a l (jobOf ws) counts
+    tested-by (Accepted b c) e =
+        let q : rows ≡ pass = given-pass rows results e in
+        let v : given (b ∷ c ∷ []) ≡ given results = rw q at e in
+        let x : b ≡ boards l counts = cc in
+        let y : c ≡ planCost (jobOf ws) l counts = cc in
+        (q, (x, y))
     tested-by (Refused number place) e = tt
 
     -- 10, 11 and 12
     pub told-tested :
         (a : PlanAnswer)
         → length (jobOf ws .items) ≤ maxTypes
+        → 1 ≤ l .sizes
         → length (l .plates) ≤ maxPlates
-        → saysOf a ≡ answer rows (boards l counts ∷ [])
+        → saysOf a ≡ answer rows results
         → PlanTold l ws counts p a
-    told-tested a i j e =
-        let says : (first : ℕ) (rs : List Counted) → PlanKept l first rs p counts → saysOf a ≡ answer (linesRow (jobOf ws) l first rs) (boards l (planCounts l rs) ∷ []) =
-        λ first rs kept. rw (rows-kept first rs kept, ← boards-kept first rs kept) e in
+    told-tested a i z j e =
+        let says : (first : ℕ) (rs : List Counted) → PlanKept l first rs p counts → saysOf a ≡ answer (linesRow (jobOf ws) l first rs) (boardsAndCost (jobOf ws) l (planCounts l rs)) =
+        λ first rs kept. rw (rows-kept first rs kept, ← boards-kept first rs kept, ← cost-kept first rs kept) e in
         record {
           says = says;
           fits = λ first rs kept.
               let c : rows ≡ planRow (jobOf ws) l counts = rows-pass first rs kept in
-              rw (e, c) (near-answer (planRow (jobOf ws) l counts) (boards l counts ∷ []) (near-plan (jobOf ws) l counts i j));
+              rw (e, c) (near-answer (planRow (jobOf ws) l counts) results (near-plan (jobOf ws) l counts i z j));
           tested = tested-by a e;
         }
       where

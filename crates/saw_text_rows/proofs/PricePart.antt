@@ -1,5 +1,5 @@
 -- The prices row of a saw text by what is kept of its lines 4, 5 and 6.
-use Prim.Native.Nat.{ℕ, _+_, _-_, _≤_}
+use Prim.Native.Nat.{ℕ, _+_, _-_}
 use native.Mathlib.Omega.{arith}
 use mathlib.Core.Path.{_≡_, refl, sym, ap, _∙_}
 use mathlib.Core.Bool.{Bool, true, false, not, _||_}
@@ -31,41 +31,46 @@ or-last false = refl
 abbrev pub results : Job → Option PriceLines → List ℕ
 results job o = sumGiven job o ∷ denominatorGiven job o ∷ []
 
-module _ (job : Job) (l : Listing) (ps : PriceLines) (p : CodePrices) (buffer : List ℕ) (n m : ℕ) (items : length (job .items) ≡ n) (types : length (l .plates) ≡ m) (g : PricesGiven ps p buffer) where
+module _ (job : Job) (l : Listing) (ps : PriceLines) (p : CodePrices) (buffer : List ℕ) (t n m : ℕ) (items : length (job .items) ≡ n) (sizes : l .sizes ≡ t) (types : length (l .plates) ≡ m) (g : PricesGiven ps p buffer) where
+  -- the residual types are all plate types but the sizes
+  residuals-are : residualTypes l ≡ m - t
+  unfolding residualTypes
+  residuals-are = omega (arith, sizes, types)
+
   -- 13: another n
   pub other-types : (p .types .0 ≡ n → ⊥) → refused 13 0 ≡ answer (priceLinesRow job l (some ps)) (results job (some ps))
   unfolding priceLinesRow modelSized
   other-types h = rw (ne-eqb (ps .types) (length (job .items)) (λ e. h (g .types ∙ e ∙ items)))
 
   -- 13: another m
-  pub other-residuals : (p .residuals ≡ m - 1 → ⊥) → refused 13 0 ≡ answer (priceLinesRow job l (some ps)) (results job (some ps))
-  unfolding priceLinesRow modelSized residualTypes
+  pub other-residuals : (p .residuals ≡ m - t → ⊥) → refused 13 0 ≡ answer (priceLinesRow job l (some ps)) (results job (some ps))
+  unfolding priceLinesRow modelSized
   other-residuals h =
-      rw (ne-eqb (ps .residuals) (length (l .plates) - 1) (λ e. h (g .residuals ∙ e ∙ ap (λ (k : ℕ). k - 1) types)), or-last (not (eqb (ps .types) (length (job .items)))))
+      rw (ne-eqb (ps .residuals) (residualTypes l) (λ e. h (g .residuals ∙ e ∙ residuals-are)), or-last (not (eqb (ps .types) (length (job .items)))))
 
-  module _ (some-plate : 1 ≤ m) (t : p .types .0 ≡ n) (r : p .residuals ≡ m - 1) where
+  module _ (te : p .types .0 ≡ n) (r : p .residuals ≡ m - t) where
     -- both are the model's
     sized : modelSized job l (ps .types) (ps .residuals) ≡ pass
-    unfolding modelSized residualTypes
+    unfolding modelSized
     sized =
-        rw (eq-eqb (ps .types) (length (job .items)) (sym (g .types) ∙ t ∙ sym items), eq-eqb (ps .residuals) (length (l .plates) - 1) (sym (g .residuals) ∙ r ∙ ap (λ (k : ℕ). k - 1) (sym types)))
+        rw (eq-eqb (ps .types) (length (job .items)) (sym (g .types) ∙ te ∙ sym items), eq-eqb (ps .residuals) (residualTypes l) (sym (g .residuals) ∙ r ∙ sym residuals-are))
 
     -- the price words are the first words of the buffer
-    words-are : take (n + m) buffer ≡ ps .words
-    words-are = held-take (n + m) (g .size ∙ omega (arith, g .types, g .residuals)) (g .words)
+    words-are : take (1 + n + (m - t)) buffer ≡ ps .words
+    words-are = held-take (1 + n + (m - t)) (g .size ∙ omega (arith, g .types, g .residuals)) (g .words)
 
-    pub words-pass : {number place : ℕ} → refuse number place ≡ priceWords (take (n + m) buffer) → ⊥
+    pub words-pass : {number place : ℕ} → refuse number place ≡ priceWords (take (1 + n + (m - t)) buffer) → ⊥
     words-pass e = pass-not-refuse (ap priceWords words-are ∙ g .passed) (sym e)
 
     -- 14
     pub rows-given :
         {a : Answer}
-        → a ≡ answer (pricesSized job l (take (n + m) buffer) then pricesRow l (pricesOf job (take (n + m) buffer))) (sumAndD job (take (n + m) buffer))
+        → a ≡ answer (pricesSized job l (take (1 + n + (m - t)) buffer) then pricesRow job l (pricesOf job (take (1 + n + (m - t)) buffer))) (sumAndD job (take (1 + n + (m - t)) buffer))
         → a ≡ answer (priceLinesRow job l (some ps)) (results job (some ps))
     unfolding priceLinesRow sumGiven denominatorGiven
     rows-given e =
         e
-        ∙ ap (λ (ws : List ℕ). answer (pricesSized job l ws then pricesRow l (pricesOf job ws)) (sumAndD job ws)) words-are
+        ∙ ap (λ (ws : List ℕ). answer (pricesSized job l ws then pricesRow job l (pricesOf job ws)) (sumAndD job ws)) words-are
         ∙ rw (model-sized job l (ps .types) (ps .residuals) (ps .words) (g .size) sized, sized)
 
 -- whether there is a line 4

@@ -33,9 +33,6 @@ module _ (ws plates cuts counts : List ℕ) (k : ℕ) (lent : ModelLent ws plate
       omega (arith, u .pieces, feasible .few)
 
   module _ (used pieces left : ℕ) (done : given (used ∷ pieces ∷ left ∷ []) ≡ given (results ws counts)) where
-    used-is : used ≡ unfoldingOf ws counts .last .turn .board
-    used-is = cc
-
     pieces-are : pieces ≡ length (unfoldingOf ws counts .placements)
     pieces-are = cc
 
@@ -43,8 +40,8 @@ module _ (ws plates cuts counts : List ℕ) (k : ℕ) (lent : ModelLent ws plate
     pieces-fit = omega (arith, pieces-are, pieces-few)
 
     pub plan-written :
-        {out out′ placements : List ℕ} {n : ℕ} (sum d : ℕ)
+        {out out′ placements : List ℕ} {n : ℕ} (cost sum d : ℕ)
         → Holds placements (placementWords (unfoldingOf ws counts .placements))
-        → Wrote out 0 (flatMap placementLine (rowsOf (take (wordsOfPlacement * pieces) placements)) ++ summaryLine used sum d) n out′
-        → Wrote out 0 (flatMap placementLine (unfoldingOf ws counts .placements) ++ summaryLine (unfoldingOf ws counts .last .turn .board) sum d) n out′
-    plan-written sum d h w = rw (← used-is, ← held-rows (unfoldingOf ws counts .placements) pieces h (sym pieces-are)) w
+        → Wrote out 0 (flatMap placementLine (rowsOf (take (wordsOfPlacement * pieces) placements)) ++ summaryLine cost sum d) n out′
+        → Wrote out 0 (flatMap placementLine (unfoldingOf ws counts .placements) ++ summaryLine cost sum d) n out′
+    plan-written cost sum d h w = rw (← held-rows (unfoldingOf ws counts .placements) pieces h (sym pieces-are)) w

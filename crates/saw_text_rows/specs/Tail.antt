@@ -2,7 +2,7 @@
 use Prim.Native.Nat.{ℕ, _+_, _<_}
 use mathlib.Core.Path.{_≡_}
 use mathlib.Core.Bool.{true, false}
-use mathlib.Core.List.{List, [], _∷_}
+use mathlib.Core.List.{List}
 use mathlib.Core.Option.{Option, none, some}
 use lib.ListN.{length}
 use Rattle.job.specs.Verdict.{Verdict, pass, _then_}
@@ -10,8 +10,9 @@ use Rattle.job.specs.Buffers.{Answer, given, refused, answer}
 use Rattle.job.specs.Job.{Job, jobOf}
 use Rattle.listing.specs.Listing.{Listing, listingOf}
 use Rattle.listing.specs.Holds.{Holds}
-use Rattle.plan.specs.Plan.{countsRow, planRow, boards}
+use Rattle.plan.specs.Plan.{boards, planCost, countsRow, planRow}
 use Rattle.plan.specs.Prices.{priceWords}
+use Rattle.plan.specs.PlanCall.{boardsAndCost}
 use Rattle.plan_test.specs.declared.plan_row.PlanAnswer.{PlanAnswer}
 use Rattle.plan_test.specs.declared.plan_row.PlanAnswer.the-variants.{Accepted, Refused}
 use Rattle.plan_test.specs.PlanSays.{saysOf}
@@ -46,9 +47,9 @@ abbrev pub PlaceFits : Answer → Type 0
 PlaceFits (given results) = Unit {0}
 PlaceFits (refused number place) = place < placeLimit
 
--- what is known of an accepted plan: its counts, as words, pass their rows, and open that many boards
+-- what is known of an accepted plan: its counts, as words, pass their rows, open that many boards, and these cost so much (request Six)
 abbrev pub Tested : PlanAnswer → Listing → Job → List ℕ → Type 0
-Tested (Accepted b) l job counts = ((countsRow l counts then planRow job l counts) ≡ pass) × (b ≡ boards l counts)
+Tested (Accepted b c) l job counts = ((countsRow l counts then planRow job l counts) ≡ pass) × ((b ≡ boards l counts) × (c ≡ planCost job l counts))
 Tested (Refused number place) l job counts = Unit {0}
 
 -- what the code says of the lines 3 that it keeps, of a job with the words ws
@@ -56,7 +57,7 @@ pub record PlanTold (l : Listing) (ws counts : List ℕ) (p : PlanLines) (a : Pl
   pub says :
       (first : ℕ) (rs : List Counted)
       → PlanKept l first rs p counts
-      → saysOf a ≡ answer (linesRow (jobOf ws) l first rs) (boards l (planCounts l rs) ∷ [])
+      → saysOf a ≡ answer (linesRow (jobOf ws) l first rs) (boardsAndCost (jobOf ws) l (planCounts l rs))
   pub fits : (first : ℕ) (rs : List Counted) → PlanKept l first rs p counts → PlaceFits (saysOf a)
   pub tested : Tested a l (jobOf ws) counts
 

@@ -10,6 +10,7 @@ pub fn may_end(place: Place) -> bool
 {
     match place {
         Place::First => false,
+        Place::Sizes(_) => false,
         Place::Types(_) => false,
         Place::Body => true,
         Place::ItemPrices(_) => false,

@@ -5,6 +5,7 @@ ghost use lib.ListN.{length};
 ghost use Rattle.listing.specs.Listing.{Listing};
 ghost use Rattle.listing.specs.CutRead.{cutsRead, Lent};
 ghost use Rattle.saw_text_rows.specs.Tail.{PlanTold};
+use job::counters::BoardSizes;
 use job::counters::CutNumber;
 use job::counters::ItemType;
 use job::counters::PlateTypes;
@@ -17,15 +18,16 @@ use saw_text_body::plan_lines::PlanLines;
 pub fn plan_row_of_text(
     plan: PlanLines,
     job: &[u16],
+    t: BoardSizes,
     n: ItemType,
     cuts: &[u16],
     m: PlateTypes,
     k: CutNumber,
     counts: &[u16],
 ) -> PlanAnswer
-    requires { ⌜ Lent (now job) (now cuts) (n .0) (m .0) (k .0) ⌝ }
-    requires { ⌜ k .0 ≤ length (now counts) ⌝ }
-    ensures { λ a. ⌜ ((l : Listing) → length (l .plates) ≡ m .0 → l .cuts ≡ cutsRead (k .0) (now (cuts .entry)) → PlanTold l (now (job .entry)) (now (counts .entry)) plan a) ⌝ }
+    requires { ⌜ Lent (now job) (now cuts) (t .0) (n .0) (m .0) (k .0) ⌝ }
+    requires { ⌜ (1 ≤ t .0) × (k .0 ≤ length (now counts)) ⌝ }
+    ensures { λ a. ⌜ ((l : Listing) → l .sizes ≡ t .0 → length (l .plates) ≡ m .0 → l .cuts ≡ cutsRead (k .0) (now (cuts .entry)) → PlanTold l (now (job .entry)) (now (counts .entry)) plan a) ⌝ }
 {
     if plan.unnamed != 0 {
         return PlanAnswer::Refused(8, plan.unnamed as usize);
@@ -36,5 +38,5 @@ pub fn plan_row_of_text(
     if plan.fallen != 0 {
         return PlanAnswer::Refused(9, plan.fallen as usize);
     }
-    plan_rows(job, n, cuts, m, k, counts)
+    plan_rows(job, t, n, cuts, m, k, counts)
 }

@@ -15,6 +15,7 @@ ghost use Rattle.texts.specs.SawText.{priceLinesRow};
 ghost use Rattle.texts.specs.SawText.{PriceLines as Lines456};
 ghost use Rattle.texts_writing.specs.Wrote.{sumGiven, denominatorGiven};
 ghost use Rattle.saw_text_rows.specs.Tail.{PricesGiven, PricesEnd};
+use job::counters::BoardSizes;
 use job::counters::CutNumber;
 use job::counters::ItemType;
 use job::counters::PlateTypes;
@@ -28,26 +29,28 @@ use saw_text_body::price_lines::PriceLines;
 fn prices_given(
     lines: PriceLines,
     job: &[u16],
+    t: BoardSizes,
     n: ItemType,
     cuts: &[u16],
     m: PlateTypes,
     k: CutNumber,
     prices: &[u16],
 ) -> PriceAnswer
-    requires { ⌜ Lent (now job) (now cuts) (n .0) (m .0) (k .0) ⌝ }
-    requires { ⌜ (1 ≤ m .0) × ((jobWords (now job) ≡ pass) × (pricesSize ≤ length (now prices))) ⌝ }
-    ensures { λ a. ⌜ ((l : Listing) (ps : Lines456) → length (l .plates) ≡ m .0 → l .cuts ≡ cutsRead (k .0) (now (cuts .entry)) → PricesGiven ps lines (now (prices .entry)) → saysOf a ≡ answer (priceLinesRow (jobOf (now (job .entry))) l (some ps)) (sumGiven (jobOf (now (job .entry))) (some ps) ∷ denominatorGiven (jobOf (now (job .entry))) (some ps) ∷ [])) ⌝ }
+    requires { ⌜ Lent (now job) (now cuts) (t .0) (n .0) (m .0) (k .0) ⌝ }
+    requires { ⌜ (jobWords (now job) ≡ pass) × (pricesSize ≤ length (now prices)) ⌝ }
+    ensures { λ a. ⌜ ((l : Listing) (ps : Lines456) → l .sizes ≡ t .0 → length (l .plates) ≡ m .0 → l .cuts ≡ cutsRead (k .0) (now (cuts .entry)) → PricesGiven ps lines (now (prices .entry)) → saysOf a ≡ answer (priceLinesRow (jobOf (now (job .entry))) l (some ps)) (sumGiven (jobOf (now (job .entry))) (some ps) ∷ denominatorGiven (jobOf (now (job .entry))) (some ps) ∷ [])) ⌝ }
 {
     if lines.types.0 != n.0 {
         return PriceAnswer::Refused(13, 0);
     }
-    if lines.residuals != m.residuals() {
+    let residuals = m.residuals(t);
+    if lines.residuals != residuals {
         return PriceAnswer::Refused(13, 0);
     }
-    let size = n.0 as usize + m.0 as usize;
+    let size = 1 + n.0 as usize + residuals as usize;
     match price_words(&prices[..size]) {
         Row::Refuses(number, place) => PriceAnswer::Refused(number, place),
-        Row::Passes => price_rows(job, n, cuts, m, k, &prices[..size]),
+        Row::Passes => price_rows(job, t, n, cuts, m, k, &prices[..size]),
     }
 }
 
@@ -55,18 +58,19 @@ fn prices_given(
 pub fn prices_of_text(
     lines: PriceLines,
     job: &[u16],
+    t: BoardSizes,
     n: ItemType,
     cuts: &[u16],
     m: PlateTypes,
     k: CutNumber,
     prices: &[u16],
 ) -> PriceAnswer
-    requires { ⌜ Lent (now job) (now cuts) (n .0) (m .0) (k .0) ⌝ }
-    requires { ⌜ (1 ≤ m .0) × ((jobWords (now job) ≡ pass) × (pricesSize ≤ length (now prices))) ⌝ }
-    ensures { λ a. ⌜ ((l : Listing) (o : Option Lines456) → length (l .plates) ≡ m .0 → l .cuts ≡ cutsRead (k .0) (now (cuts .entry)) → PricesEnd o lines (now (prices .entry)) → saysOf a ≡ answer (priceLinesRow (jobOf (now (job .entry))) l o) (sumGiven (jobOf (now (job .entry))) o ∷ denominatorGiven (jobOf (now (job .entry))) o ∷ [])) ⌝ }
+    requires { ⌜ Lent (now job) (now cuts) (t .0) (n .0) (m .0) (k .0) ⌝ }
+    requires { ⌜ (jobWords (now job) ≡ pass) × (pricesSize ≤ length (now prices)) ⌝ }
+    ensures { λ a. ⌜ ((l : Listing) (o : Option Lines456) → l .sizes ≡ t .0 → length (l .plates) ≡ m .0 → l .cuts ≡ cutsRead (k .0) (now (cuts .entry)) → PricesEnd o lines (now (prices .entry)) → saysOf a ≡ answer (priceLinesRow (jobOf (now (job .entry))) l o) (sumGiven (jobOf (now (job .entry))) o ∷ denominatorGiven (jobOf (now (job .entry))) o ∷ [])) ⌝ }
 {
     if lines.given {
-        return prices_given(lines, job, n, cuts, m, k, prices);
+        return prices_given(lines, job, t, n, cuts, m, k, prices);
     }
     PriceAnswer::Accepted(0, 1)
 }

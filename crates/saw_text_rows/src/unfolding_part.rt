@@ -7,7 +7,6 @@ ghost use Rattle.job.specs.Verdict.{pass, _then_};
 ghost use Rattle.job.specs.Sizes.{countsSize, placementsSize};
 ghost use Rattle.listing.specs.Holds.{Holds};
 ghost use Rattle.plan.specs.Plan.{countsRow, planRow};
-ghost use Rattle.plan.specs.Plan.{boards as boardsOf};
 ghost use Rattle.layouts.specs.Placement.{placementWords};
 ghost use Rattle.layouts.specs.UnfoldCall.{unfoldingOf};
 ghost use Rattle.layouts.specs.Demand3.{J, L};
@@ -20,7 +19,7 @@ use unfold_call::call::Unfolded;
 use unfold_call::call::unfold_plan;
 use unfold_offcut::Lengths;
 
-// Unfolds an accepted plan, which opens a number of boards, over a listing of k cuts, and writes its lines 7 and line 8; their end is handed back. A saw
+// Unfolds an accepted plan, whose boards cost so much, over a listing of k cuts, and writes its lines 7 and line 8; their end is handed back. A saw
 // text lists no offcut, so the list that is lent has no room for any.
 pub fn write_plan(
     job: &[u16],
@@ -28,7 +27,7 @@ pub fn write_plan(
     plates: &[u16],
     cuts: &[u16],
     k: CutNumber,
-    boards: u16,
+    cost: u32,
     sum: u32,
     d: u16,
     placements: &mut [u16],
@@ -36,9 +35,8 @@ pub fn write_plan(
 ) -> usize
     requires { ⌜ ModelLent (now job) (now plates) (now cuts) (k .0) ⌝ }
     requires { ⌜ (countsSize ≤ length (now counts)) × ((countsRow (L (now job)) (now counts) then planRow (J (now job)) (L (now job)) (now counts)) ≡ pass) ⌝ }
-    requires { ⌜ boards ≡ boardsOf (L (now job)) (now counts) ⌝ }
     requires { ⌜ (Holds (now placements) []) × ((placementsSize ≤ length (now placements)) × (longestSaw ≤ length (now out))) ⌝ }
-    ensures { λ r. ⌜ Wrote (now (out .entry)) 0 (flatMap placementLine (unfoldingOf (now (job .entry)) (now (counts .entry)) .placements) ++ summaryLine (unfoldingOf (now (job .entry)) (now (counts .entry)) .last .turn .board) sum d) r (now (out .exit)) ⌝ }
+    ensures { λ r. ⌜ Wrote (now (out .entry)) 0 (flatMap placementLine (unfoldingOf (now (job .entry)) (now (counts .entry)) .placements) ++ summaryLine cost sum d) r (now (out .exit)) ⌝ }
     ensures { λ _. ⌜ Holds (now (placements .exit)) (placementWords (unfoldingOf (now (job .entry)) (now (counts .entry)) .placements)) ⌝ }
 {
     let lengths = Lengths {
@@ -52,14 +50,13 @@ pub fn write_plan(
         plates,
         cuts,
         k,
-        boards,
         lengths,
         placements,
         &mut unlisted,
     ) {
         Unfolded::Refused(_, _) => 0,
-        Unfolded::Done(used, pieces, _) => {
-            write_unfolding(out, placements, pieces as usize, used, sum, d)
+        Unfolded::Done(_, pieces, _) => {
+            write_unfolding(out, placements, pieces as usize, cost, sum, d)
         }
     }
 }

@@ -48,7 +48,7 @@ module _ (ws plates cuts : List ℕ) (job : jobWords ws ≡ pass) (p : platesSiz
       ≡ (admission (jobOf ws)
       then modelRow (jobOf ws)
       then pricesSized (jobOf ws) (listingOf (jobOf ws)) prices
-      then pricesRow (listingOf (jobOf ws)) (pricesOf (jobOf ws) prices))
+      then pricesRow (jobOf ws) (listingOf (jobOf ws)) (pricesOf (jobOf ws) prices))
   unfolding priceVerdict
   price-call prices h = rw (job, h, sized-full 1 platesSize plates p, sized-full 2 cutsSize cuts c)
 
@@ -102,7 +102,7 @@ plan-filled size job l ns h =
     λ m.
     refuseIf (ltb maxPieces (sum m)) 10 0
     then lowest 11 (λ i it. ltb (each (ofItem i) m) (it .demand)) 1 (job .items)
-    then lowest 12 (λ j p. ltb (each (leavesPlate j) m) (each (onPlate j) m)) 1 (drop 1 (l .plates))
+    then lowest 12 (λ j p. ltb (each (leavesPlate j) m) (each (onPlate j) m)) (l .sizes) (drop (l .sizes) (l .plates))
 
 -- no nonzero word past the last cut
 pub counts-filled : (size : ℕ) (l : Listing) (ns : List ℕ) → length ns ≡ length (l .cuts) → countsRow l (filled size ns) ≡ pass
@@ -179,6 +179,6 @@ module _ (s : Saw) (h : SawWhole s) (a : Accepted s) (plates cuts : List ℕ) (p
       let l : Listing = listingOf (jobOf (s .job)) in
       let w : PricesHeld (s .place) (some ps) = rw e at (h .prices) in
       let q : priceLinesRow (jobOf (s .job)) l (some ps) ≡ pass = rw e at (a .prices) in
-      let r = then-pass (modelSized (jobOf (s .job)) l (ps .types) (ps .residuals)) (pricesRow l (pricesOf (jobOf (s .job)) (ps .words))) q in
+      let r = then-pass (modelSized (jobOf (s .job)) l (ps .types) (ps .residuals)) (pricesRow (jobOf (s .job)) l (pricesOf (jobOf (s .job)) (ps .words))) q in
       price-call (s .job) plates cuts (h .job) p c (ps .words) (w .1 .words)
       ∙ rw (a .admitted, a .listed, model-sized (jobOf (s .job)) l (ps .types) (ps .residuals) (ps .words) (w .1 .size) (r .0)) (r .1)

@@ -11,8 +11,8 @@ use Rattle.job.specs.Job.{Job, maxPieces, jobOf, admission}
 use Rattle.job.proofs.Verdicts.{pass-not-refuse}
 use Rattle.job.proofs.CodeEnds.{then-pass}
 use Rattle.listing.specs.Listing.{modelRow}
-use Rattle.layouts.specs.Layout.{Strip, Board, stripHeight}
-use Rattle.layouts.specs.Placement.{Turn, turn, Placement, itemsOfStrip, itemsOfBoard, linesOf}
+use Rattle.layouts.specs.Layout.{Strip, Board, Sheet, sheet, stripHeight}
+use Rattle.layouts.specs.Placement.{opened, Turn, turn, Placement, itemsOfStrip, itemsOfBoard, linesOf}
 use Rattle.layouts.specs.Lines.{rowsOf, sameTurn, follows, inTurn, turns, grouped}
 use Rattle.layouts.specs.LayoutsRow.{Laid, laidAt, laidBoard, laidSet, lowestStrip, breaksStage, pastBoard, positioned, lacks, layoutsRow}
 use Rattle.layouts.specs.FoldCall.{foldVerdict}
@@ -38,7 +38,7 @@ in-turn-any k j t (r ∷ rs) h = go (follows t (r .turn)) h (in-turn-any (suc k)
 turns-any : (k j : ℕ) (rs : List Placement) → turns k rs ≡ pass → turns j rs ≡ pass
 unfolding turns
 turns-any k j [] h = refl
-turns-any k j (r ∷ rs) h = go (sameTurn (r .turn) (turn 1 1 1 1)) h
+turns-any k j (r ∷ rs) h = go (sameTurn (r .turn) (turn (opened 1 (r .turn .board .size)) 1 1 1)) h
   where
     go :
         (b : Bool)
@@ -48,36 +48,36 @@ turns-any k j (r ∷ rs) h = go (sameTurn (r .turn) (turn 1 1 1 1)) h
     go false h = absurd (pass-not-refuse h refl)
 
 -- 16 and 17: a test of strips that does not look at their lines
-module _ (number : ℕ) (bad : Laid → Bool) (same : (k j y : ℕ) (s : Strip) → bad (laidAt k y s) ≡ bad (laidAt j y s)) (job : Job) where
+module _ (number : ℕ) (bad : Laid → Bool) (same : (z k j y : ℕ) (s : Strip) → bad (laidAt z k y s) ≡ bad (laidAt z j y s)) (job : Job) where
   board-any :
-      (k j y : ℕ) (b : Board) (us vs : List Laid)
-      → lowestStrip number bad (laidBoard job k y b ++ us) ≡ pass
+      (z k j y : ℕ) (b : Board) (us vs : List Laid)
+      → lowestStrip number bad (laidBoard job z k y b ++ us) ≡ pass
       → (lowestStrip number bad us ≡ pass → lowestStrip number bad vs ≡ pass)
-      → lowestStrip number bad (laidBoard job j y b ++ vs) ≡ pass
+      → lowestStrip number bad (laidBoard job z j y b ++ vs) ≡ pass
   unfolding laidBoard lowestStrip
-  board-any k j y [] us vs h f = f h
-  board-any k j y (s ∷ ss) us vs h f =
+  board-any z k j y [] us vs h f = f h
+  board-any z k j y (s ∷ ss) us vs h f =
       let n : ℕ = length (itemsOfStrip s) in
-      go (bad (laidAt k y s)) refl h (λ p. board-any (k + n) (j + n) (y + stripHeight job s + job .blade) ss us vs p f)
+      go (bad (laidAt z k y s)) refl h (λ p. board-any z (k + n) (j + n) (y + stripHeight job s + job .blade) ss us vs p f)
     where
       rest : ℕ → List Laid → List Laid
-      rest i ts = laidBoard job (i + length (itemsOfStrip s)) (y + stripHeight job s + job .blade) ss ++ ts
+      rest i ts = laidBoard job z (i + length (itemsOfStrip s)) (y + stripHeight job s + job .blade) ss ++ ts
 
       go :
           (t : Bool)
-          → bad (laidAt k y s) ≡ t
+          → bad (laidAt z k y s) ≡ t
           → elim t [ true ↦ refuse number k | false ↦ lowestStrip number bad (rest k us) ] ≡ pass
           → (lowestStrip number bad (rest k us) ≡ pass → lowestStrip number bad (rest j vs) ≡ pass)
-          → lowestStrip number bad (laidAt j y s ∷ rest j vs) ≡ pass
+          → lowestStrip number bad (laidAt z j y s ∷ rest j vs) ≡ pass
       go true e h ih = absurd (pass-not-refuse h refl)
-      go false e h ih = rw (same j k y s ∙ e, lowestStrip) (ih h)
+      go false e h ih = rw (same z j k y s ∙ e, lowestStrip) (ih h)
 
-  set-any : (k j : ℕ) (bs : List Board) → lowestStrip number bad (laidSet job k bs) ≡ pass → lowestStrip number bad (laidSet job j bs) ≡ pass
+  set-any : (k j : ℕ) (bs : List Sheet) → lowestStrip number bad (laidSet job k bs) ≡ pass → lowestStrip number bad (laidSet job j bs) ≡ pass
   unfolding laidSet
   set-any k j [] h = h
-  set-any k j (b ∷ bs) h =
+  set-any k j (sheet z b ∷ bs) h =
       let n : ℕ = length (itemsOfBoard b) in
-      board-any k j 0 b (laidSet job (k + n) bs) (laidSet job (j + n) bs) h (set-any (k + n) (j + n) bs)
+      board-any z k j 0 b (laidSet job (k + n) bs) (laidSet job (j + n) bs) h (set-any (k + n) (j + n) bs)
 
 -- 18
 positioned-any : (k j : ℕ) (rs ps : List Placement) → positioned k rs ps ≡ pass → positioned j rs ps ≡ pass
@@ -103,8 +103,8 @@ layouts-any k j job rs h =
     let c = then-pass (lowestStrip 16 (breaksStage job) (laidSet job k (grouped rs))) _ (b .1) in
     let d = then-pass (lowestStrip 17 (pastBoard job) (laidSet job k (grouped rs))) _ (c .1) in
     let e = then-pass (positioned k rs (linesOf job (grouped rs))) (lowest 11 (lacks rs) 1 (job .items)) (d .1) in
-    let stage = set-any 16 (breaksStage job) (λ i i′ y s. refl) job k j (grouped rs) (c .0) in
-    let past = set-any 17 (pastBoard job) (λ i i′ y s. refl) job k j (grouped rs) (d .0) in
+    let stage = set-any 16 (breaksStage job) (λ z i i′ y s. refl) job k j (grouped rs) (c .0) in
+    let past = set-any 17 (pastBoard job) (λ z i i′ y s. refl) job k j (grouped rs) (d .0) in
     let position = positioned-any k j rs (linesOf job (grouped rs)) (e .0) in
     rw (a .0, turns-any k j rs (b .0), stage, past, position) (e .1)
 

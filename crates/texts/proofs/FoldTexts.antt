@@ -10,26 +10,27 @@ use Rattle.job.specs.Verdict.{pass, lowest}
 use Rattle.job.specs.Job.{permitted, jobOf}
 use Rattle.job.proofs.Positions.{type-of, turn-of}
 use Rattle.job.proofs.Tests.{not-both}
-use Rattle.layouts.specs.Placement.{Placement, placementWords, placementOf}
+use Rattle.layouts.specs.Placement.{opened, Placement, placementWords, placementOf}
 use Rattle.layouts.specs.Lines.{linesIn, rowsOf, layoutWords}
 use Rattle.layouts.specs.Rules.{Every}
 use Rattle.layouts.proofs.row.RowWords.{RowOk}
 use Rattle.columns.specs.Widths.{mostNumbers}
 use Rattle.texts.specs.Shape.{layoutLine}
-use Rattle.texts.specs.JobLines.{Place, first, types, body, itemPrices, platePrices, done, typesOf, afterType}
+use Rattle.texts.specs.JobLines.{Place, first, sizes, types, body, itemPrices, platePrices, done, boardSizes, typesOf, afterSize, afterType}
+use Rattle.texts.specs.SawText.{placementRow}
 use Rattle.texts.specs.FoldText.{Fold, foldAdmits, foldAfter, foldComplete, foldGrammar, foldOf}
 use Rattle.texts.specs.Admitted.{InLimits, OfShape, Admitted, Runs}
-use Rattle.texts.specs.TextOf.{jobRows, placementRow, foldRowsOf}
+use Rattle.texts.specs.TextOf.{jobRows, foldRowsOf}
 use Rattle.texts.specs.Held.{FoldWhole, FoldBothWays}
 use Rattle.texts.proofs.Lists.{map-append}
 use Rattle.texts.proofs.ShapeLaws.{narrow-layout, shape-fits, Kinds, Shorter}
 use Rattle.texts.proofs.Running.{Plain, runs-append, runs-keep}
 use Rattle.texts.proofs.WholeTexts.{both-ways}
-use Rattle.texts.proofs.JobLaws.{JobWhole, job-passes, passes-job, job-types, board-types}
-use Rattle.texts.proofs.JobText.{AtTypes, JobAt, first-read, types-read}
+use Rattle.texts.proofs.JobLaws.{JobWhole, job-passes, passes-job, job-types, job-sizes, board-types, board-sizes}
+use Rattle.texts.proofs.JobText.{AtSizes, AtTypes, JobAt, first-read, sizes-read, types-read}
 use Rattle.texts.proofs.JobRuns.{Opens, job-runs}
-use Rattle.texts.proofs.WordGroups.{eights}
-use Rattle.texts.proofs.LayoutRows.{rows-append, eight-words, words-again, rows-ok, words-more, ok-row}
+use Rattle.texts.proofs.WordGroups.{nines}
+use Rattle.texts.proofs.LayoutRows.{rows-append, nine-words, words-again, rows-ok, words-more, ok-row}
 
 -- ---- from lines to what they give
 
@@ -42,6 +43,7 @@ pub record LaidOut (rows : List (List ℕ)) (f : Fold) : Type 0 where
 -- by the place
 abbrev pub FoldForm : Place → List (List ℕ) → Fold → Type 0
 FoldForm first rows f = rows ≡ []
+FoldForm (sizes j) rows f = AtSizes j rows (f .job)
 FoldForm (types i) rows f = AtTypes i rows (f .job)
 FoldForm body rows f = LaidOut rows f
 FoldForm (itemPrices i) rows f = ⊥
@@ -56,6 +58,7 @@ FoldAt rows f = FoldForm (f .place) rows f
 from-job : (p : Place) (rows : List (List ℕ)) (ws : List ℕ) → JobAt p rows ws → FoldForm p rows (foldOf p ws [])
 unfolding foldRowsOf rowsOf linesIn layoutWords lowest
 from-job first rows ws j = j
+from-job (sizes i) rows ws j = j
 from-job (types i) rows ws j = j
 from-job body rows ws j = record { job = j .0; words = refl; lines = j .1 ∙ sym (append-nil (jobRows ws)) }
 from-job (itemPrices i) rows ws j = absurd j
@@ -64,21 +67,21 @@ from-job done rows ws j = absurd j
 
 -- one line 7 more
 layout-more :
-    (rows : List (List ℕ)) (ws us : List ℕ) (b s k p i x y t : ℕ)
+    (rows : List (List ℕ)) (ws us : List ℕ) (b j s k p i x y t : ℕ)
     → LaidOut rows (foldOf body ws us)
-    → InLimits (layoutLine ws .limits) (b ∷ s ∷ k ∷ p ∷ i ∷ x ∷ y ∷ t ∷ [])
+    → InLimits (layoutLine ws .limits) (b ∷ j ∷ s ∷ k ∷ p ∷ i ∷ x ∷ y ∷ t ∷ [])
     → permitted (jobOf ws) (2 * i + t) ≡ true
-    → LaidOut (rows ++ ((7 ∷ b ∷ s ∷ k ∷ p ∷ i ∷ x ∷ y ∷ t ∷ []) ∷ [])) (foldOf body ws (us ++ (b ∷ s ∷ k ∷ p ∷ i ∷ x ∷ y ∷ t ∷ [])))
+    → LaidOut (rows ++ ((7 ∷ b ∷ j ∷ s ∷ k ∷ p ∷ i ∷ x ∷ y ∷ t ∷ []) ∷ [])) (foldOf body ws (us ++ (b ∷ j ∷ s ∷ k ∷ p ∷ i ∷ x ∷ y ∷ t ∷ [])))
 unfolding foldRowsOf rowsOf linesIn placementRow
-layout-more rows ws us b s k p i x y t l h m =
-    let q : Placement = placementOf b s k p (2 * i + t) x y in
-    let vs : List ℕ = b ∷ s ∷ k ∷ p ∷ i ∷ x ∷ y ∷ t ∷ [] in
-    let size = eight-words (jobOf ws) us (l .words) in
-    let e : rowsOf (us ++ vs) ≡ rowsOf us ++ (q ∷ []) = rows-append (eights (length (rowsOf us)) us size) vs in
+layout-more rows ws us b j s k p i x y t l h m =
+    let q : Placement = placementOf (opened b j) s k p (2 * i + t) x y in
+    let vs : List ℕ = b ∷ j ∷ s ∷ k ∷ p ∷ i ∷ x ∷ y ∷ t ∷ [] in
+    let size = nine-words (jobOf ws) us (l .words) in
+    let e : rowsOf (us ++ vs) ≡ rowsOf us ++ (q ∷ []) = rows-append (nines (length (rowsOf us)) us size) vs in
     let row : placementRow q ≡ 7 ∷ vs = rw (type-of i t (omega arith), turn-of i t (omega arith)) in
     record {
       job = l .job;
-      words = words-more ws (job-types ws (l .job)) us b s k p i x y t (l .words) h m;
+      words = words-more ws (job-sizes ws (l .job)) (job-types ws (l .job)) (board-sizes ws (l .job .board) .0) us b j s k p i x y t (l .words) h m;
       lines =
           ap (λ (r : List (List ℕ)). r ++ ((7 ∷ vs) ∷ [])) (l .lines)
           ∙ append-assoc (jobRows ws) (map placementRow (rowsOf us)) ((7 ∷ vs) ∷ [])
@@ -91,23 +94,24 @@ layout-read :
     → LaidOut rows (foldOf body ws us)
     → OfShape (layoutLine ws) ns
     → LaidOut (rows ++ (ns ∷ [])) (foldOf body ws (us ++ drop 1 ns))
-layout-read rows ws us ns l o = rw (o .numbers) (eight (o .others) (o .limits) (o .turned))
+layout-read rows ws us ns l o = rw (o .numbers) (nine (o .others) (o .limits) (o .turned))
   where
-    eight :
+    nine :
         (vs : List ℕ)
         → InLimits (layoutLine ws .limits) vs
         → layoutLine ws .permits vs ≡ true
         → LaidOut (rows ++ ((7 ∷ vs) ∷ [])) (foldOf body ws (us ++ vs))
-    eight [] h m = absurd h
-    eight (a ∷ []) h m = absurd (h .2)
-    eight (a ∷ b ∷ []) h m = absurd (h .2 .2)
-    eight (a ∷ b ∷ c ∷ []) h m = absurd (h .2 .2 .2)
-    eight (a ∷ b ∷ c ∷ d ∷ []) h m = absurd (h .2 .2 .2 .2)
-    eight (a ∷ b ∷ c ∷ d ∷ e ∷ []) h m = absurd (h .2 .2 .2 .2 .2)
-    eight (a ∷ b ∷ c ∷ d ∷ e ∷ f ∷ []) h m = absurd (h .2 .2 .2 .2 .2 .2)
-    eight (a ∷ b ∷ c ∷ d ∷ e ∷ f ∷ g ∷ []) h m = absurd (h .2 .2 .2 .2 .2 .2 .2)
-    eight (a ∷ b ∷ c ∷ d ∷ e ∷ f ∷ g ∷ t ∷ []) h m = layout-more rows ws us a b c d e f g t l h m
-    eight (a ∷ b ∷ c ∷ d ∷ e ∷ f ∷ g ∷ t ∷ v ∷ vs) h m = absurd (h .2 .2 .2 .2 .2 .2 .2 .2)
+    nine [] h m = absurd h
+    nine (a ∷ []) h m = absurd (h .2)
+    nine (a ∷ b ∷ []) h m = absurd (h .2 .2)
+    nine (a ∷ b ∷ c ∷ []) h m = absurd (h .2 .2 .2)
+    nine (a ∷ b ∷ c ∷ d ∷ []) h m = absurd (h .2 .2 .2 .2)
+    nine (a ∷ b ∷ c ∷ d ∷ e ∷ []) h m = absurd (h .2 .2 .2 .2 .2)
+    nine (a ∷ b ∷ c ∷ d ∷ e ∷ f ∷ []) h m = absurd (h .2 .2 .2 .2 .2 .2)
+    nine (a ∷ b ∷ c ∷ d ∷ e ∷ f ∷ g ∷ []) h m = absurd (h .2 .2 .2 .2 .2 .2 .2)
+    nine (a ∷ b ∷ c ∷ d ∷ e ∷ f ∷ g ∷ u ∷ []) h m = absurd (h .2 .2 .2 .2 .2 .2 .2 .2)
+    nine (a ∷ b ∷ c ∷ d ∷ e ∷ f ∷ g ∷ u ∷ t ∷ []) h m = layout-more rows ws us a b c d e f g u t l h m
+    nine (a ∷ b ∷ c ∷ d ∷ e ∷ f ∷ g ∷ u ∷ t ∷ v ∷ vs) h m = absurd (h .2 .2 .2 .2 .2 .2 .2 .2 .2)
 
 fold-step :
     (p : Place) (ws us : List ℕ) (rows : List (List ℕ)) (ns : List ℕ)
@@ -115,8 +119,10 @@ fold-step :
     → Admitted (foldAdmits (foldOf p ws us)) ns
     → FoldAt (rows ++ (ns ∷ [])) (foldAfter (foldOf p ws us) ns)
 unfolding foldAdmits foldAfter
-fold-step first ws us rows ns h (inl a) = from-job (types 1) (rows ++ (ns ∷ [])) (drop 1 ns) (first-read rows ns h a)
+fold-step first ws us rows ns h (inl a) = from-job (sizes 0) (rows ++ (ns ∷ [])) (drop 1 ns) (first-read rows ns h a)
 fold-step first ws us rows ns h (inr a) = absurd a
+fold-step (sizes j) ws us rows ns h (inl a) = from-job (afterSize (boardSizes ws) j) (rows ++ (ns ∷ [])) (ws ++ drop 2 ns) (sizes-read j rows ws ns h a)
+fold-step (sizes j) ws us rows ns h (inr a) = absurd a
 fold-step (types i) ws us rows ns h (inl a) = from-job (afterType (typesOf ws) i) (rows ++ (ns ∷ [])) (ws ++ drop 2 ns) (types-read i rows ws ns h a)
 fold-step (types i) ws us rows ns h (inr a) = absurd a
 fold-step body ws us rows ns h (inl a) = layout-read rows ws us ns h a
@@ -136,20 +142,30 @@ fold-at rows f r =
 shapes : (p : Place) (ws us : List ℕ) → Kinds (foldAdmits (foldOf p ws us)) × Shorter (suc mostNumbers) (foldAdmits (foldOf p ws us))
 unfolding foldAdmits
 shapes first ws us = omega arith
+shapes (sizes j) ws us = omega arith
 shapes (types i) ws us = omega arith
 shapes body ws us = omega arith
 shapes (itemPrices i) ws us = (tt, tt)
 shapes (platePrices j) ws us = (tt, tt)
 shapes done ws us = (tt, tt)
 
--- each kind stands once among the lines admitted, and none has more than nine numbers
+-- each kind stands once among the lines admitted, and none has more than ten numbers
 pub fold-plain : Plain foldGrammar
 fold-plain = record { kinds = λ f. shapes (f .place) (f .job) (f .layouts) .0; short = λ f. shapes (f .place) (f .job) (f .layouts) .1 }
 
 -- a fold text begins with the job's lines
 pub fold-opens : Opens foldGrammar (λ p ws. foldOf p ws [])
 unfolding foldAdmits foldAfter
-fold-opens = record { start = refl; admits-first = refl; admits-types = λ i ws. refl; after-first = λ ns. refl; after-types = λ i ws ns. refl }
+fold-opens =
+    record {
+      start = refl;
+      admits-first = refl;
+      admits-sizes = λ j ws. refl;
+      admits-types = λ i ws. refl;
+      after-first = λ ns. refl;
+      after-sizes = λ j ws ns. refl;
+      after-types = λ i ws ns. refl;
+    }
 
 -- lines 7, each within its limits
 pub layouts-run :
@@ -161,9 +177,10 @@ unfolding foldAdmits foldAfter placementWords mathlib.Core.List.flatMap placemen
 layouts-run ws us [] j h = ap (foldOf body ws) (sym (append-nil us))
 layouts-run ws us (p ∷ ps) j h =
     let n = board-types ws (j .board) in
-    let shape = ok-row ws (job-types ws j) p (h .0) in (
+    let z = board-sizes ws (j .board) in
+    let shape = ok-row ws (job-sizes ws j) (job-types ws j) (z .0) p (h .0) in (
       inl shape,
-      shape-fits (layoutLine ws) (placementRow p) (narrow-layout ws (omega arith)) shape,
+      shape-fits (layoutLine ws) (placementRow p) (narrow-layout ws (omega arith) (omega arith)) shape,
       rw append-assoc at (layouts-run ws (us ++ drop 1 (placementRow p)) ps j (h .1)),
     )
 
@@ -188,6 +205,7 @@ complete-held :
     → FoldWhole (foldOf p ws us) × (rows ≡ foldRowsOf (foldOf p ws us))
 unfolding foldComplete
 complete-held first ws us rows h c = absurd (not-both c refl)
+complete-held (sizes j) ws us rows h c = absurd (not-both c refl)
 complete-held (types i) ws us rows h c = absurd (not-both c refl)
 complete-held body ws us rows h c = (
   record { place = refl; job = job-passes ws (h .job); layouts = h .words },

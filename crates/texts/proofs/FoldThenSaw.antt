@@ -30,12 +30,12 @@ use Rattle.texts.specs.Refused.{foldHolds, verdictOnFold}
 use Rattle.texts.specs.Rounds.{jobText, sawCounts, FoldThenSaw}
 use Rattle.texts.proofs.Lists.{bytesOf}
 use Rattle.texts.proofs.LinesIn.{lines-both-ways}
-use Rattle.texts.proofs.JobLaws.{JobWhole, passes-job, job-types, board-types}
+use Rattle.texts.proofs.JobLaws.{JobWhole, passes-job, job-types, board-types, board-sizes}
 use Rattle.texts.proofs.JobRows.{jobRows-size}
 use Rattle.texts.proofs.PlanRows.{planRows-size}
 use Rattle.texts.proofs.SawTexts.{saw-both-ways}
 use Rattle.texts.proofs.FoldTexts.{fold-both-ways}
-use Rattle.texts.proofs.Modelled.{admitted, sided}
+use Rattle.texts.proofs.Modelled.{admitted, sided, stocked}
 use Rattle.texts.proofs.Printed.{printed}
 use Rattle.texts.proofs.CountedPlan.{InRow, CutLimits, each-cut, counted-length, counted-limits, counted-named, counted-shown, counted-rising, counted-counts}
 use Rattle.texts.proofs.ShownPlates.{plate-fits}
@@ -56,7 +56,7 @@ module _ (f : Fold) (held : FoldWhole f) (a : FoldAccepted f) where
   s = sawOf body (f .job) (foldPlan f) none
 
   m : Model (J (f .job)) (L (f .job))
-  m = row-model (J (f .job)) (sided (f .job) (held .job) (a .admitted)) (a .listed)
+  m = row-model (J (f .job)) (sided (f .job) (held .job) (a .admitted)) (stocked (f .job) (held .job) (a .admitted)) (a .listed)
 
   j : JobWhole (f .job)
   j = passes-job (f .job) (held .job)
@@ -107,6 +107,7 @@ module _ (f : Fold) (held : FoldWhole f) (a : FoldAccepted f) where
         ap length (append-nil (planRows (foldPlan f))),
         jobRows-size (typesOf (f .job)) (f .job) (j .size) .0,
         board-types (f .job) (j .board),
+        board-sizes (f .job) (j .board),
         planRows-size (foldPlan f) .0,
         counted-length (plateAt (L (f .job))) (L (f .job) .cuts) (foldCounts f),
         m .few-cuts,

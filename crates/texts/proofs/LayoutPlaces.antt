@@ -9,10 +9,10 @@ use lib.Dec.{ltb, eqb}
 use lib.ListN.{length, length-append}
 use borrow.Author.Tests.{ltb-false}
 use Rattle.job.specs.Verdict.{Verdict, refuse, _then_, refuseIf, lowest}
-use Rattle.job.specs.Job.{Job, maxPieces, maxTypes, noItem}
+use Rattle.job.specs.Job.{Job, maxPieces, maxSizes, maxTypes, noItem}
 use Rattle.job.proofs.Verdicts.{refuseIf-pass}
-use Rattle.layouts.specs.Layout.{Board, stripHeight}
-use Rattle.layouts.specs.Placement.{Turn, turn, Placement, itemsOfStrip, itemsOfBoard, itemsOfSet, linesOf}
+use Rattle.layouts.specs.Layout.{Board, Sheet, sheet, stripsOf, stripHeight}
+use Rattle.layouts.specs.Placement.{opened, Turn, turn, Placement, itemsOfStrip, itemsOfBoard, itemsOfSet, linesOf}
 use Rattle.layouts.specs.Lines.{Level, stack, strip, board, sameTurn, follows, inTurn, turns, begun, inStrip, inBoard, inSet, beside, before, grouped}
 use Rattle.layouts.specs.LayoutsRow.{Laid, laidAt, laidBoard, laidSet, lowestStrip, breaksStage, pastBoard, positioned, lacks, layoutsRow}
 use Rattle.layouts.proofs.row.Grouping.{grouped-on, grouped-new}
@@ -38,7 +38,7 @@ near-in-turn k t (r ∷ rs) h = go (follows t (r .turn)) (near-in-turn (suc k) (
 near-turns : (k : ℕ) (rs : List Placement) → Lines k (length rs) → Near (turns k rs)
 unfolding turns
 near-turns k [] h = near-pass
-near-turns k (r ∷ rs) h = go (sameTurn (r .turn) (turn 1 1 1 1)) (near-in-turn (suc k) (r .turn) rs (omega arith))
+near-turns k (r ∷ rs) h = go (sameTurn (r .turn) (turn (opened 1 (r .turn .board .size)) 1 1 1)) (near-in-turn (suc k) (r .turn) rs (omega arith))
   where
     go : (b : Bool) → Near (inTurn (suc k) (r .turn) rs) → Near (elim b [ false ↦ refuse 15 k | true ↦ inTurn (suc k) (r .turn) rs ])
     go true n = n
@@ -56,20 +56,20 @@ near-positioned k (r ∷ rs) (p ∷ ps) h = go (eqb (r .x) (p .x) && eqb (r .y) 
     go false n = near-refuse 18 k (omega arith)
 
 -- a line lies in the set once
-items-in : (i : ℕ) (bs : List Board) → length (itemsOfSet (inSet i bs)) ≡ suc (length (itemsOfSet bs))
+items-in : (z i : ℕ) (bs : List Sheet) → length (itemsOfSet (inSet z i bs)) ≡ suc (length (itemsOfSet bs))
 unfolding itemsOfSet itemsOfBoard itemsOfStrip flatMap inSet inBoard inStrip
-items-in i [] = refl
-items-in i ([] ∷ bs) = refl
-items-in i (([] ∷ ss) ∷ bs) = refl
-items-in i (((k ∷ ks) ∷ ss) ∷ bs) = refl
+items-in z i [] = refl
+items-in z i (sheet j [] ∷ bs) = refl
+items-in z i (sheet j ([] ∷ ss) ∷ bs) = refl
+items-in z i (sheet j ((k ∷ ks) ∷ ss) ∷ bs) = refl
 
-items-before : (v : Level) (i : ℕ) (bs : List Board) → length (itemsOfSet (before v (i ∷ []) bs)) ≡ suc (length (itemsOfSet bs))
+items-before : (z : ℕ) (v : Level) (i : ℕ) (bs : List Sheet) → length (itemsOfSet (before z v (i ∷ []) bs)) ≡ suc (length (itemsOfSet bs))
 unfolding itemsOfSet itemsOfBoard itemsOfStrip flatMap before beside
-items-before v i [] = refl
-items-before stack i ([] ∷ bs) = refl
-items-before stack i ((s ∷ ss) ∷ bs) = refl
-items-before strip i (b ∷ bs) = refl
-items-before board i (b ∷ bs) = refl
+items-before z v i [] = refl
+items-before z stack i (sheet j [] ∷ bs) = refl
+items-before z stack i (sheet j (s ∷ ss) ∷ bs) = refl
+items-before z strip i (sheet j b ∷ bs) = refl
+items-before z board i (sheet j b ∷ bs) = refl
 
 -- the items of a set of lines are as many as the lines
 pub items-grouped : (rs : List Placement) → length (itemsOfSet (grouped rs)) ≡ length rs
@@ -78,8 +78,8 @@ items-grouped [] = refl
 items-grouped (r ∷ rs) = go (begun rs) refl (items-grouped rs)
   where
     go : (o : Option Level) → begun rs ≡ o → length (itemsOfSet (grouped rs)) ≡ length rs → length (itemsOfSet (grouped (r ∷ rs))) ≡ suc (length rs)
-    go none e h = ap (λ (bs : List Board). length (itemsOfSet bs)) (grouped-on r rs e) ∙ items-in (r .item) (grouped rs) ∙ ap suc h
-    go (some v) e h = ap (λ (bs : List Board). length (itemsOfSet bs)) (grouped-new r rs v e) ∙ items-before v (r .item) (grouped rs) ∙ ap suc h
+    go none e h = ap (λ (bs : List Sheet). length (itemsOfSet bs)) (grouped-on r rs e) ∙ items-in (r .turn .board .size) (r .item) (grouped rs) ∙ ap suc h
+    go (some v) e h = ap (λ (bs : List Sheet). length (itemsOfSet bs)) (grouped-new r rs v e) ∙ items-before (r .turn .board .size) v (r .item) (grouped rs) ∙ ap suc h
 
 -- 16 and 17
 module _ (number : ℕ) (bad : Laid → Bool) (job : Job) (table : (k : ℕ) → 1 ≤ k → k ≤ suc maxLines → InTable number k) where
@@ -92,32 +92,32 @@ module _ (number : ℕ) (bad : Laid → Bool) (job : Job) (table : (k : ℕ) →
       go false = n
 
   near-board :
-      (k y : ℕ) (b : Board) (us : List Laid)
+      (z k y : ℕ) (b : Board) (us : List Laid)
       → Lines k (length (itemsOfBoard b))
       → Near (lowestStrip number bad us)
-      → Near (lowestStrip number bad (laidBoard job k y b ++ us))
+      → Near (lowestStrip number bad (laidBoard job z k y b ++ us))
   unfolding laidBoard itemsOfBoard flatMap
-  near-board k y [] us h n = n
-  near-board k y (s ∷ ss) us h n =
+  near-board z k y [] us h n = n
+  near-board z k y (s ∷ ss) us h n =
       let e = length-append (itemsOfStrip s) (flatMap itemsOfStrip ss) in
       let k′ : ℕ = k + length (itemsOfStrip s) in
       let y′ : ℕ = y + stripHeight job s + job .blade in
-      near-strip (laidAt k y s) (laidBoard job k′ y′ ss ++ us) (table k (omega arith) (omega arith)) (near-board k′ y′ ss us (omega arith) n)
+      near-strip (laidAt z k y s) (laidBoard job z k′ y′ ss ++ us) (table k (omega arith) (omega arith)) (near-board z k′ y′ ss us (omega arith) n)
 
   near-none : Near (lowestStrip number bad [])
   unfolding lowestStrip
   near-none = near-pass
 
-  near-set : (k : ℕ) (bs : List Board) → Lines k (length (itemsOfSet bs)) → Near (lowestStrip number bad (laidSet job k bs))
+  near-set : (k : ℕ) (bs : List Sheet) → Lines k (length (itemsOfSet bs)) → Near (lowestStrip number bad (laidSet job k bs))
   unfolding laidSet itemsOfSet flatMap
   near-set k [] h = near-none
-  near-set k (b ∷ bs) h =
-      let e = length-append (itemsOfBoard b) (flatMap itemsOfBoard bs) in
+  near-set k (sheet z b ∷ bs) h =
+      let e = length-append (itemsOfBoard b) (flatMap (λ c. itemsOfBoard (stripsOf c)) bs) in
       let k′ : ℕ = k + length (itemsOfBoard b) in
-      near-board k 0 b (laidSet job k′ bs) (omega arith) (near-set k′ bs (omega arith))
+      near-board z k 0 b (laidSet job k′ bs) (omega arith) (near-set k′ bs (omega arith))
 
 -- the layouts row of lines numbered from k
-pub near-row : (k : ℕ) (job : Job) (rs : List Placement) → 1 ≤ k → k ≤ suc (suc maxTypes) → length (job .items) ≤ maxTypes → Near (layoutsRow k job rs)
+pub near-row : (k : ℕ) (job : Job) (rs : List Placement) → 1 ≤ k → k ≤ suc (suc (maxSizes + maxTypes)) → length (job .items) ≤ maxTypes → Near (layoutsRow k job rs)
 unfolding layoutsRow
 near-row k job rs low high few =
     near-then (refuseIf (ltb maxPieces (length rs)) 10 0) (turns k rs then stage then past then places then demands)

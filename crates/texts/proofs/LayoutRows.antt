@@ -1,5 +1,5 @@
 -- The lines 7 of layout words: one more of them, how many they are, how many bytes, and their limits as those of layout words.
-use Prim.Native.Nat.{ℕ, suc, _+_, _*_, _/_}
+use Prim.Native.Nat.{ℕ, suc, _+_, _*_, _/_, _≤_}
 use native.Mathlib.Omega.{arith}
 use mathlib.Core.Path.{_≡_, refl, ap, _∙_}
 use mathlib.Core.Bool.{true}
@@ -9,7 +9,7 @@ use Rattle.job.specs.Sizes.{wordsOfPlacement}
 use Rattle.job.specs.Verdict.{pass}
 use Rattle.job.specs.Job.{Job, typeOf, turnOf, permitted, jobOf}
 use Rattle.job.proofs.Positions.{type-turn, permitted-lies, lies-permitted}
-use Rattle.layouts.specs.Placement.{Placement, placementWords, placementOf}
+use Rattle.layouts.specs.Placement.{opened, Placement, placementWords, placementOf}
 use Rattle.layouts.specs.Lines.{Line, linesIn, rowsOf, layoutWords}
 use Rattle.layouts.specs.Rules.{Every, OfJob}
 use Rattle.layouts.proofs.lists.Every.{every-append, every-both, every-map, map-every}
@@ -17,10 +17,10 @@ use Rattle.layouts.proofs.row.RowLines.{lineOf, words-lines, words-rows, rows-w
 use Rattle.layouts.proofs.row.RowWords.{LineOk, RowOk, words-exact}
 use Rattle.texts.specs.Widths.{placementLineBytes}
 use Rattle.texts.specs.Shape.{layoutLine}
-use Rattle.texts.specs.JobLines.{typesOf}
+use Rattle.texts.specs.JobLines.{boardSizes, typesOf}
 use Rattle.texts.specs.Admitted.{InLimits, OfShape}
-use Rattle.texts.specs.TextOf.{placementRow}
-use Rattle.texts.proofs.WordGroups.{Eights, no-line, one-line, eights}
+use Rattle.texts.specs.SawText.{placementRow}
+use Rattle.texts.proofs.WordGroups.{Nines, no-line, one-line, nines}
 use Rattle.texts.proofs.Lists.{bytesOf, bytes-cons, map-append}
 
 -- the placement of a line
@@ -28,23 +28,23 @@ abbrev placed : Line → Placement
 placed r = r .placement
 
 -- one part of the words after another
-lines-append : {ws : List ℕ} {k : ℕ} → Eights ws k → (us : List ℕ) → linesIn (ws ++ us) ≡ linesIn ws ++ linesIn us
+lines-append : {ws : List ℕ} {k : ℕ} → Nines ws k → (us : List ℕ) → linesIn (ws ++ us) ≡ linesIn ws ++ linesIn us
 unfolding linesIn
 lines-append no-line us = refl
-lines-append (one-line {a = a} {b = b} {c = c} {d = d} {e = e} {f = f} {g = g} {h = h} s) us =
-    ap (λ (l : List Line). record { type = e; turned = h; placement = placementOf a b c d (2 * e + h) f g } ∷ l) (lines-append s us)
+lines-append (one-line {a = a} {b = b} {c = c} {d = d} {e = e} {f = f} {g = g} {h = h} {i = i} s) us =
+    ap (λ (l : List Line). record { type = f; turned = i; placement = placementOf (opened a b) c d e (2 * f + i) g h } ∷ l) (lines-append s us)
 
-pub rows-append : {ws : List ℕ} {k : ℕ} → Eights ws k → (us : List ℕ) → rowsOf (ws ++ us) ≡ rowsOf ws ++ rowsOf us
+pub rows-append : {ws : List ℕ} {k : ℕ} → Nines ws k → (us : List ℕ) → rowsOf (ws ++ us) ≡ rowsOf ws ++ rowsOf us
 unfolding rowsOf
 rows-append {ws} s us = ap (map placed) (lines-append s us) ∙ map-append placed (linesIn ws) (linesIn us)
 
--- a line for each eight words
-pub rows-length : {ws : List ℕ} {k : ℕ} → Eights ws k → length (rowsOf ws) ≡ k
+-- a line for each nine words
+pub rows-length : {ws : List ℕ} {k : ℕ} → Nines ws k → length (rowsOf ws) ≡ k
 unfolding rowsOf linesIn
 rows-length no-line = refl
 rows-length (one-line s) = ap suc (rows-length s)
 
--- as many lines as placements, of 82 bytes each
+-- as many lines as placements, of 91 bytes each
 pub placementRows-size :
     (ps : List Placement)
     → (length (map placementRow ps) ≡ length ps) × (length (bytesOf (map placementRow ps)) ≡ placementLineBytes * length ps)
@@ -57,11 +57,11 @@ placementRows-size (p ∷ ps) =
 -- ---- words that pass
 
 module _ (job : Job) (ws : List ℕ) (h : layoutWords job ws ≡ pass) where
-  -- eight words a line
-  pub eight-words : length ws ≡ wordsOfPlacement * length (rowsOf ws)
-  eight-words =
+  -- nine words a line
+  pub nine-words : length ws ≡ wordsOfPlacement * length (rowsOf ws)
+  nine-words =
       let e = words-exact job ws .0 h .0 in
-      omega (arith, rows-length (eights (length ws / wordsOfPlacement) ws (omega arith)))
+      omega (arith, rows-length (nines (length ws / wordsOfPlacement) ws (omega arith)))
 
   -- the words of their lines again
   pub words-again : placementWords (rowsOf ws) ≡ ws
@@ -73,27 +73,27 @@ module _ (job : Job) (ws : List ℕ) (h : layoutWords job ws ≡ pass) where
 pub rows-ok : (job : Job) (ps : List Placement) → layoutWords job (placementWords ps) ≡ pass → Every (RowOk job) ps
 rows-ok job ps h =
     let e = words-exact job (placementWords ps) .0 h in
-    every-map (λ p (o : LineOk job (lineOf p) × OfJob job (p .item)). record { turned = o .0 .numbers; type = o .1; across = o .0 .across; up = o .0 .up }) ps
+    every-map (λ p (o : LineOk job (lineOf p) × OfJob job (p .item)). record { turned = o .0 .numbers; type = o .1; across = o .0 .across; up = o .0 .up; sized = o .0 .sized }) ps
     (every-both (λ p. LineOk job (lineOf p)) (λ p. OfJob job (p .item)) ps
     (map-every (LineOk job) lineOf ps (rw (words-lines ps) at (e .1 .0)))
     (rw (words-rows ps) at (e .1 .1)))
 
-module _ (ws : List ℕ) (n : length (jobOf ws .items) ≡ typesOf ws) where
+module _ (ws : List ℕ) (z : length (jobOf ws .sizes) ≡ boardSizes ws) (n : length (jobOf ws .items) ≡ typesOf ws) (some-size : 1 ≤ boardSizes ws) where
   -- a line more whose numbers are within their limits, in a permitted position
   pub words-more :
-      (us : List ℕ) (b s k p i x y t : ℕ)
+      (us : List ℕ) (b j s k p i x y t : ℕ)
       → layoutWords (jobOf ws) us ≡ pass
-      → InLimits (layoutLine ws .limits) (b ∷ s ∷ k ∷ p ∷ i ∷ x ∷ y ∷ t ∷ [])
+      → InLimits (layoutLine ws .limits) (b ∷ j ∷ s ∷ k ∷ p ∷ i ∷ x ∷ y ∷ t ∷ [])
       → permitted (jobOf ws) (2 * i + t) ≡ true
-      → layoutWords (jobOf ws) (us ++ (b ∷ s ∷ k ∷ p ∷ i ∷ x ∷ y ∷ t ∷ [])) ≡ pass
+      → layoutWords (jobOf ws) (us ++ (b ∷ j ∷ s ∷ k ∷ p ∷ i ∷ x ∷ y ∷ t ∷ [])) ≡ pass
   unfolding linesIn rowsOf
-  words-more us b s k p i x y t h l q =
+  words-more us b j s k p i x y t h l q =
       let job : Job = jobOf ws in
-      let vs : List ℕ = b ∷ s ∷ k ∷ p ∷ i ∷ x ∷ y ∷ t ∷ [] in
+      let vs : List ℕ = b ∷ j ∷ s ∷ k ∷ p ∷ i ∷ x ∷ y ∷ t ∷ [] in
       let e = words-exact job us .0 h in
-      let whole = eights (length us / wordsOfPlacement) us (omega (arith, e .0)) in
-      let line : Line = record { type = i; turned = t; placement = placementOf b s k p (2 * i + t) x y } in
-      let right : LineOk job line = record { numbers = omega arith; type = omega arith; across = omega arith; up = omega arith; turned = omega arith } in
+      let whole = nines (length us / wordsOfPlacement) us (omega (arith, e .0)) in
+      let line : Line = record { type = i; turned = t; placement = placementOf (opened b j) s k p (2 * i + t) x y } in
+      let right : LineOk job line = record { numbers = omega arith; type = omega arith; across = omega arith; up = omega arith; turned = omega arith; sized = omega arith } in
       words-exact job (us ++ vs) .1 (
         rw length-append (omega (arith, e .0)),
         (
@@ -110,7 +110,8 @@ module _ (ws : List ℕ) (n : length (jobOf ws .items) ≡ typesOf ws) where
       let m = h .type in
       record {
         others =
-            q .turn .board
+            q .turn .board .number
+            ∷ q .turn .board .size
             ∷ q .turn .strip
             ∷ q .turn .stack
             ∷ q .turn .place
@@ -120,6 +121,6 @@ module _ (ws : List ℕ) (n : length (jobOf ws .items) ≡ typesOf ws) where
             ∷ turnOf (q .item)
             ∷ [];
         numbers = refl;
-        limits = omega (arith, u .board, u .strip, u .stack, u .place, m .type, m .turn, h .across, h .up);
+        limits = omega (arith, u .board, u .strip, u .stack, u .place, m .type, m .turn, h .across, h .up, h .sized);
         turned = rw (type-turn (q .item)) (lies-permitted (jobOf ws) (q .item) m);
       }

@@ -4,9 +4,9 @@ use mathlib.Core.Path.{_≡_}
 use mathlib.Core.List.{List}
 use Rattle.job.specs.Verdict.{pass, _then_}
 use Rattle.job.specs.Job.{jobOf, jobWords, admission}
-use Rattle.job.specs.Admitted.{Admitted, Sided}
+use Rattle.job.specs.Admitted.{Admitted, Sided, Stocked}
 use Rattle.job.proofs.Verdicts.{then-both}
-use Rattle.job.proofs.Admission.{admitted-words, admitted-job, admitted-sided}
+use Rattle.job.proofs.Admission.{admitted-words, admitted-job, admitted-sided, admitted-stocked}
 use Rattle.listing.specs.Listing.{modelRow}
 use Rattle.layouts.specs.Demand3.{Demand3Of}
 use Rattle.layouts.proofs.demand.Demand3.{demand3}
@@ -17,6 +17,9 @@ module _ (ws : List ℕ) (words : jobWords ws ≡ pass) (fits : admission (jobOf
 
   pub sided : Sided (jobOf ws)
   sided = admitted-sided (jobOf ws) admitted
+
+  pub stocked : Stocked (jobOf ws)
+  stocked = admitted-stocked (jobOf ws) admitted
 
   pub demands : modelRow (jobOf ws) ≡ pass → Demand3Of ws
   demands row =

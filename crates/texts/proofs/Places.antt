@@ -8,7 +8,7 @@ use mathlib.Core.List.{List, [], _∷_}
 use mathlib.Core.Option.{Option, none, some}
 use lib.Dec.{ltb, leb, eqb}
 use lib.ListN.{length, drop, length-drop}
-use Rattle.job.specs.Sizes.{maxTypes, maxPieces, maxPlates, maxCuts}
+use Rattle.job.specs.Sizes.{maxSizes, maxTypes, maxPieces, maxPlates, maxCuts}
 use Rattle.job.specs.Verdict.{Verdict, pass, refuse, _then_, refuseIf, lowest}
 use Rattle.job.specs.Job.{Job, noItem, jobOf, jobWords, larger, demanded, admission}
 use Rattle.job.proofs.Verdicts.{pass-not-refuse, lowest-refuses}
@@ -19,11 +19,11 @@ use Rattle.plan.specs.Plan.{total, short, overdrawn, planRow}
 use Rattle.plan.specs.Prices.{pricesOf, overLimit, modelSized, pricesRow}
 use Rattle.columns.specs.Line.{Fit}
 use Rattle.texts.specs.Widths.{placeLimit}
-use Rattle.texts.specs.JobLines.{typesOf}
+use Rattle.texts.specs.JobLines.{boardSizes, typesOf}
 use Rattle.texts.specs.Reader.{maxLines}
 use Rattle.texts.specs.SawText.{Counted, PriceLines, namedCut, cutsNamed, misshown, platesShown, cutsRising, priceLinesRow}
 use Rattle.texts.specs.Refused.{Names, line, type, residual, cut, nothing, lastOf, namedBy, InTable}
-use Rattle.texts.proofs.JobLaws.{passes-job, job-types, board-types}
+use Rattle.texts.proofs.JobLaws.{passes-job, job-types, board-types, board-sizes}
 
 -- a refusal stands in the table
 pub record Near (v : Verdict) : Type 0 where
@@ -78,9 +78,9 @@ near-place h n p e = let t = h .named n p e in let m = last-few (namedBy n) in o
 
 -- ---- the job and the model
 
--- the types of job words that pass
-pub few-types : (ws : List ℕ) → jobWords ws ≡ pass → (length (jobOf ws .items) ≤ maxTypes) × (typesOf ws ≤ maxTypes)
-few-types ws h = let j = passes-job ws h in omega (arith, job-types ws j, board-types ws (j .board))
+-- the types and the sizes of job words that pass
+pub few-types : (ws : List ℕ) → jobWords ws ≡ pass → (length (jobOf ws .items) ≤ maxTypes) × (typesOf ws ≤ maxTypes) × (boardSizes ws ≤ maxSizes)
+few-types ws h = let j = passes-job ws h in omega (arith, job-types ws j, board-types ws (j .board), board-sizes ws (j .board))
 
 -- 3 and 4
 pub near-admission : (job : Job) → length (job .items) ≤ maxTypes → Near (admission job)
@@ -131,21 +131,26 @@ near-rising l c k (r ∷ rs) low h = go (leb (namedCut l r) c) (near-rising l (n
     go false n = n
 
 -- 10, 11 and 12
-pub near-plan : (job : Job) (l : Listing) (ns : List ℕ) → length (job .items) ≤ maxTypes → length (l .plates) ≤ maxPlates → Near (planRow job l ns)
+pub near-plan :
+    (job : Job) (l : Listing) (ns : List ℕ)
+    → length (job .items) ≤ maxTypes
+    → 1 ≤ l .sizes
+    → length (l .plates) ≤ maxPlates
+    → Near (planRow job l ns)
 unfolding planRow
-near-plan job l ns i j =
+near-plan job l ns i z j =
     let row11 = lowest 11 (short l ns) 1 (job .items) in
-    let row12 = lowest 12 (overdrawn l ns) 1 (drop 1 (l .plates)) in
-    let few = length-drop 1 (l .plates) in
+    let row12 = lowest 12 (overdrawn l ns) (l .sizes) (drop (l .sizes) (l .plates)) in
+    let few = length-drop (l .sizes) (l .plates) in
     near-then (refuseIf (ltb maxPieces (total ns)) 10 0) (row11 then row12) (near-if (ltb maxPieces (total ns)) 10 0 (omega arith)) (λ e.
     near-then row11 row12 (near-lowest 11 (short l ns) noItem 1 (job .items) (λ p a b. omega arith)) (λ e.
-    near-lowest 12 (overdrawn l ns) waste 1 (drop 1 (l .plates)) (λ p a b. omega arith)))
+    near-lowest 12 (overdrawn l ns) waste (l .sizes) (drop (l .sizes) (l .plates)) (λ p a b. omega arith)))
 
 -- 13 and 14
 pub near-prices : (job : Job) (l : Listing) (o : Option PriceLines) → length (l .cuts) ≤ maxCuts → Near (priceLinesRow job l o)
 unfolding priceLinesRow modelSized pricesRow
 near-prices job l none h = near-pass
 near-prices job l (some ps) h =
-    near-then (modelSized job l (ps .types) (ps .residuals)) (pricesRow l (pricesOf job (ps .words)))
+    near-then (modelSized job l (ps .types) (ps .residuals)) (pricesRow job l (pricesOf job (ps .words)))
     (near-if (not (eqb (ps .types) (length (job .items))) || not (eqb (ps .residuals) (residualTypes l))) 13 0 (omega arith)) (λ e.
-    near-lowest 14 (λ _ c. overLimit (pricesOf job (ps .words)) c) noCut 1 (l .cuts) (λ p a b. omega arith))
+    near-lowest 14 (λ _ c. overLimit job (pricesOf job (ps .words)) c) noCut 1 (l .cuts) (λ p a b. omega arith))

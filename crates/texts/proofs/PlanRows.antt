@@ -47,52 +47,52 @@ plan-limits-more ws (s ∷ rs) r p q = (p .0, plan-limits-more ws rs r (p .1) q)
 
 -- ---- lines 4, 5 and 6
 
--- the line of the k-th price, of n item types
-abbrev pub priceRow : ℕ → ℕ → ℕ → List ℕ
-priceRow n k x = cond (leb k n) (5 ∷ k ∷ x ∷ []) (6 ∷ (k - n) ∷ x ∷ [])
+-- the line of the k-th price, of t sizes and n item types
+abbrev pub priceRow : ℕ → ℕ → ℕ → ℕ → List ℕ
+priceRow t n k x = cond (leb k n) (5 ∷ k ∷ x ∷ []) (6 ∷ (t + (k - suc n)) ∷ x ∷ [])
 
-from-append : (n k : ℕ) (xs ys : List ℕ) → priceRowsFrom n k (xs ++ ys) ≡ priceRowsFrom n k xs ++ priceRowsFrom n (k + length xs) ys
+from-append : (t n k : ℕ) (xs ys : List ℕ) → priceRowsFrom t n k (xs ++ ys) ≡ priceRowsFrom t n k xs ++ priceRowsFrom t n (k + length xs) ys
 unfolding priceRowsFrom
-from-append n k [] ys = ap (λ (j : ℕ). priceRowsFrom n j ys) (omega arith)
-from-append n k (x ∷ xs) ys =
+from-append t n k [] ys = ap (λ (j : ℕ). priceRowsFrom t n j ys) (omega arith)
+from-append t n k (x ∷ xs) ys =
     let e : k + suc (length xs) ≡ suc k + length xs = omega arith in
-    rw e (ap (λ (l : List (List ℕ)). priceRow n k x ∷ l) (from-append n (suc k) xs ys))
+    rw e (ap (λ (l : List (List ℕ)). priceRow t n k x ∷ l) (from-append t n (suc k) xs ys))
 
-row-length : (n k x : ℕ) → length (priceRow n k x) ≡ 3
-row-length n k x = go (leb k n)
+row-length : (t n k x : ℕ) → length (priceRow t n k x) ≡ 3
+row-length t n k x = go (leb k n)
   where
-    go : (t : Bool) → length (cond t (5 ∷ k ∷ x ∷ []) (6 ∷ (k - n) ∷ x ∷ [])) ≡ 3
+    go : (b : Bool) → length (cond b (5 ∷ k ∷ x ∷ []) (6 ∷ (t + (k - suc n)) ∷ x ∷ [])) ≡ 3
     go true = refl
     go false = refl
 
-from-size : (n k : ℕ) (xs : List ℕ) → (length (priceRowsFrom n k xs) ≡ length xs) × (length (bytesOf (priceRowsFrom n k xs)) ≡ priceLineBytes * length xs)
+from-size : (t n k : ℕ) (xs : List ℕ) → (length (priceRowsFrom t n k xs) ≡ length xs) × (length (bytesOf (priceRowsFrom t n k xs)) ≡ priceLineBytes * length xs)
 unfolding priceRowsFrom mathlib.Core.List.flatMap
-from-size n k [] = (refl, refl)
-from-size n k (x ∷ xs) =
-    let p = from-size n (suc k) xs in
-    (ap suc (p .0), bytes-cons (priceRow n k x) (priceRowsFrom n (suc k) xs) ∙ omega (arith, row-length n k x))
+from-size t n k [] = (refl, refl)
+from-size t n k (x ∷ xs) =
+    let p = from-size t n (suc k) xs in
+    (ap suc (p .0), bytes-cons (priceRow t n k x) (priceRowsFrom t n (suc k) xs) ∙ omega (arith, row-length t n k x))
 
 -- one line more
 pub priceRows-more :
-    (ps : PriceLines) (x k : ℕ)
+    (t : ℕ) (ps : PriceLines) (x k : ℕ)
     → length (ps .words) ≡ suc k
-    → priceRows (some (withPrice ps x)) ≡ priceRows (some ps) ++ (priceRow (ps .types) (suc k) x ∷ [])
+    → priceRows t (some (withPrice ps x)) ≡ priceRows t (some ps) ++ (priceRow t (ps .types) (suc k) x ∷ [])
 unfolding priceRows priceRowsFrom
-priceRows-more ps x k e =
+priceRows-more t ps x k e =
     let d : drop 1 (ps .words ++ (x ∷ [])) ≡ drop 1 (ps .words) ++ (x ∷ []) = drop-append-le 1 (ps .words) (x ∷ []) (omega arith) in
     let first : getD (ps .words ++ (x ∷ [])) 0 0 ≡ getD (ps .words) 0 0 = List·getD-append (ps .words) (x ∷ []) 0 0 (omega arith) in
     let l : length (drop 1 (ps .words)) ≡ k = lib.ListN.length-drop 1 (ps .words) ∙ omega arith in
     let place : 1 + length (drop 1 (ps .words)) ≡ suc k = omega arith in
-    let f = from-append (ps .types) 1 (drop 1 (ps .words)) (x ∷ []) in
+    let f = from-append t (ps .types) 1 (drop 1 (ps .words)) (x ∷ []) in
     rw (d, first) (ap (λ (l : List (List ℕ)). (4 ∷ getD (ps .words) 0 0 ∷ ps .types ∷ ps .residuals ∷ []) ∷ l) (rw place at f))
 
 -- at most the bytes of a line 4 for each line
-pub priceRows-bound : (o : Option PriceLines) → length (bytesOf (priceRows o)) ≤ pricesLineBytes * length (priceRows o)
+pub priceRows-bound : (t : ℕ) (o : Option PriceLines) → length (bytesOf (priceRows t o)) ≤ pricesLineBytes * length (priceRows t o)
 unfolding priceRows mathlib.Core.List.flatMap
-priceRows-bound none = omega arith
-priceRows-bound (some ps) =
-    let p = from-size (ps .types) 1 (drop 1 (ps .words)) in
-    let b = bytes-cons (4 ∷ getD (ps .words) 0 0 ∷ ps .types ∷ ps .residuals ∷ []) (priceRowsFrom (ps .types) 1 (drop 1 (ps .words))) in
+priceRows-bound t none = omega arith
+priceRows-bound t (some ps) =
+    let p = from-size t (ps .types) 1 (drop 1 (ps .words)) in
+    let b = bytes-cons (4 ∷ getD (ps .words) 0 0 ∷ ps .types ∷ ps .residuals ∷ []) (priceRowsFrom t (ps .types) 1 (drop 1 (ps .words))) in
     omega arith
 
 -- the denominator passes as a word

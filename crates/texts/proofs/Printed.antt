@@ -1,4 +1,4 @@
--- The saw program's output is read back: lines 7 as the placements, line 8 as boards, sum, D and fewest; and its lines 7 are a fold text.
+-- The saw program's output is read back: lines 7 as the placements, line 8 as cost, sum, D and cheapest; and its lines 7 are a fold text.
 use Prim.Native.Nat.{ℕ, zero, suc, _+_, _*_, _≤_, _<_}
 use native.Mathlib.Omega.{arith}
 use native.Mathlib.Nat.{mul-le-mul-right}
@@ -12,11 +12,11 @@ use borrow.Author.Tests.{ltb-false, not-false}
 use Rattle.job.specs.declared.item.Item.{Item}
 use Rattle.job.specs.Lists.{sumOf}
 use Rattle.job.specs.Verdict.{pass, refuseIf, within, lowest}
-use Rattle.job.specs.Job.{Job, maxPieces, jobOf, jobWords, larger, demanded, admission}
+use Rattle.job.specs.Job.{Job, maxCost, maxPieces, jobOf, jobWords, larger, demanded, admission}
 use Rattle.job.proofs.Verdicts.{refuseIf-pass}
 use Rattle.job.proofs.CodeEnds.{then-pass}
 use Rattle.job.proofs.Records.{words-append}
-use Rattle.plan.specs.Prices.{maxPrice, pricesOf, priceWords, priced, priceSum, fewest}
+use Rattle.plan.specs.Prices.{maxPrice, pricesOf, priceWords, priced, priceSum, cheapest}
 use Rattle.layouts.specs.Placement.{Placement, placementWords}
 use Rattle.layouts.specs.Lines.{layoutWords}
 use Rattle.layouts.specs.Rules.{Every}
@@ -26,21 +26,21 @@ use Rattle.listing.specs.Listing.{Cut, plateAt, listingOf}
 use Rattle.columns.specs.Group.{limit}
 use Rattle.columns.specs.Line.{Fit, lineOf}
 use Rattle.texts.specs.Shape.{layoutLine}
-use Rattle.texts.specs.JobLines.{Place, body, typesOf}
+use Rattle.texts.specs.JobLines.{Place, body, typesOf, jobLines}
 use Rattle.texts.specs.Reader.{started, fed, textRow, written}
-use Rattle.texts.specs.SawText.{PriceLines, Saw, sawGrammar, sawRows, placementLine, resultLine, sawLines, sawWritten, sawText}
+use Rattle.texts.specs.SawText.{PriceLines, Saw, sawGrammar, sawRows, placementRow, placementLine, resultRow, resultLine, sawLines, sawWritten, sawText}
 use Rattle.texts.specs.FoldText.{Fold, foldComplete, foldGrammar, countRow, countLines, foldLines, foldOf}
 use Rattle.texts.specs.Admitted.{Text}
-use Rattle.texts.specs.TextOf.{jobRows, countedRow, planRows, placementRow}
+use Rattle.texts.specs.TextOf.{jobRows, countedRow, planRows}
 use Rattle.texts.specs.Held.{PricesHeld, SawWhole}
-use Rattle.texts.specs.Printed.{linesIn, AllFit, resultRow, sawHolds, sawRun, printedRows, countedCut, countedOf, foldCounts, foldPlan, PrintedBack}
-use Rattle.texts.proofs.SawDemand.{saw-placed, saw-boards}
+use Rattle.texts.specs.Printed.{linesIn, AllFit, sawHolds, sawRun, sawCost, printedRows, countedCut, countedOf, foldCounts, foldPlan, PrintedBack}
+use Rattle.texts.proofs.SawDemand.{saw-placed, saw-cost}
 use Rattle.texts.proofs.Basics.{within-parts, lowest-parts}
 use Rattle.texts.proofs.Lists.{bytesOf, bytes-more}
 use Rattle.texts.proofs.ReaderLaws.{standing}
 use Rattle.texts.proofs.LinesIn.{lines-both-ways}
 use Rattle.texts.proofs.ShapeLaws.{narrow-layout, shape-fits}
-use Rattle.texts.proofs.JobLaws.{JobWhole, passes-job, job-types, board-types}
+use Rattle.texts.proofs.JobLaws.{JobWhole, passes-job, job-types, job-sizes, board-types, board-sizes}
 use Rattle.texts.proofs.LayoutRows.{ok-row, rows-ok, placementRows-size}
 use Rattle.texts.proofs.JobRows.{jobRows-size}
 use Rattle.texts.proofs.JobRuns.{job-runs}
@@ -53,23 +53,17 @@ use Rattle.texts.proofs.FoldTexts.{fold-plain, fold-opens, layouts-run}
 
 -- lines 7
 pub placement-lines : (ps : List Placement) → flatMap placementLine ps ≡ bytesOf (map placementRow ps)
-unfolding flatMap placementLine placementRow
+unfolding flatMap placementLine
 placement-lines [] = refl
 placement-lines (p ∷ ps) = ap (λ (l : List ℕ). placementLine p ++ l) (placement-lines ps)
 
-result-line : (job : Job) (n : ℕ) (o : Option PriceLines) → resultLine job n o ≡ lineOf (resultRow job n o)
-unfolding resultLine resultRow
-result-line job n none = refl
-result-line job n (some ps) = refl
-
 printed-lines : (s : Saw) → sawLines s ≡ bytesOf (printedRows s)
-unfolding sawLines printedRows
+unfolding sawLines printedRows resultLine
 printed-lines s =
     let job : Job = jobOf (s .job) in
-    let n : ℕ = sawRun s .last .turn .board in
+    let n : ℕ = sawCost s in
     let rows : List (List ℕ) = map placementRow (sawRun s .placements) in
     ap (λ (l : List ℕ). l ++ resultLine job n (s .prices)) (placement-lines (sawRun s .placements))
-    ∙ ap (λ (l : List ℕ). bytesOf rows ++ l) (result-line job n (s .prices))
     ∙ sym (bytes-more rows (resultRow job n (s .prices)))
 
 -- the lines 3 of a fold
@@ -148,7 +142,7 @@ admitted-demands job h =
 
 -- ---- the numbers fit nine columns
 
-fit-result : (job : Job) (n : ℕ) (p : Place) (o : Option PriceLines) → admission job ≡ pass → PricesHeld p o → n ≤ maxPieces → Fit (resultRow job n o)
+fit-result : (job : Job) (n : ℕ) (p : Place) (o : Option PriceLines) → admission job ≡ pass → PricesHeld p o → n ≤ maxCost * maxPieces → Fit (resultRow job n o)
 unfolding Fit resultRow priceSum pricesOf demanded
 fit-result job n p none a h l = omega arith
 fit-result job n p (some ps) a h l =
@@ -158,7 +152,7 @@ fit-result job n p (some ps) a h l =
     let items = capped-take maxPrice n′ (drop 1 (ps .words)) (capped-drop maxPrice 1 (ps .words) c) in
     let sum = priced-capped maxPrice (job .items) (take n′ (drop 1 (ps .words))) items in
     let D = capped-getD maxPrice 0 (ps .words) c in
-    (omega arith, (omega arith, (omega arith, (omega arith, (few (fewest job (pricesOf job (ps .words)) n), tt)))))
+    (omega arith, (omega arith, (omega arith, (omega arith, (few (cheapest job (pricesOf job (ps .words)) n), tt)))))
   where
     few : (t : Bool) → cond t 1 0 < limit
     few true = omega arith
@@ -168,8 +162,9 @@ fit-placements : (ws : List ℕ) → JobWhole ws → (ps : List Placement) → E
 fit-placements ws j [] h = tt
 fit-placements ws j (p ∷ ps) h =
     let n = board-types ws (j .board) in
-    let shape = ok-row ws (job-types ws j) p (h .0) in
-    (shape-fits (layoutLine ws) (placementRow p) (narrow-layout ws (omega arith)) shape, fit-placements ws j ps (h .1))
+    let z = board-sizes ws (j .board) in
+    let shape = ok-row ws (job-sizes ws j) (job-types ws j) (z .0) p (h .0) in
+    (shape-fits (layoutLine ws) (placementRow p) (narrow-layout ws (omega arith) (omega arith)) shape, fit-placements ws j ps (h .1))
 
 fit-append : (mss nss : List (List ℕ)) → AllFit mss → AllFit nss → AllFit (mss ++ nss)
 fit-append [] nss f g = g
@@ -186,12 +181,12 @@ printed-back :
     → SawWhole s
     → sawRows s ≡ pass
     → layoutWords (jobOf (s .job)) (placementWords (sawRun s .placements)) ≡ pass
-    → sawRun s .last .turn .board ≤ maxPieces
+    → sawCost s ≤ maxCost * maxPieces
     → linesIn (sawLines s) ≡ some (printedRows s)
 unfolding printedRows
 printed-back s h r a b =
     let j = passes-job (s .job) (h .job) in
-    let n : ℕ = sawRun s .last .turn .board in
+    let n : ℕ = sawCost s in
     let rows : List (List ℕ) = map placementRow (sawRun s .placements) in
     let ps = fit-placements (s .job) j (sawRun s .placements) (rows-ok (jobOf (s .job)) (sawRun s .placements) a) in
     let last = fit-result (jobOf (s .job)) n (s .place) (s .prices) (rows-admission s r) (h .prices) b in
@@ -209,7 +204,7 @@ accepted bs t r = rw (t, r)
 
 -- ---- lines 7 after the job's lines
 
-fold-count : (ws : List ℕ) (ps : List Placement) → JobWhole ws → length (jobRows ws ++ map placementRow ps) ≡ suc (typesOf ws) + length ps
+fold-count : (ws : List ℕ) (ps : List Placement) → JobWhole ws → length (jobRows ws ++ map placementRow ps) ≡ jobLines ws + length ps
 fold-count ws ps j =
     length-append (jobRows ws) (map placementRow ps) ∙ omega (arith, placementRows-size ps .0, jobRows-size (typesOf ws) ws (j .size) .0)
 
@@ -223,6 +218,7 @@ unfolding foldComplete
 fold-text ws ps h a l =
     let j = passes-job ws h in
     let n = board-types ws (j .board) in
+    let z = board-sizes ws (j .board) in
     let k = fold-count ws ps j in
     record {
       lines = jobRows ws ++ map placementRow ps;
@@ -244,7 +240,7 @@ printed =
       back = λ bs t r.
           let held = saw-both-ways .read bs t .0 in
           ap linesIn (accepted bs t r)
-          ∙ printed-back (sawHolds bs) held r (saw-placed (sawHolds bs) held r) (saw-boards (sawHolds bs) held r);
+          ∙ printed-back (sawHolds bs) held r (saw-placed (sawHolds bs) held r) (saw-cost (sawHolds bs) held r);
       counts = fold-lines;
       folds = λ ws ps h a l.
           let t = fold-text ws ps h a l in (

@@ -28,7 +28,7 @@ module _ {S : Type 0} (g : Grammar S) where
     pub few : r .lines ≤ maxLines
     -- a line has begun only where the text is not refused and may go on
     pub begun : 0 < length (r .pending) → Open g r
-    -- the line that has begun is at most 81 bytes, none of them 10
+    -- the line that has begun is at most 90 bytes, none of them 10
     pub short : length (r .pending) < longestLine
     pub inner : Inner (r .pending)
     -- a refusal of the line row is 1, 2 or 19, and names the line after those admitted

@@ -156,7 +156,7 @@ module _ {S : Type 0} (g : Grammar S) where
           let p : longestLine ≤ suc (length (r .pending)) = ltb-false (suc (length (r .pending))) longestLine e in
           rw (byte-long r b o (i .0) p) (fed-refused (refusedAs g r (refuse 1 (suc (r .lines)))) (bs ++ cs) 1 (suc (r .lines)) refl)
 
-  -- the line that is written of at most eight numbers is read at once
+  -- the line that is written of at most ten numbers is read at once
   pub fed-written : (r : Reader S) (ns : List ℕ) → Open r → r .pending ≡ [] → Fit ns → length ns ≤ mostNumbers → fed g r (lineOf ns) ≡ lineRead g r (some ns)
   unfolding lineOf
   fed-written r ns o e f l =

@@ -16,7 +16,7 @@ use Rattle.plan.specs.Plan.{planRow}
 use Rattle.layouts.specs.Lines.{rowsOf}
 use Rattle.layouts.specs.LayoutsRow.{layoutsRow}
 use Rattle.columns.specs.Line.{lineOf}
-use Rattle.texts.specs.JobLines.{typesOf, bodyLine}
+use Rattle.texts.specs.JobLines.{boardSizes, typesOf, bodyLine}
 use Rattle.texts.specs.Reader.{Grammar, Reader, maxLines, started, fed, textRow, written}
 use Rattle.texts.specs.SawText.{Saw, sawGrammar, cutsNamed, platesShown, cutsRising, planCounts, priceLinesRow, sawRows, sawWritten, sawText}
 use Rattle.texts.specs.FoldText.{Fold, foldGrammar, foldRows, foldWritten, foldText}
@@ -32,7 +32,7 @@ use Rattle.texts.proofs.JobRows.{jobRows-size}
 use Rattle.texts.proofs.PlanRows.{planRows-size}
 use Rattle.texts.proofs.SawTexts.{saw-both-ways}
 use Rattle.texts.proofs.FoldTexts.{fold-both-ways}
-use Rattle.texts.proofs.Modelled.{sided}
+use Rattle.texts.proofs.Modelled.{sided, stocked}
 use Rattle.texts.proofs.Places.{Near, table-fits, few-types, near-if, near-then, near-admission, near-model, near-named, near-shown, near-rising, near-plan, near-prices}
 use Rattle.texts.proofs.LayoutPlaces.{near-row}
 
@@ -76,11 +76,11 @@ saw-lines : (s : Saw) → SawWhole s → length (sawRowsOf s) ≤ maxLines → b
 unfolding sawRowsOf
 saw-lines s held few =
     let j = passes-job (s .job) (held .job) in
-    let tail : List (List ℕ) = planRows (s .plan) ++ priceRows (s .prices) in
+    let tail : List (List ℕ) = planRows (s .plan) ++ priceRows (boardSizes (s .job)) (s .prices) in
     omega (
       arith,
       length-append (jobRows (s .job)) tail,
-      length-append (planRows (s .plan)) (priceRows (s .prices)),
+      length-append (planRows (s .plan)) (priceRows (boardSizes (s .job)) (s .prices)),
       jobRows-size (typesOf (s .job)) (s .job) (j .size) .0,
       planRows-size (s .plan) .0,
     )
@@ -102,11 +102,11 @@ near-saw s held few =
     let prices = priceLinesRow job l (s .prices) in
     near-then (admission job) (modelRow job then named then shown then rising then plan then prices) (near-admission job (types .0)) (λ a.
     near-then (modelRow job) (named then shown then rising then plan then prices) (near-model job) (λ b.
-    let m = row-model job (sided (s .job) (held .job) a) b in
+    let m = row-model job (sided (s .job) (held .job) a) (stocked (s .job) (held .job) a) b in
     near-then named (shown then rising then plan then prices) (near-named l first (s .plan) (omega arith) (omega arith)) (λ e.
     near-then shown (rising then plan then prices) (near-shown l first (s .plan) (omega arith) (omega arith)) (λ e.
     near-then rising (plan then prices) (near-rising l 0 first (s .plan) (omega arith) (omega arith)) (λ e.
-    near-then plan prices (near-plan job l ns (types .0) (m .few-plates)) (λ e.
+    near-then plan prices (near-plan job l ns (types .0) (omega (arith, m .sized, m .some-size)) (m .few-plates)) (λ e.
     near-prices job l (s .prices) (m .few-cuts)))))))
 
 -- the rows of a fold text

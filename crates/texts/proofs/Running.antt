@@ -16,7 +16,7 @@ use Rattle.texts.proofs.Lists.{bytesOf}
 use Rattle.texts.proofs.ShapeLaws.{Kinds, Shorter, admitted-row, shape-groups}
 use Rattle.texts.proofs.ReaderLaws.{standing, Open, fed-append, fed-written}
 
--- the shapes of a grammar: each kind stands once among those admitted, and no line has more than nine numbers
+-- the shapes of a grammar: each kind stands once among those admitted, and no line has more than ten numbers
 pub record Plain {S : Type 0} (g : Grammar S) : Type 0 where
   pub kinds : (s : S) → Kinds (g .admits s)
   pub short : (s : S) → Shorter (suc mostNumbers) (g .admits s)

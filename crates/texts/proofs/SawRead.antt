@@ -1,5 +1,5 @@
 -- What a saw text holds so far: its lines are those of the job's words, the plan and the prices that it holds, all within their limits.
-use Prim.Native.Nat.{ℕ, zero, suc, _+_, _-_, _≤_}
+use Prim.Native.Nat.{ℕ, zero, suc, _+_, _-_, _≤_, _<_}
 use native.Mathlib.Omega.{arith}
 use mathlib.Core.Path.{_≡_, refl, sym, ap, _∙_, subst}
 use mathlib.Core.Logic.{inl, inr}
@@ -15,14 +15,14 @@ use Rattle.job.specs.Job.{maxTypes}
 use Rattle.plan.specs.Prices.{maxPrice, priceWords}
 use Rattle.columns.specs.Line.{Fit}
 use Rattle.texts.specs.Shape.{_to_, shape, planLine, pricesLine}
-use Rattle.texts.specs.JobLines.{Place, first, types, body, itemPrices, platePrices, done, typesOf, afterType}
+use Rattle.texts.specs.JobLines.{Place, first, sizes, types, body, itemPrices, platePrices, done, boardSizes, typesOf, afterSize, afterType}
 use Rattle.texts.specs.SawText.{Counted, PriceLines, Saw, sawAdmits, afterItemPrice, afterPlatePrice, withPrice, countedIn, bodyRead, sawAfter, sawGrammar, sawOf}
 use Rattle.texts.specs.Admitted.{InLimits, OfShape, Admitted, Runs}
 use Rattle.texts.specs.TextOf.{jobRows, countedRow, planRows, priceRowsFrom, priceRows, sawRowsOf}
 use Rattle.texts.specs.Held.{InPlan, PlanLimits}
 use Rattle.texts.proofs.Running.{runs-keep}
 use Rattle.texts.proofs.JobLaws.{JobWhole}
-use Rattle.texts.proofs.JobText.{AtTypes, JobAt, first-read, types-read}
+use Rattle.texts.proofs.JobText.{AtSizes, AtTypes, JobAt, first-read, sizes-read, types-read}
 use Rattle.texts.proofs.PlanRows.{planRows-more, plan-limits-more, priceRow, priceRows-more, denominator-passes, price-passes}
 
 -- past the job's lines: the job is whole, the plan is within its limits, and the lines are those of what is held
@@ -39,27 +39,29 @@ pub record Priced (k : ℕ) (ps : PriceLines) : Type 0 where
   pub size : length (ps .words) ≡ k
   pub words : priceWords (ps .words) ≡ pass
 
--- how far the prices are, by the place
-abbrev pub SawPrices : Place → Option PriceLines → Type 0
-SawPrices first ps = ⊥
-SawPrices (types i) ps = ⊥
-SawPrices body none = Unit {0}
-SawPrices body (some ps) = ⊥
-SawPrices (itemPrices i) none = ⊥
-SawPrices (itemPrices i) (some ps) = Priced i ps × (1 ≤ i) × (i ≤ ps .types)
-SawPrices (platePrices j) none = ⊥
-SawPrices (platePrices j) (some ps) = Priced (ps .types + j) ps × (1 ≤ j) × (j ≤ ps .residuals)
-SawPrices done none = ⊥
-SawPrices done (some ps) = Priced (1 + ps .types + ps .residuals) ps
+-- how far the prices are, by the place, of t sizes
+abbrev pub SawPrices : ℕ → Place → Option PriceLines → Type 0
+SawPrices t first ps = ⊥
+SawPrices t (sizes j) ps = ⊥
+SawPrices t (types i) ps = ⊥
+SawPrices t body none = Unit {0}
+SawPrices t body (some ps) = ⊥
+SawPrices t (itemPrices i) none = ⊥
+SawPrices t (itemPrices i) (some ps) = Priced i ps × (1 ≤ i) × (i ≤ ps .types)
+SawPrices t (platePrices j) none = ⊥
+SawPrices t (platePrices j) (some ps) = Priced (suc (ps .types + (j - t))) ps × (t ≤ j) × (j < t + ps .residuals)
+SawPrices t done none = ⊥
+SawPrices t done (some ps) = Priced (1 + ps .types + ps .residuals) ps
 
 -- what a saw text holds, by the place
 abbrev pub SawForm : Place → List (List ℕ) → Saw → Type 0
 SawForm first rows s = rows ≡ []
+SawForm (sizes j) rows s = AtSizes j rows (s .job)
 SawForm (types i) rows s = AtTypes i rows (s .job)
-SawForm body rows s = Past rows s × SawPrices body (s .prices)
-SawForm (itemPrices i) rows s = Past rows s × SawPrices (itemPrices i) (s .prices)
-SawForm (platePrices j) rows s = Past rows s × SawPrices (platePrices j) (s .prices)
-SawForm done rows s = Past rows s × SawPrices done (s .prices)
+SawForm body rows s = Past rows s × SawPrices (boardSizes (s .job)) body (s .prices)
+SawForm (itemPrices i) rows s = Past rows s × SawPrices (boardSizes (s .job)) (itemPrices i) (s .prices)
+SawForm (platePrices j) rows s = Past rows s × SawPrices (boardSizes (s .job)) (platePrices j) (s .prices)
+SawForm done rows s = Past rows s × SawPrices (boardSizes (s .job)) done (s .prices)
 
 -- where a saw text stands after the lines `rows`
 abbrev pub SawAt : List (List ℕ) → Saw → Type 0
@@ -69,6 +71,7 @@ SawAt rows s = SawForm (s .place) rows s
 from-job : (p : Place) (rows : List (List ℕ)) (ws : List ℕ) → JobAt p rows ws → SawForm p rows (sawOf p ws [] none)
 unfolding sawRowsOf planRows priceRows
 from-job first rows ws j = j
+from-job (sizes i) rows ws j = j
 from-job (types i) rows ws j = j
 from-job body rows ws j = (record { job = j .0; plan = tt; lines = j .1 ∙ sym (append-nil (jobRows ws)) }, tt)
 from-job (itemPrices i) rows ws j = absurd j
@@ -104,12 +107,12 @@ first-price ws rs ps p q e =
 more-price :
     (ws : List ℕ) (rs : List Counted) (ps : PriceLines) (x k : ℕ) (p q : Place)
     → length (ps .words) ≡ suc k
-    → sawRowsOf (sawOf p ws rs (some ps)) ++ (priceRow (ps .types) (suc k) x ∷ []) ≡ sawRowsOf (sawOf q ws rs (some (withPrice ps x)))
+    → sawRowsOf (sawOf p ws rs (some ps)) ++ (priceRow (boardSizes ws) (ps .types) (suc k) x ∷ []) ≡ sawRowsOf (sawOf q ws rs (some (withPrice ps x)))
 unfolding sawRowsOf
 more-price ws rs ps x k p q e =
-    let row : List (List ℕ) = priceRow (ps .types) (suc k) x ∷ [] in
-    let last = append-assoc (planRows rs) (priceRows (some ps)) row ∙ ap (λ (l : List (List ℕ)). planRows rs ++ l) (sym (priceRows-more ps x k e)) in
-    append-assoc (jobRows ws) (planRows rs ++ priceRows (some ps)) row ∙ ap (λ (l : List (List ℕ)). jobRows ws ++ l) last
+    let row : List (List ℕ) = priceRow (boardSizes ws) (ps .types) (suc k) x ∷ [] in
+    let last = append-assoc (planRows rs) (priceRows (boardSizes ws) (some ps)) row ∙ ap (λ (l : List (List ℕ)). planRows rs ++ l) (sym (priceRows-more (boardSizes ws) ps x k e)) in
+    append-assoc (jobRows ws) (planRows rs ++ priceRows (boardSizes ws) (some ps)) row ∙ ap (λ (l : List (List ℕ)). jobRows ws ++ l) last
 
 -- ---- the body
 
@@ -195,7 +198,7 @@ price-more :
     → Priced k ps
     → 1 ≤ k
     → x ≤ maxPrice
-    → Past (rows ++ (priceRow (ps .types) k x ∷ [])) (sawOf q ws rs (some (withPrice ps x))) × Priced (suc k) (withPrice ps x)
+    → Past (rows ++ (priceRow (boardSizes ws) (ps .types) k x ∷ [])) (sawOf q ws rs (some (withPrice ps x))) × Priced (suc k) (withPrice ps x)
 price-more zero rows p q ws rs ps x h w l e = absurd (omega arith)
 price-more (suc k) rows p q ws rs ps x h w l e =
     let size = w .size in (
@@ -233,11 +236,14 @@ module _ (rows : List (List ℕ)) (ws : List ℕ) (rs : List Counted) (ps : Pric
       → Priced i ps
       → 1 ≤ i
       → i ≤ ps .types
-      → SawAt (rows ++ ((5 ∷ i ∷ x ∷ []) ∷ [])) (sawOf (afterItemPrice (ps .types) (ps .residuals) i) ws rs (some (withPrice ps x)))
+      → SawAt (rows ++ ((5 ∷ i ∷ x ∷ []) ∷ [])) (sawOf (afterItemPrice (boardSizes ws) (ps .types) (ps .residuals) i) ws rs (some (withPrice ps x)))
   unfolding afterItemPrice
   item-price-read i h w l u = go (eqb i (ps .types)) refl (eqb (ps .residuals) 0) refl
     where
-      row : priceRow (ps .types) i x ≡ 5 ∷ i ∷ x ∷ []
+      t : ℕ
+      t = boardSizes ws
+
+      row : priceRow (boardSizes ws) (ps .types) i x ≡ 5 ∷ i ∷ x ∷ []
       row = rw (le-leb i (ps .types) u)
 
       more : (q : Place) → Past (rows ++ ((5 ∷ i ∷ x ∷ []) ∷ [])) (sawOf q ws rs (some (withPrice ps x))) × Priced (suc i) (withPrice ps x)
@@ -248,14 +254,14 @@ module _ (rows : List (List ℕ)) (ws : List ℕ) (rs : List Counted) (ps : Pric
           → eqb i (ps .types) ≡ a
           → (b : Bool)
           → eqb (ps .residuals) 0 ≡ b
-          → SawAt (rows ++ ((5 ∷ i ∷ x ∷ []) ∷ [])) (sawOf (afterItemPrice (ps .types) (ps .residuals) i) ws rs (some (withPrice ps x)))
+          → SawAt (rows ++ ((5 ∷ i ∷ x ∷ []) ∷ [])) (sawOf (afterItemPrice (boardSizes ws) (ps .types) (ps .residuals) i) ws rs (some (withPrice ps x)))
       go true p true q =
           let n : suc i ≡ 1 + ps .types + ps .residuals = omega (arith, eqb-true i (ps .types) p, eqb-true (ps .residuals) 0 q) in
           rw (p, q) (more done .0, priced-as (suc i) (1 + ps .types + ps .residuals) (withPrice ps x) n (more done .1))
       go true p false q =
-          let n : suc i ≡ ps .types + 1 = omega (arith, eqb-true i (ps .types) p) in
-          let w′ = priced-as (suc i) (ps .types + 1) (withPrice ps x) n (more (platePrices 1) .1) in
-          rw (p, q) (more (platePrices 1) .0, (w′, omega arith, omega (arith, eqb-false (ps .residuals) 0 q)))
+          let n : suc i ≡ suc (ps .types + (t - t)) = omega (arith, eqb-true i (ps .types) p) in
+          let w′ = priced-as (suc i) (suc (ps .types + (t - t))) (withPrice ps x) n (more (platePrices t) .1) in
+          rw (p, q) (more (platePrices t) .0, (w′, omega arith, omega (arith, eqb-false (ps .residuals) 0 q)))
       go false p b q =
           rw p (more (itemPrices (suc i)) .0, (more (itemPrices (suc i)) .1, omega arith, omega (arith, u, eqb-false i (ps .types) p)))
 
@@ -263,43 +269,51 @@ module _ (rows : List (List ℕ)) (ws : List ℕ) (rs : List Counted) (ps : Pric
   plate-price-read :
       (j : ℕ)
       → Past rows (sawOf (platePrices j) ws rs (some ps))
-      → Priced (ps .types + j) ps
-      → 1 ≤ j
-      → j ≤ ps .residuals
-      → SawAt (rows ++ ((6 ∷ j ∷ x ∷ []) ∷ [])) (sawOf (afterPlatePrice (ps .residuals) j) ws rs (some (withPrice ps x)))
+      → Priced (suc (ps .types + (j - boardSizes ws))) ps
+      → boardSizes ws ≤ j
+      → j < boardSizes ws + ps .residuals
+      → SawAt (rows ++ ((6 ∷ j ∷ x ∷ []) ∷ [])) (sawOf (afterPlatePrice (boardSizes ws) (ps .residuals) j) ws rs (some (withPrice ps x)))
   unfolding afterPlatePrice
-  plate-price-read j h w l u = go (eqb j (ps .residuals)) refl
+  plate-price-read j h w l u = go (eqb (suc j) (t + ps .residuals)) refl
     where
-      row : priceRow (ps .types) (ps .types + j) x ≡ 6 ∷ j ∷ x ∷ []
+      t : ℕ
+      t = boardSizes ws
+
+      k : ℕ
+      k = suc (ps .types + (j - t))
+
+      row : priceRow t (ps .types) k x ≡ 6 ∷ j ∷ x ∷ []
       row =
-          let t : leb (ps .types + j) (ps .types) ≡ false = lt-leb (ps .types + j) (ps .types) (omega (arith, l)) in
-          let n : ps .types + j - ps .types ≡ j = omega arith in
-          rw (t, n)
+          let b : leb k (ps .types) ≡ false = lt-leb k (ps .types) (omega arith) in
+          let n : t + (k - suc (ps .types)) ≡ j = omega (arith, l) in
+          rw (b, n)
 
       more :
           (q : Place)
-          → Past (rows ++ ((6 ∷ j ∷ x ∷ []) ∷ [])) (sawOf q ws rs (some (withPrice ps x))) × Priced (suc (ps .types + j)) (withPrice ps x)
-      more q = rw row at (price-more (ps .types + j) rows (platePrices j) q ws rs ps x h w (omega (arith, l)) e)
+          → Past (rows ++ ((6 ∷ j ∷ x ∷ []) ∷ [])) (sawOf q ws rs (some (withPrice ps x))) × Priced (suc k) (withPrice ps x)
+      more q = rw row at (price-more k rows (platePrices j) q ws rs ps x h w (omega arith) e)
 
       go :
           (a : Bool)
-          → eqb j (ps .residuals) ≡ a
-          → SawAt (rows ++ ((6 ∷ j ∷ x ∷ []) ∷ [])) (sawOf (afterPlatePrice (ps .residuals) j) ws rs (some (withPrice ps x)))
+          → eqb (suc j) (t + ps .residuals) ≡ a
+          → SawAt (rows ++ ((6 ∷ j ∷ x ∷ []) ∷ [])) (sawOf (afterPlatePrice (boardSizes ws) (ps .residuals) j) ws rs (some (withPrice ps x)))
       go true p =
-          let n : suc (ps .types + j) ≡ 1 + ps .types + ps .residuals = omega (arith, eqb-true j (ps .residuals) p) in
-          rw p (more done .0, priced-as (suc (ps .types + j)) (1 + ps .types + ps .residuals) (withPrice ps x) n (more done .1))
+          let n : suc k ≡ 1 + ps .types + ps .residuals = omega (arith, l, eqb-true (suc j) (t + ps .residuals) p) in
+          rw p (more done .0, priced-as (suc k) (1 + ps .types + ps .residuals) (withPrice ps x) n (more done .1))
       go false p =
-          let n : suc (ps .types + j) ≡ ps .types + suc j = omega arith in
-          let w′ = priced-as (suc (ps .types + j)) (ps .types + suc j) (withPrice ps x) n (more (platePrices (suc j)) .1) in
-          rw p (more (platePrices (suc j)) .0, (w′, omega arith, omega (arith, u, eqb-false j (ps .residuals) p)))
+          let n : suc k ≡ suc (ps .types + (suc j - t)) = omega (arith, l) in
+          let w′ = priced-as (suc k) (suc (ps .types + (suc j - t))) (withPrice ps x) n (more (platePrices (suc j)) .1) in
+          rw p (more (platePrices (suc j)) .0, (w′, omega (arith, l), omega (arith, u, eqb-false (suc j) (t + ps .residuals) p)))
 
 -- ---- every line
 
 saw-step : (p : Place) (ws : List ℕ) (rs : List Counted) (o : Option PriceLines) (rows : List (List ℕ)) (ns : List ℕ)
     → SawForm p rows (sawOf p ws rs o) → Admitted (sawAdmits (sawOf p ws rs o)) ns → SawAt (rows ++ (ns ∷ [])) (sawAfter (sawOf p ws rs o) ns)
 unfolding sawAdmits sawAfter
-saw-step first ws rs o rows ns h (inl a) = from-job (types 1) (rows ++ (ns ∷ [])) (drop 1 ns) (first-read rows ns h a)
+saw-step first ws rs o rows ns h (inl a) = from-job (sizes 0) (rows ++ (ns ∷ [])) (drop 1 ns) (first-read rows ns h a)
 saw-step first ws rs o rows ns h (inr a) = absurd a
+saw-step (sizes j) ws rs o rows ns h (inl a) = from-job (afterSize (boardSizes ws) j) (rows ++ (ns ∷ [])) (ws ++ drop 2 ns) (sizes-read j rows ws ns h a)
+saw-step (sizes j) ws rs o rows ns h (inr a) = absurd a
 saw-step (types i) ws rs o rows ns h (inl a) = from-job (afterType (typesOf ws) i) (rows ++ (ns ∷ [])) (ws ++ drop 2 ns) (types-read i rows ws ns h a)
 saw-step (types i) ws rs o rows ns h (inr a) = absurd a
 saw-step body ws rs none rows ns h (inl a) = plan-read rows ws rs ns (h .0) a

@@ -5,7 +5,7 @@ use mathlib.Core.Bool.{true}
 use mathlib.Core.List.{List}
 use mathlib.Core.Option.{Option, none, some}
 use Rattle.job.proofs.Tests.{not-both}
-use Rattle.texts.specs.JobLines.{Place, first, types, body, itemPrices, platePrices, done}
+use Rattle.texts.specs.JobLines.{Place, first, sizes, types, body, itemPrices, platePrices, done}
 use Rattle.texts.specs.SawText.{Counted, PriceLines, sawComplete, sawGrammar, sawOf}
 use Rattle.texts.specs.TextOf.{sawRowsOf}
 use Rattle.texts.specs.Held.{PricesHeld, SawWhole, SawBothWays}
@@ -21,6 +21,7 @@ complete-held :
     → SawWhole (sawOf p ws rs o) × (rows ≡ sawRowsOf (sawOf p ws rs o))
 unfolding sawComplete
 complete-held first ws rs o rows h c = absurd (not-both c refl)
+complete-held (sizes j) ws rs o rows h c = absurd (not-both c refl)
 complete-held (types i) ws rs o rows h c = absurd (not-both c refl)
 complete-held body ws rs none rows h c =
     (record { job = job-passes ws (h .0 .job); plan = h .0 .plan; prices = refl }, h .0 .lines)

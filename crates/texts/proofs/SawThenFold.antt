@@ -1,7 +1,7 @@
 -- The lines 7 of the saw program's output are, after the job's lines, a fold text that is accepted and gives back the plan's lines 3.
 use Prim.Native.Nat.{ℕ}
 use mathlib.Core.Path.{_≡_, refl, sym, ap, _∙_}
-use mathlib.Core.List.{List, [], _∷_, _++_, map, flatMap}
+use mathlib.Core.List.{List, [], _∷_, _++_, append-nil, map, flatMap}
 use mathlib.Core.Option.{Option, none, some}
 use Rattle.job.specs.Verdict.{pass}
 use Rattle.job.specs.Job.{Job, jobOf}
@@ -10,13 +10,14 @@ use Rattle.listing.specs.Listing.{plateAt}
 use Rattle.layouts.specs.Placement.{Placement, placementWords}
 use Rattle.layouts.specs.Demand3.{J, L}
 use Rattle.layouts.proofs.row.RowLines.{words-rows}
+use Rattle.columns.specs.Line.{lineOf}
 use Rattle.texts.specs.JobLines.{body, bodyLine}
 use Rattle.texts.specs.Reader.{Reader, started, fed, textRow}
-use Rattle.texts.specs.SawText.{Counted, PriceLines, Saw, sawGrammar, placementLine, sawRows, sawText}
+use Rattle.texts.specs.SawText.{Counted, PriceLines, Saw, sawGrammar, sawRows, placementRow, placementLine, resultRow, resultLine, sawText}
 use Rattle.texts.specs.FoldText.{Fold, foldGrammar, foldRows, foldOf}
-use Rattle.texts.specs.TextOf.{planRows, placementRow}
+use Rattle.texts.specs.TextOf.{planRows}
 use Rattle.texts.specs.Held.{SawWhole}
-use Rattle.texts.specs.Printed.{linesIn, resultRow, sawHolds, sawRun, printedRows, countedOf, foldCounts, foldPlan}
+use Rattle.texts.specs.Printed.{linesIn, sawHolds, sawRun, sawCost, printedRows, countedOf, foldCounts, foldPlan}
 use Rattle.texts.specs.Refused.{foldHolds, verdictOnSaw, verdictOnFold}
 use Rattle.texts.specs.Rounds.{jobText, ofKind, linesOfKind, sawCounts, SawThenFold}
 use Rattle.texts.proofs.Lists.{bytesOf}
@@ -28,7 +29,7 @@ use Rattle.texts.proofs.FoldRows.{layouts-any}
 use Rattle.texts.proofs.CountedPlan.{plan-counted}
 use Rattle.texts.proofs.FoldThenSaw.{fold-answer}
 
--- ---- the lines 7 of the output
+-- ---- the lines 7 and the line 8 of the output
 
 -- line 8 is none of them
 result-kind : (job : Job) (n : ℕ) (o : Option PriceLines) → ofKind 7 (resultRow job n o ∷ []) ≡ []
@@ -51,11 +52,32 @@ pub lines-seven : (s : Saw) (out : List ℕ) → linesIn out ≡ some (printedRo
 unfolding printedRows
 lines-seven s out e =
     let ps : List Placement = sawRun s .placements in
-    let n : ℕ = sawRun s .last .turn .board in
+    let n : ℕ = sawCost s in
     let last : List (List ℕ) = resultRow (jobOf (s .job)) n (s .prices) ∷ [] in
     kind-read 7 out (map placementRow ps ++ last) e
     ∙ ap bytesOf (placement-kind ps last (result-kind (jobOf (s .job)) n (s .prices)))
     ∙ sym (placement-lines ps)
+
+-- no line 7 is of kind 8
+placement-other : (ps : List Placement) (nss : List (List ℕ)) → ofKind 8 (map placementRow ps ++ nss) ≡ ofKind 8 nss
+unfolding ofKind placementRow
+placement-other [] nss = refl
+placement-other (p ∷ ps) nss = placement-other ps nss
+
+result-own : (job : Job) (n : ℕ) (o : Option PriceLines) → ofKind 8 (resultRow job n o ∷ []) ≡ resultRow job n o ∷ []
+unfolding ofKind resultRow
+result-own job n none = refl
+result-own job n (some ps) = refl
+
+-- line 8 has what the plan costs
+pub line-eight : (s : Saw) (out : List ℕ) → linesIn out ≡ some (printedRows s) → linesOfKind 8 out ≡ resultLine (jobOf (s .job)) (sawCost s) (s .prices)
+unfolding printedRows resultLine flatMap
+line-eight s out e =
+    let ps : List Placement = sawRun s .placements in
+    let row : List ℕ = resultRow (jobOf (s .job)) (sawCost s) (s .prices) in
+    kind-read 8 out (map placementRow ps ++ (row ∷ [])) e
+    ∙ ap bytesOf (placement-other ps (row ∷ []) ∙ result-own (jobOf (s .job)) (sawCost s) (s .prices))
+    ∙ append-nil (lineOf row)
 
 -- ---- the fold text
 

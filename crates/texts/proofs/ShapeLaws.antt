@@ -17,8 +17,8 @@ use Rattle.job.proofs.CodeEnds.{then-pass}
 use Rattle.columns.specs.Group.{limit}
 use Rattle.columns.specs.Line.{Fit, lineOf, readLine}
 use Rattle.columns.proofs.ReadLaws.{read-written, written-read}
-use Rattle.texts.specs.Shape.{Limit, Shape, jobLine, itemLine, planLine, pricesLine, layoutLine, begins, formed, eachWithin, values, numbersRow, lineRow}
-use Rattle.texts.specs.JobLines.{typesOf}
+use Rattle.texts.specs.Shape.{Limit, Shape, jobLine, sizeLine, itemLine, planLine, pricesLine, layoutLine, begins, formed, eachWithin, values, numbersRow, lineRow}
+use Rattle.texts.specs.JobLines.{boardSizes, typesOf}
 use Rattle.texts.specs.Admitted.{InLimits, OfShape, Admitted}
 use Rattle.texts.proofs.Basics.{and-parts, within-parts, unless-passed}
 
@@ -244,6 +244,10 @@ pub narrow-job : Narrow jobLine
 unfolding Fit
 narrow-job = omega arith
 
+pub narrow-size : (j : ℕ) → j < limit → Narrow (sizeLine j)
+unfolding Fit
+narrow-size j h = omega arith
+
 pub narrow-item : (i : ℕ) → i < limit → Narrow (itemLine i)
 unfolding Fit
 narrow-item i h = omega arith
@@ -256,9 +260,9 @@ pub narrow-prices : Narrow pricesLine
 unfolding Fit
 narrow-prices = omega arith
 
-pub narrow-layout : (ws : List ℕ) → typesOf ws < limit → Narrow (layoutLine ws)
+pub narrow-layout : (ws : List ℕ) → boardSizes ws < limit → typesOf ws < limit → Narrow (layoutLine ws)
 unfolding Fit
-narrow-layout ws h = omega arith
+narrow-layout ws z h = omega arith
 
 -- the groups of a line of a shape
 abbrev pub groupsOf : Shape → ℕ

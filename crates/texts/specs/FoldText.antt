@@ -1,4 +1,4 @@
--- Document 01, "Texts": the fold text, "kinds 1, 2 and 7", and what the fold program writes, "lines of kind 3, or one line 9 alone".
+-- Document 01, "Texts", with the sizes of request Six: the fold text, kinds 1, 10, 2 and 7, and what the fold program writes, "lines of kind 3, or one line 9 alone".
 use Prim.Native.Nat.{ℕ}
 use mathlib.Core.Bool.{Bool, true, false}
 use mathlib.Core.List.{List, [], _∷_, _++_}
@@ -12,9 +12,9 @@ use Rattle.layouts.specs.Lines.{rowsOf, setOf}
 use Rattle.layouts.specs.LayoutsRow.{layoutsRow}
 use Rattle.layouts.specs.Fold.{folded}
 use Rattle.columns.specs.Line.{lineOf}
-use Rattle.texts.specs.Shape.{Shape, jobLine, itemLine, layoutLine}
+use Rattle.texts.specs.Shape.{Shape, jobLine, sizeLine, itemLine, layoutLine}
 use Rattle.texts.specs.Reader.{Grammar, Reader, started, fed, textRow, written}
-use Rattle.texts.specs.JobLines.{Place, first, types, body, itemPrices, platePrices, done, typesOf, afterType, bodyLine}
+use Rattle.texts.specs.JobLines.{Place, first, sizes, types, body, itemPrices, platePrices, done, boardSizes, typesOf, afterSize, afterType, bodyLine}
 
 -- a fold text so far: what comes next, the job's words, the layout words
 pub record Fold : Type 0 where
@@ -31,6 +31,7 @@ unfoldable pub foldAdmits : Fold → List Shape
 foldAdmits f =
     elim (f .place) [
       | first ↦ jobLine ∷ []
+      | sizes j ↦ sizeLine j ∷ []
       | types i ↦ itemLine i ∷ []
       | body ↦ layoutLine (f .job) ∷ []
       | itemPrices i ↦ []
@@ -42,7 +43,8 @@ foldAdmits f =
 unfoldable pub foldAfter : Fold → List ℕ → Fold
 foldAfter f ns =
     elim (f .place) [
-      | first ↦ record { place = types 1; job = drop 1 ns; layouts = [] }
+      | first ↦ record { place = sizes 0; job = drop 1 ns; layouts = [] }
+      | sizes j ↦ record { place = afterSize (boardSizes (f .job)) j; job = f .job ++ drop 2 ns; layouts = [] }
       | types i ↦ record { place = afterType (typesOf (f .job)) i; job = f .job ++ drop 2 ns; layouts = [] }
       | body ↦ record { place = body; job = f .job; layouts = f .layouts ++ drop 1 ns }
       | itemPrices i ↦ f
@@ -55,6 +57,7 @@ unfoldable pub foldComplete : Fold → Bool
 foldComplete f =
     elim (f .place) [
       | first ↦ false
+      | sizes j ↦ false
       | types i ↦ false
       | body ↦ true
       | itemPrices i ↦ false

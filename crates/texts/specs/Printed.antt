@@ -1,26 +1,26 @@
 -- Document 01, "Texts": any text of lines read as its numbers, what the programs write as numbers, and what it says when it is read back.
-use Prim.Native.Nat.{ℕ, suc, _+_, _≤_}
+use Prim.Native.Nat.{ℕ, _+_, _≤_}
 use mathlib.Core.Path.{_≡_}
-use mathlib.Core.Bool.{true, false, cond}
+use mathlib.Core.Bool.{true, false}
 use mathlib.Core.List.{List, [], _∷_, _++_, map, flatMap}
 use mathlib.Core.Option.{Option, none, some}
 use lib.Dec.{eqb}
 use lib.ListN.{length}
 use Rattle.job.specs.Verdict.{pass}
-use Rattle.job.specs.Job.{Job, maxPieces, typeOf, turnOf, jobOf, jobWords}
+use Rattle.job.specs.Job.{maxPieces, typeOf, turnOf, jobOf, jobWords}
 use Rattle.listing.specs.declared.plate.Plate.{Plate}
 use Rattle.listing.specs.Listing.{Cut, plateAt, listingOf}
-use Rattle.plan.specs.Prices.{pricesOf, priceSum, fewest}
+use Rattle.plan.specs.Plan.{planCost}
 use Rattle.layouts.specs.Placement.{Placement, placementWords}
 use Rattle.layouts.specs.Lines.{layoutWords, setOf}
 use Rattle.layouts.specs.Unfold.{Run, unfolded}
 use Rattle.layouts.specs.Fold.{folded}
 use Rattle.columns.specs.Line.{Fit, lineOf, readLine}
 use Rattle.texts.specs.Reader.{started, fed, textRow}
-use Rattle.texts.specs.JobLines.{body, typesOf}
-use Rattle.texts.specs.SawText.{Counted, PriceLines, Saw, sawGrammar, planCounts, sawRows, placementLine, sawLines, sawText}
+use Rattle.texts.specs.JobLines.{body, jobLines}
+use Rattle.texts.specs.SawText.{Counted, Saw, sawGrammar, planCounts, sawRows, placementRow, placementLine, resultRow, sawLines, sawText}
 use Rattle.texts.specs.FoldText.{Fold, foldGrammar, foldLines}
-use Rattle.texts.specs.TextOf.{jobRows, planRows, placementRow}
+use Rattle.texts.specs.TextOf.{jobRows, planRows}
 
 -- a line before the lines after it
 abbrev pub alsoLine : Option (List ℕ) → Option (List (List ℕ)) → Option (List (List ℕ))
@@ -52,13 +52,6 @@ pub record LinesBothWays : Type 0 where
   pub read : (bs : List ℕ) (nss : List (List ℕ)) → linesIn bs ≡ some nss → (bs ≡ flatMap lineOf nss) × AllFit nss
   pub written : (nss : List (List ℕ)) → AllFit nss → linesIn (flatMap lineOf nss) ≡ some nss
 
--- line 8 as numbers
-unfoldable pub resultRow : Job → ℕ → Option PriceLines → List ℕ
-resultRow job n none = 8 ∷ n ∷ 0 ∷ 1 ∷ 0 ∷ []
-resultRow job n (some pl) =
-    let ps = pricesOf job (pl .words) in
-    8 ∷ n ∷ priceSum job ps ∷ ps .denominator ∷ cond (fewest job ps n) 1 0 ∷ []
-
 -- what a saw text holds
 abbrev pub sawHolds : List ℕ → Saw
 sawHolds bs = fed sawGrammar (started sawGrammar) bs .state
@@ -68,10 +61,15 @@ abbrev pub sawRun : Saw → Run
 sawRun s =
     let l = listingOf (jobOf (s .job)) in unfolded (jobOf (s .job)) l (planCounts l (s .plan))
 
+-- and what its boards cost (request Six)
+abbrev pub sawCost : Saw → ℕ
+sawCost s =
+    let l = listingOf (jobOf (s .job)) in planCost (jobOf (s .job)) l (planCounts l (s .plan))
+
 -- what the saw program writes, as numbers: a line 7 for each placement, then line 8
 unfoldable pub printedRows : Saw → List (List ℕ)
 printedRows s =
-    map placementRow (sawRun s .placements) ++ (resultRow (jobOf (s .job)) (sawRun s .last .turn .board) (s .prices) ∷ [])
+    map placementRow (sawRun s .placements) ++ (resultRow (jobOf (s .job)) (sawCost s) (s .prices) ∷ [])
 
 -- line 3 of a cut on plate type p that is counted n times
 abbrev pub countedCut : Plate → Cut → ℕ → Counted
@@ -115,7 +113,7 @@ pub record PrintedBack : Type 0 where
       → (fed foldGrammar (started foldGrammar) (flatMap lineOf (jobRows ws) ++ flatMap placementLine ps)
       ≡ record {
         state = record { place = body; job = ws; layouts = placementWords ps };
-        lines = suc (typesOf ws) + length ps;
+        lines = jobLines ws + length ps;
         pending = [];
         verdict = pass;
       })

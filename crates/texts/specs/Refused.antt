@@ -42,7 +42,7 @@ lastOf residual = maxResiduals
 lastOf cut = maxCuts
 lastOf nothing = 0
 
--- the column "Place named", for texts, by number: 1 and 2 a line, 3 a type, 4 to 7 nothing, 8 and 9 a line, 10 nothing, 11 a type, 12 a residual type,
+-- the column "Place named", for texts, by number: 1 and 2 a line, 3 a type, 4 to 7 nothing, 8 and 9 a line, 10 nothing, 11 a type, 12 a residual type by its plate number,
 -- 13 nothing, 14 a cut, 15 to 18 a line, and so request One's 19 and request Five's 20; 5 is about lent buffers and refuses no text
 abbrev pub placesNamed : List Names
 placesNamed =

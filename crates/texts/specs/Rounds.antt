@@ -18,7 +18,7 @@ use Rattle.texts.specs.TextOf.{jobRows, planRows}
 use Rattle.texts.specs.Printed.{linesIn, sawHolds, sawRun, foldCounts, foldPlan}
 use Rattle.texts.specs.Refused.{foldHolds, verdictOnSaw, verdictOnFold}
 
--- the lines 1 and 2 of job words, as bytes
+-- the lines 1, 10 and 2 of job words, as bytes
 abbrev pub jobText : List ℕ → List ℕ
 jobText ws = flatMap lineOf (jobRows ws)
 

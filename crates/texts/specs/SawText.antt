@@ -1,4 +1,5 @@
--- Document 01, "Texts": the saw text, "kinds 1, 2, 3 and, if present, 4, 5, 6", and what the saw program writes, "kinds 7 and 8, or one line 9 alone".
+-- Document 01, "Texts", with the sizes of request Six: the saw text, kinds 1, 10, 2, 3 "and, if present, 4, 5, 6", and what the saw program writes, "kinds 7
+-- and 8, or one line 9 alone".
 use Prim.Native.Nat.{ℕ, zero, suc, _+_, _*_}
 use mathlib.Core.Bool.{Bool, true, false, cond, not}
 use mathlib.Core.List.{List, [], _∷_, _++_, flatMap}
@@ -11,15 +12,15 @@ use Rattle.job.specs.Job.{Job, typeOf, turnOf, jobOf, admission}
 use Rattle.listing.specs.declared.plate.Plate.{Plate}
 use Rattle.listing.specs.Plate.{plate, same}
 use Rattle.listing.specs.Listing.{Listing, plateAt, modelRow, listingOf}
-use Rattle.plan.specs.Plan.{planRow}
-use Rattle.plan.specs.Prices.{pricesOf, modelSized, pricesRow, priceSum, fewest}
+use Rattle.plan.specs.Plan.{planRow, planCost}
+use Rattle.plan.specs.Prices.{pricesOf, modelSized, pricesRow, priceSum, cheapest}
 use Rattle.layouts.specs.Placement.{Placement}
 use Rattle.layouts.specs.Unfold.{unfolded}
 use Rattle.layouts.specs.Fold.{cutOf}
 use Rattle.columns.specs.Line.{lineOf}
-use Rattle.texts.specs.Shape.{Shape, jobLine, itemLine, planLine, pricesLine, itemPriceLine, platePriceLine}
+use Rattle.texts.specs.Shape.{Shape, jobLine, sizeLine, itemLine, planLine, pricesLine, itemPriceLine, platePriceLine}
 use Rattle.texts.specs.Reader.{Grammar, Reader, started, fed, textRow, written}
-use Rattle.texts.specs.JobLines.{Place, first, types, body, itemPrices, platePrices, done, typesOf, afterType, bodyLine}
+use Rattle.texts.specs.JobLines.{Place, first, sizes, types, body, itemPrices, platePrices, done, boardSizes, typesOf, afterSize, afterType, bodyLine}
 
 -- a line 3: plate, item type, its turn, count; request One, "a cut becomes plate, type and turn"; and the plate that it shows, request Five, "the plate's
 -- width, height and stage"
@@ -52,6 +53,7 @@ unfoldable pub sawAdmits : Saw → List Shape
 sawAdmits s =
     elim (s .place) [
       | first ↦ jobLine ∷ []
+      | sizes j ↦ sizeLine j ∷ []
       | types i ↦ itemLine i ∷ []
       | body ↦ planLine (s .job) ∷ pricesLine ∷ []
       | itemPrices i ↦ itemPriceLine i ∷ []
@@ -59,12 +61,13 @@ sawAdmits s =
       | done ↦ []
     ]
 
--- what comes after line 5 of type i, of n types and m residual types; after line 6 of plate type j
-unfoldable pub afterItemPrice : ℕ → ℕ → ℕ → Place
-afterItemPrice n m i = cond (eqb i n) (cond (eqb m 0) done (platePrices 1)) (itemPrices (suc i))
+-- what comes after line 5 of type i, of t sizes, n types and m residual types; after line 6 of plate type j. Request Six: residual types have the plate
+-- numbers t to t+m−1
+unfoldable pub afterItemPrice : ℕ → ℕ → ℕ → ℕ → Place
+afterItemPrice t n m i = cond (eqb i n) (cond (eqb m 0) done (platePrices t)) (itemPrices (suc i))
 
-unfoldable pub afterPlatePrice : ℕ → ℕ → Place
-afterPlatePrice m j = cond (eqb j m) done (platePrices (suc j))
+unfoldable pub afterPlatePrice : ℕ → ℕ → ℕ → Place
+afterPlatePrice t m j = cond (eqb (suc j) (t + m)) done (platePrices (suc j))
 
 -- one price more
 abbrev pub withPrice : PriceLines → ℕ → PriceLines
@@ -113,11 +116,12 @@ bodyRead s ns =
 unfoldable pub sawAfter : Saw → List ℕ → Saw
 sawAfter s ns =
     elim (s .place) [
-      | first ↦ record { place = types 1; job = drop 1 ns; plan = []; prices = none }
+      | first ↦ record { place = sizes 0; job = drop 1 ns; plan = []; prices = none }
+      | sizes j ↦ record { place = afterSize (boardSizes (s .job)) j; job = s .job ++ drop 2 ns; plan = []; prices = none }
       | types i ↦ record { place = afterType (typesOf (s .job)) i; job = s .job ++ drop 2 ns; plan = []; prices = none }
       | body ↦ bodyRead s ns
-      | itemPrices i ↦ priceRead s (λ n m. afterItemPrice n m i) (getD ns 2 0)
-      | platePrices j ↦ priceRead s (λ n m. afterPlatePrice m j) (getD ns 2 0)
+      | itemPrices i ↦ priceRead s (λ n m. afterItemPrice (boardSizes (s .job)) n m i) (getD ns 2 0)
+      | platePrices j ↦ priceRead s (λ n m. afterPlatePrice (boardSizes (s .job)) m j) (getD ns 2 0)
       | done ↦ s
     ]
 
@@ -126,6 +130,7 @@ unfoldable pub sawComplete : Saw → Bool
 sawComplete s =
     elim (s .place) [
       | first ↦ false
+      | sizes j ↦ false
       | types i ↦ false
       | body ↦ true
       | itemPrices i ↦ false
@@ -187,7 +192,7 @@ planCounts l rs = countsFrom l rs 1 (length (l .cuts))
 unfoldable pub priceLinesRow : Job → Listing → Option PriceLines → Verdict
 priceLinesRow job l none = pass
 priceLinesRow job l (some ps) =
-    modelSized job l (ps .types) (ps .residuals) then pricesRow l (pricesOf job (ps .words))
+    modelSized job l (ps .types) (ps .residuals) then pricesRow job l (pricesOf job (ps .words))
 
 -- the rows after the line row: job, model, plan, prices; in the plan row 20 stands "after 8 and before 9", each over all lines 3
 unfoldable pub sawRows : Saw → Verdict
@@ -202,12 +207,12 @@ sawRows s =
     then planRow job l (planCounts l (s .plan))
     then priceLinesRow job l (s .prices)
 
--- line 7 of a placement; request One, it "ends with the turn"
-unfoldable pub placementLine : Placement → List ℕ
-placementLine p =
-    lineOf
-    (7
-    ∷ p .turn .board
+-- line 7 of a placement, as numbers and as bytes; request One, lines 3 and 7 "end with the turn"; request Six, it "names its size after the board"
+unfoldable pub placementRow : Placement → List ℕ
+placementRow p =
+    7
+    ∷ p .turn .board .number
+    ∷ p .turn .board .size
     ∷ p .turn .strip
     ∷ p .turn .stack
     ∷ p .turn .place
@@ -215,22 +220,29 @@ placementLine p =
     ∷ p .x
     ∷ p .y
     ∷ turnOf (p .item)
-    ∷ [])
+    ∷ []
 
--- line 8: boards, sum, D, fewest; "without prices: sum 0, D 1, fewest 0"
-unfoldable pub resultLine : Job → ℕ → Option PriceLines → List ℕ
-resultLine job n none = lineOf (8 ∷ n ∷ 0 ∷ 1 ∷ 0 ∷ [])
-resultLine job n (some pl) =
+unfoldable pub placementLine : Placement → List ℕ
+placementLine p = lineOf (placementRow p)
+
+-- line 8, as numbers and as bytes: cost, sum, D, cheapest, of a plan that costs so much; request Six, it "gives cost for boards", and "fewest" becomes
+-- "cheapest"; without prices the sum is 0, D is 1 and cheapest is 0
+unfoldable pub resultRow : Job → ℕ → Option PriceLines → List ℕ
+resultRow job cost none = 8 ∷ cost ∷ 0 ∷ 1 ∷ 0 ∷ []
+resultRow job cost (some pl) =
     let ps = pricesOf job (pl .words) in
-    lineOf (8 ∷ n ∷ priceSum job ps ∷ ps .denominator ∷ cond (fewest job ps n) 1 0 ∷ [])
+    8 ∷ cost ∷ priceSum job ps ∷ ps .denominator ∷ cond (cheapest job ps cost) 1 0 ∷ []
+
+unfoldable pub resultLine : Job → ℕ → Option PriceLines → List ℕ
+resultLine job cost prices = lineOf (resultRow job cost prices)
 
 -- what the saw program writes of a plan that is accepted
 unfoldable pub sawLines : Saw → List ℕ
 sawLines s =
     let job = jobOf (s .job) in
     let l = listingOf job in
-    let r = unfolded job l (planCounts l (s .plan)) in
-    flatMap placementLine (r .placements) ++ resultLine job (r .last .turn .board) (s .prices)
+    let ns = planCounts l (s .plan) in
+    flatMap placementLine (unfolded job l ns .placements) ++ resultLine job (planCost job l ns) (s .prices)
 
 -- the answer to a saw text so far, if it ends here
 unfoldable pub sawWritten : Reader Saw → List ℕ

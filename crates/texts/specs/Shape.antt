@@ -5,12 +5,12 @@ use mathlib.Core.List.{List, [], _∷_}
 use mathlib.Core.Option.{Option, none, some}
 use lib.Dec.{eqb}
 use lib.ListN.{length, getD, drop}
-use Rattle.job.specs.Sizes.{maxBlade, maxResiduals}
+use Rattle.job.specs.Sizes.{maxBlade, maxSizes, maxCost, maxResiduals}
 use Rattle.job.specs.Verdict.{Verdict, refuse, _then_, refuseIf, within}
 use Rattle.job.specs.Job.{jobOf, permitted, maxSide, maxTypes, maxPieces}
 use Rattle.plan.specs.Prices.{maxPrice}
 use Rattle.columns.specs.Group.{limit}
-use Rattle.texts.specs.JobLines.{typesOf}
+use Rattle.texts.specs.JobLines.{boardSizes, typesOf}
 
 -- the lowest and the highest value of a number
 pub record Limit : Type 0 where
@@ -37,8 +37,8 @@ pub record Shape : Type 0 where
 abbrev pub shape : ℕ → List ℕ → List Limit → Shape
 shape kind running limits = record { kind = kind; running = running; limits = limits; permits = λ _. true }
 
--- request One: a kind that "ends with the turn". Of its numbers after the kind the type stands at place i and the turn at place t, from 0, and the job
--- of the words ws has to permit that position
+-- request One, lines 3 and 7 "end with the turn": a kind that does. Of its numbers after the kind the type stands at place i and the turn at place t, from
+-- 0, and the job of the words ws has to permit that position
 abbrev pub turning : ℕ → List Limit → List ℕ → ℕ → ℕ → Shape
 turning kind limits ws i t =
     record {
@@ -48,9 +48,14 @@ turning kind limits ws i t =
       permits = λ vs. permitted (jobOf ws) (2 * getD vs i 0 + getD vs t 0);
     }
 
--- kind 1: stages (2 or 3), exact (1 or 0), W, H, n, b; request Four, "b from 0 to 20 mm, as the last number of line 1"
+-- kind 1: stages (2 or 3), exact (1 or 0), t, n, b; request Four, "b from 0 to 20 mm, as the last number of line 1"; request Six, it "gives their number
+-- t (1 to 6, else 2) in place of W and H"
 abbrev pub jobLine : Shape
-jobLine = shape 1 [] (2 to 3 ∷ 0 to 1 ∷ 1 to maxSide ∷ 1 to maxSide ∷ 1 to maxTypes ∷ 0 to maxBlade ∷ [])
+jobLine = shape 1 [] (2 to 3 ∷ 0 to 1 ∷ 1 to maxSizes ∷ 1 to maxTypes ∷ 0 to maxBlade ∷ [])
+
+-- kind 10 (request Six): size, W, H, cost; "lines of kind 10 follow it in order", and size j is the next
+abbrev pub sizeLine : ℕ → Shape
+sizeLine j = shape 10 (j ∷ []) (1 to maxSide ∷ 1 to maxSide ∷ 1 to maxCost ∷ [])
 
 -- kind 2: type, width, height, demand, leave; type i is the next in order; request One, "1 if the type may be turned, 0 if not"
 abbrev pub itemLine : ℕ → Shape
@@ -68,19 +73,29 @@ planLine ws =
 abbrev pub pricesLine : Shape
 pricesLine = shape 4 [] (1 to maxPrice ∷ 1 to maxTypes ∷ 0 to maxResiduals ∷ [])
 
--- kind 5: type, price; kind 6: plate type, price; each in order
+-- kind 5: type, price; kind 6: plate type, price; each in order. Request Six: the plate types of lines 6 are plate numbers, from t on
 abbrev pub itemPriceLine : ℕ → Shape
 itemPriceLine i = shape 5 (i ∷ []) (0 to maxPrice ∷ [])
 
 abbrev pub platePriceLine : ℕ → Shape
 platePriceLine j = shape 6 (j ∷ []) (0 to maxPrice ∷ [])
 
--- kind 7 of a job of the words ws: board, strip, stack, place, type, x, y, turn
+-- kind 7 of a job of the words ws: board, size, strip, stack, place, type, x, y, turn; request Six, a placement "names its size after the board", 0
+-- to t−1
 abbrev pub layoutLine : List ℕ → Shape
 layoutLine ws =
     turning 7
-    (1 to maxPieces ∷ 1 to maxPieces ∷ 1 to maxPieces ∷ 1 to maxPieces ∷ 1 to typesOf ws ∷ 0 to maxSide ∷ 0 to maxSide ∷ 0 to 1 ∷ [])
-    ws 4 7
+    (1 to maxPieces
+    ∷ 0 to (boardSizes ws - 1)
+    ∷ 1 to maxPieces
+    ∷ 1 to maxPieces
+    ∷ 1 to maxPieces
+    ∷ 1 to typesOf ws
+    ∷ 0 to maxSide
+    ∷ 0 to maxSide
+    ∷ 0 to 1
+    ∷ [])
+    ws 5 8
 
 -- the second list begins with the first
 unfoldable pub begins : List ℕ → List ℕ → Bool

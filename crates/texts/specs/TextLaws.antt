@@ -15,7 +15,7 @@ use Rattle.plan.specs.PriceCall.{priceVerdict}
 use Rattle.layouts.specs.FoldCall.{foldVerdict}
 use Rattle.columns.specs.Widths.{mostNumbers}
 use Rattle.columns.specs.Line.{Fit, lineOf, readLine}
-use Rattle.texts.specs.Widths.{placementLineBytes, jobLineBytes, typeLineBytes, planLineBytes}
+use Rattle.texts.specs.Widths.{placementLineBytes, jobLineBytes, sizeLineBytes, typeLineBytes, planLineBytes}
 use Rattle.texts.specs.Shape.{Shape, lineRow}
 use Rattle.texts.specs.Reader.{Grammar, Reader, started, lineRead, fed, textRow, maxLines}
 use Rattle.texts.specs.SawText.{PriceLines, Saw, sawGrammar, planCounts, sawRows, sawText}
@@ -58,7 +58,7 @@ pub record InParts {S : Type 0} (g : Grammar S) : Type 0 where
   pub parts : (r : Reader S) (as′ bs : List ℕ) → fed g r (as′ ++ bs) ≡ fed g (fed g r as′) bs
   -- once refused a text stays as it is
   pub refused : (r : Reader S) (bs : List ℕ) (n p : ℕ) → r .verdict ≡ refuse n p → fed g r bs ≡ r
-  -- a line written of at most nine numbers is read at once
+  -- a line written of at most ten numbers is read at once
   pub line :
       (r : Reader S) (ns : List ℕ)
       → r .verdict ≡ pass
@@ -82,16 +82,16 @@ pub record InParts {S : Type 0} (g : Grammar S) : Type 0 where
       → r .pending ≡ []
       → g .complete (r .state) ≡ false
       → textRow g r ≡ refuse 1 (suc (r .lines))
-  -- what a reader keeps of a line that has begun is at most 81 bytes
+  -- what a reader keeps of a line that has begun is at most 90 bytes
   pub kept : (bs : List ℕ) → length (fed g (started g) bs .pending) < placementLineBytes
 
--- the bytes of the longest saw text, 7,299,900: line 1, one line 2, and a line 3 for each of the 99,997 lines after them
+-- the bytes of the longest saw text, 7,299,864: line 1, one line 10, one line 2, and a line 3 for each of the 99,996 lines after them
 abbrev pub longestSawText : ℕ
-longestSawText = jobLineBytes + typeLineBytes + planLineBytes * (maxLines - 2)
+longestSawText = jobLineBytes + sizeLineBytes + typeLineBytes + planLineBytes * (maxLines - 3)
 
--- the bytes of the longest fold text, 8,199,873: line 1, one line 2, and a line 7 for each of the 99,997 lines after them
+-- the bytes of the longest fold text, 9,099,792: line 1, one line 10, one line 2, and a line 7 for each of the 99,996 lines after them
 abbrev pub longestFoldText : ℕ
-longestFoldText = jobLineBytes + typeLineBytes + placementLineBytes * (maxLines - 2)
+longestFoldText = jobLineBytes + sizeLineBytes + typeLineBytes + placementLineBytes * (maxLines - 3)
 
 -- how much of a text decides: as many bytes as the longest has, and one more
 pub record Decided : Type 0 where

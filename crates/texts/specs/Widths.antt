@@ -2,9 +2,13 @@
 use Prim.Native.Nat.{ℕ}
 use Rattle.columns.specs.Widths.{lineBytes}
 
--- kind 1: the kind, stages, exact, W, H, n, b; request Four, the blade's width is "the last number of line 1"
+-- kind 1: the kind, stages, exact, t, n, b; request Four, the blade's width is "the last number of line 1"; request Six, t stands "in place of W and H"
 abbrev pub jobLineBytes : ℕ
-jobLineBytes = lineBytes 7
+jobLineBytes = lineBytes 6
+
+-- kind 10 (request Six): the kind, size, W, H, cost
+abbrev pub sizeLineBytes : ℕ
+sizeLineBytes = lineBytes 5
 
 -- kind 2: the kind, type, width, height, demand, leave
 abbrev pub typeLineBytes : ℕ
@@ -22,11 +26,11 @@ pricesLineBytes = lineBytes 4
 abbrev pub priceLineBytes : ℕ
 priceLineBytes = lineBytes 3
 
--- kind 7: the kind, board, strip, stack, place, type, x, y, turn
+-- kind 7: the kind, board, size (request Six), strip, stack, place, type, x, y, turn
 abbrev pub placementLineBytes : ℕ
-placementLineBytes = lineBytes 9
+placementLineBytes = lineBytes 10
 
--- kind 8: the kind, boards, sum, D, fewest
+-- kind 8: the kind, cost (request Six), sum, D, cheapest
 abbrev pub summaryLineBytes : ℕ
 summaryLineBytes = lineBytes 5
 

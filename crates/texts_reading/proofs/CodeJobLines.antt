@@ -1,20 +1,20 @@
--- Lines whose numbers pass: as many as the shape has, each value a word within its limits; lines 1 and 2 as the job's words.
-use Prim.Native.Nat.{ℕ, zero, suc, _-_, _≤_, _<_}
+-- Lines whose numbers pass: as many as the shape has, each value a word within its limits; lines 1, 10 and 2 as the job's words.
+use Prim.Native.Nat.{ℕ, zero, suc, _+_, _-_, _≤_, _<_}
 use mathlib.Core.Path.{_≡_, refl, sym, ap, _∙_}
 use mathlib.Core.Logic.{_⊎_, inl, inr}
 use mathlib.Core.List.{List, [], _∷_}
 use native.Mathlib.Omega.{arith}
 use lib.ListN.{length, getD, take, drop, length-drop}
 use lib.Seq.{drop-append-seam}
-use Rattle.job.specs.Sizes.{wordsOfHead, wordsOfItem, jobSize, wordOfType}
+use Rattle.job.specs.Sizes.{wordsOfHead, wordsOfSize, wordsOfItem, wordsBefore, jobSize, wordOfType}
 use Rattle.job.specs.Verdict.{Verdict, pass}
 use Rattle.columns.specs.Group.{put}
-use Rattle.texts.specs.Shape.{Limit, _to_, Shape, jobLine, itemLine, numbersRow}
-use Rattle.texts.specs.JobLines.{typesOf}
+use Rattle.texts.specs.Shape.{Limit, _to_, Shape, jobLine, sizeLine, itemLine, numbersRow}
+use Rattle.texts.specs.JobLines.{boardSizes, typesOf}
 use Rattle.texts.specs.Admitted.{InLimits, OfShape}
 use Rattle.texts.proofs.ShapeLaws.{row-admitted, shape-groups}
 use Rattle.texts_reading.specs.Judged.{lineVerdict}
-use Rattle.texts_reading.specs.JobRead.{FirstRead, ItemRead}
+use Rattle.texts_reading.specs.JobRead.{SameHead, FirstRead, SizeRead, ItemRead}
 use Rattle.texts_reading.proofs.CodeWords.{put-held, put-before, put-here, part-rest}
 
 -- ---- numbers that pass
@@ -70,7 +70,7 @@ module _ (s : Shape) (ns : List ℕ) (a : ℕ) (e : suc (length (s .running)) �
 
 module _ (ns job : List ℕ) (r : ℕ) (row : (line : ℕ) → lineVerdict r line ≡ numbersRow line (jobLine ∷ []) ns) where
   pub first-refused : (r ≡ 0 → ⊥) → FirstRead ns job job r
-  first-refused n = record { row = row; unchanged = λ q. refl; read = λ e. absurd (n e); types = λ e. absurd (n e) }
+  first-refused n = record { row = row; unchanged = λ q. refl; read = λ e. absurd (n e); sizes = λ e. absurd (n e); types = λ e. absurd (n e) }
 
   pub first-shape : r ≡ 0 → OfShape jobLine ns
   first-shape e = of-shape 1 jobLine ns (passed 1 e (row 1))
@@ -81,31 +81,65 @@ module _ (ns job : List ℕ) (r : ℕ) (row : (line : ℕ) → lineVerdict r lin
       let n = shape-groups jobLine ns o in
       let p : job′ ≡ put job 0 (drop 1 ns) = q ∙ rw (part-rest ns 1) in
       let d : length (drop 1 ns) ≡ wordsOfHead = rw length-drop (omega arith) in
-      let v : typesOf job′ ≡ typesOf (o .others) = rw (p, put-here job (drop 1 ns) 4 (omega arith)) (ap typesOf (shape-values jobLine ns o)) in
+      let u : boardSizes job′ ≡ boardSizes (o .others) = rw (p, put-here job (drop 1 ns) 2 (omega arith)) (ap boardSizes (shape-values jobLine ns o)) in
+      let v : typesOf job′ ≡ typesOf (o .others) = rw (p, put-here job (drop 1 ns) 3 (omega arith)) (ap typesOf (shape-values jobLine ns o)) in
       record {
         row = λ line. sym (passed line e (row line));
         unchanged = λ z. absurd (z refl);
         read = λ _ held. rw p (put-held [] (drop 1 ns) 0 refl (omega arith) held);
-        types = λ _. rw v (limit-at (jobLine .limits) (o .others) (o .limits) 4 (omega arith));
+        sizes = λ _. rw u (limit-at (jobLine .limits) (o .others) (o .limits) 2 (omega arith));
+        types = λ _. rw v (limit-at (jobLine .limits) (o .others) (o .limits) 3 (omega arith));
+      }
+
+-- words that are put behind the head leave it as it is
+put-same : (job xs : List ℕ) (at : ℕ) {job′ : List ℕ} → wordsOfHead ≤ at → at ≤ length job → job′ ≡ put job at xs → SameHead job job′
+put-same job xs at low high p =
+    record {
+      sizes = rw p (put-before job at xs 2 (omega arith) (omega arith));
+      types = rw p (put-before job at xs 3 (omega arith) (omega arith));
+    }
+
+-- ---- line 10
+
+module _ (j : ℕ) (ns job : List ℕ) (r : ℕ) (row : (line : ℕ) → lineVerdict r line ≡ numbersRow line (sizeLine j ∷ []) ns) where
+  pub size-refused : (r ≡ 0 → ⊥) → SizeRead j ns job job r
+  size-refused n = record { row = row; unchanged = λ q. refl; read = λ e. absurd (n e); same = λ e. absurd (n e) }
+
+  pub size-shape : r ≡ 0 → OfShape (sizeLine j) ns
+  size-shape e = of-shape 1 (sizeLine j) ns (passed 1 e (row 1))
+
+  pub size-read : {job′ : List ℕ} → r ≡ 0 → wordsBefore (j + 1) ≤ length job → job′ ≡ put job (wordsBefore j) (take (length ns - 2) (drop 2 ns)) → SizeRead j ns job job′ 0
+  size-read {job′} e h q =
+      let n = shape-groups (sizeLine j) ns (size-shape e) in
+      let p : job′ ≡ put job (wordsBefore j) (drop 2 ns) = q ∙ rw (part-rest ns 2) in
+      let d : length (drop 2 ns) ≡ wordsOfSize = rw length-drop (omega arith) in
+      record {
+        row = λ line. sym (passed line e (row line));
+        unchanged = λ z. absurd (z refl);
+        read = λ _ ws s held. rw p (put-held ws (drop 2 ns) (wordsBefore j) s (omega arith) held);
+        same = λ _. put-same job (drop 2 ns) (wordsBefore j) (omega arith) (omega arith) p;
       }
 
 -- ---- line 2
 
 module _ (i : ℕ) (ns job : List ℕ) (r : ℕ) (row : (line : ℕ) → lineVerdict r line ≡ numbersRow line (itemLine i ∷ []) ns) where
   pub item-refused : (r ≡ 0 → ⊥) → ItemRead i ns job job r
-  item-refused n = record { row = row; unchanged = λ q. refl; read = λ e. absurd (n e); types = λ e. absurd (n e) }
+  item-refused n = record { row = row; unchanged = λ q. refl; read = λ e. absurd (n e); same = λ e. absurd (n e) }
 
   pub item-shape : r ≡ 0 → OfShape (itemLine i) ns
   item-shape e = of-shape 1 (itemLine i) ns (passed 1 e (row 1))
 
-  pub item-read : {job′ : List ℕ} → r ≡ 0 → 1 ≤ i → jobSize i ≤ length job → job′ ≡ put job (wordOfType i) (take (length ns - 2) (drop 2 ns)) → ItemRead i ns job job′ 0
+  abbrev at : ℕ
+  at = wordOfType (boardSizes job) i
+
+  pub item-read : {job′ : List ℕ} → r ≡ 0 → 1 ≤ i → jobSize (boardSizes job) i ≤ length job → job′ ≡ put job at (take (length ns - 2) (drop 2 ns)) → ItemRead i ns job job′ 0
   item-read {job′} e l h q =
       let n = shape-groups (itemLine i) ns (item-shape e) in
-      let p : job′ ≡ put job (wordOfType i) (drop 2 ns) = q ∙ rw (part-rest ns 2) in
+      let p : job′ ≡ put job at (drop 2 ns) = q ∙ rw (part-rest ns 2) in
       let d : length (drop 2 ns) ≡ wordsOfItem = rw length-drop (omega arith) in
       record {
         row = λ line. sym (passed line e (row line));
         unchanged = λ z. absurd (z refl);
-        read = λ _ ws s held. rw p (put-held ws (drop 2 ns) (wordOfType i) s (omega arith) held);
-        types = λ _. rw p (put-before job (wordOfType i) (drop 2 ns) 4 (omega arith) (omega arith));
+        read = λ _ ws s held. rw p (put-held ws (drop 2 ns) at s (omega arith) held);
+        same = λ _. put-same job (drop 2 ns) at (omega arith) (omega arith) p;
       }

@@ -10,7 +10,7 @@ use Rattle.texts.specs.Reader.{Grammar, Reader, started, fed}
 use Rattle.texts.specs.JobLines as definition
 use Rattle.texts.proofs.ReaderLaws.{fed-append}
 use Rattle.texts_reading.specs.declared.text.Place.{Place}
-use Rattle.texts_reading.specs.declared.text.Place.the-variants.{First, Types, Body, ItemPrices, PlatePrices, Done}
+use Rattle.texts_reading.specs.declared.text.Place.the-variants.{First, Sizes, Types, Body, ItemPrices, PlatePrices, Done}
 use Rattle.texts_reading.specs.declared.text.TextReader.{TextReader}
 use Rattle.texts_reading.specs.declared.pending.Pending.{Pending}
 use Rattle.texts_reading.specs.Begun.{Begun}
@@ -21,6 +21,7 @@ use Rattle.texts_reading.specs.Parts.{InParts}
 -- a place, and a refusal, from what it means
 abbrev placeFrom : definition.Place → Place
 placeFrom definition.first = First
+placeFrom (definition.sizes j) = Sizes (record { 0 = j })
 placeFrom (definition.types i) = Types (record { 0 = i })
 placeFrom definition.body = Body
 placeFrom (definition.itemPrices i) = ItemPrices (record { 0 = i })
@@ -29,6 +30,7 @@ placeFrom definition.done = Done
 
 place-from : (p : Place) → placeFrom (placeOf p) ≡ p
 place-from First = refl
+place-from (Sizes j) = refl
 place-from (Types i) = refl
 place-from Body = refl
 place-from (ItemPrices i) = refl

@@ -6,7 +6,7 @@ use mathlib.Core.List.{List, [], _∷_}
 use native.Mathlib.Omega.{arith}
 use lib.ListN.{length, getD, drop, length-drop}
 use lib.Seq.{getD-drop}
-use Rattle.job.specs.Sizes.{wordsOfHead, wordsOfItem, jobSize}
+use Rattle.job.specs.Sizes.{wordsOfItem, wordsBefore, jobSize}
 use Rattle.job.specs.declared.item.Position.{Position}
 use Rattle.job.specs.Verdict.{Verdict, pass, refuse, _then_, refuseIf}
 use Rattle.job.specs.Job.{itemAt, itemsOf, jobOf, unturned, turned, positionAt, permitted}
@@ -14,6 +14,7 @@ use Rattle.job.proofs.Tests.{not-both}
 use Rattle.job.proofs.ItemWords.{items-room}
 use Rattle.job.proofs.Positions.{type-of, permitted-type, position-unturned, position-turned}
 use Rattle.texts.specs.Shape.{Limit, _to_, turning, formed, eachWithin, values, numbersRow}
+use Rattle.texts.specs.JobLines.{boardSizes}
 use Rattle.texts.specs.Admitted.{OfShape}
 use Rattle.texts.proofs.ShapeLaws.{shape-groups}
 use Rattle.texts_reading.specs.Judged.{limitsOf, shapeOf, lineVerdict}
@@ -32,9 +33,9 @@ types-few (suc n) (w ∷ v ∷ []) h = omega arith
 types-few (suc n) (w ∷ v ∷ d ∷ []) h = omega arith
 types-few (suc n) (w ∷ v ∷ d ∷ l ∷ ws) h = omega (arith, types-few n ws (omega arith))
 
-items-few : (ws : List ℕ) (n : ℕ) → 1 ≤ n → length ws < jobSize n → length (jobOf ws .items) < n
+items-few : (ws : List ℕ) (n : ℕ) → 1 ≤ n → length ws < jobSize (boardSizes ws) n → length (jobOf ws .items) < n
 unfolding jobOf
-items-few ws n p h = types-few n (drop wordsOfHead ws) (rw length-drop (omega arith))
+items-few ws n p h = types-few n (drop (wordsBefore (boardSizes ws)) ws) (rw length-drop (omega arith))
 
 -- 19 or none by the test
 no-turn : (b : Bool) (line : ℕ) → (b ≡ true → ⊥) → refuse 19 line ≡ refuseIf (not b) 19 line
@@ -53,11 +54,11 @@ module _ (ws : List ℕ) (i t : ℕ) (u : t ≤ 1) where
   type-zero line z = no-turn here line (λ e. omega (arith, permitted-type (jobOf ws) (2 * i + t) e .0, type-of i t u, z))
 
   -- the words have no such type
-  pub type-past : (line : ℕ) → (i ≡ 0 → ⊥) → length ws < jobSize i → refuse 19 line ≡ refuseIf (not here) 19 line
+  pub type-past : (line : ℕ) → (i ≡ 0 → ⊥) → length ws < jobSize (boardSizes ws) i → refuse 19 line ≡ refuseIf (not here) 19 line
   type-past line z h =
       no-turn here line (λ e. omega (arith, permitted-type (jobOf ws) (2 * i + t) e .1, type-of i t u, items-few ws i (omega arith) h))
 
-  module _ (low : 1 ≤ i) (room : jobSize i ≤ length ws) where
+  module _ (low : 1 ≤ i) (room : jobSize (boardSizes ws) i ≤ length ws) where
     -- unturned
     pub turn-none : (line : ℕ) → t ≡ 0 → pass ≡ refuseIf (not here) 19 line
     unfolding unturned

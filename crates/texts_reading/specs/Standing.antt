@@ -8,7 +8,7 @@ use lib.ListN.{take, drop}
 use Rattle.texts.specs.Reader.{Reader, maxLines, longestLine}
 use Rattle.texts.specs.JobLines as definition
 use Rattle.texts_reading.specs.declared.text.Place.{Place}
-use Rattle.texts_reading.specs.declared.text.Place.the-variants.{First, Types, Body, ItemPrices, PlatePrices, Done}
+use Rattle.texts_reading.specs.declared.text.Place.the-variants.{First, Sizes, Types, Body, ItemPrices, PlatePrices, Done}
 use Rattle.texts_reading.specs.declared.text.TextReader.{TextReader}
 use Rattle.texts_reading.specs.Judged.{lineVerdict}
 use Rattle.texts_reading.specs.Begun.{Begun}
@@ -16,6 +16,7 @@ use Rattle.texts_reading.specs.Begun.{Begun}
 -- what comes next
 abbrev pub placeOf : Place → definition.Place
 placeOf First = definition.first
+placeOf (Sizes j) = definition.sizes (j .0)
 placeOf (Types i) = definition.types (i .0)
 placeOf Body = definition.body
 placeOf (ItemPrices i) = definition.itemPrices (i .0)
@@ -36,7 +37,7 @@ pub record TextKept {S : Type 0} (place : S → definition.Place) (r : Reader S)
   pub verdict : lineVerdict (t .refusal) (suc (t .lines)) ≡ r .verdict
   pub begun : Begun (t .pending) (r .pending)
 
--- at most 99,999 lines, and at most 81 bytes of the line that has begun
+-- at most 99,999 lines, and at most 90 bytes of the line that has begun
 pub record TextReady (t : TextReader) : Type 0 where
   pub few : t .lines ≤ maxLines
   pub short : t .pending .length < longestLine

@@ -15,7 +15,7 @@ use Rattle.texts_reading.specs.Begun.{Begun}
 use Rattle.texts_reading.specs.LineEnd.{LineEnd}
 use Rattle.texts_reading.specs.Standing.{lineEnds}
 
--- the line of a text that begins at `at` of a part has k numbers, the first of an array of nine
+-- the line of a text that begins at `at` of a part has k numbers, the first of an array of ten
 pub record LineWithin (t : TextReader) (part : List ℕ) (at : ℕ) (numbers : List ℕ) (k : ℕ) : Type 0 where
   pub size : length numbers ≡ mostNumbers
   pub few : k ≤ mostNumbers

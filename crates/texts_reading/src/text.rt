@@ -16,9 +16,10 @@ use job::counters::PlateType;
 use texts::widths::LONGEST_LINE;
 use texts::widths::MAX_LINES;
 
-// What comes next: line 1, line 2 of a type, the body, line 5 of a type, line 6 of a plate type, or nothing more.
+// What comes next: line 1, line 10 of a size, line 2 of a type, the body, line 5 of a type, line 6 of a plate type, or nothing more.
 pub enum Place {
     First,
+    Sizes(PlateType),
     Types(ItemType),
     Body,
     ItemPrices(ItemType),

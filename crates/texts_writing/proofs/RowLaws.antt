@@ -18,8 +18,8 @@ use Rattle.columns.proofs.LineLaws.{length-line}
 use Rattle.placement.specs.PlacementRead.{placementAt}
 use Rattle.placement.proofs.Rows.{whole-rows, rows-from, rows-end}
 use Rattle.texts.specs.Widths.{placementLineBytes}
-use Rattle.texts.specs.SawText.{placementLine}
-use Rattle.texts.proofs.WordGroups.{eights}
+use Rattle.texts.specs.SawText.{placementRow, placementLine}
+use Rattle.texts.proofs.WordGroups.{nines}
 use Rattle.texts.proofs.LayoutRows.{rows-append}
 use Rattle.texts_writing.specs.Wrote.{Wrote}
 use Rattle.texts_writing.proofs.WroteLaws.{wrote-more}
@@ -28,7 +28,7 @@ use Rattle.texts_writing.proofs.WroteLaws.{wrote-more}
 row-at : (ws : List ℕ) (i : ℕ) → RecordIn wordsOfPlacement i ws → rowsOf (take wordsOfPlacement (drop (wordsOfPlacement * i) ws)) ≡ placementAt ws i ∷ []
 row-at ws i h =
     rows-from us 1 0 size (omega arith)
-    ∙ rw (rows-end us 1 1 size (omega arith), at 0 (omega arith), at 1 (omega arith), at 2 (omega arith), at 3 (omega arith), at 4 (omega arith), at 5 (omega arith), at 6 (omega arith), at 7 (omega arith), none)
+    ∙ rw (rows-end us 1 1 size (omega arith), at 0 (omega arith), at 1 (omega arith), at 2 (omega arith), at 3 (omega arith), at 4 (omega arith), at 5 (omega arith), at 6 (omega arith), at 7 (omega arith), at 8 (omega arith), none)
   where
     us : List ℕ
     us = take wordsOfPlacement (drop (wordsOfPlacement * i) ws)
@@ -49,12 +49,12 @@ rows-more :
     → rowsOf (take (wordsOfPlacement * (i + 1)) ws) ≡ rowsOf (take (wordsOfPlacement * i) ws) ++ placementAt ws i ∷ []
 rows-more ws i h =
     let j : wordsOfPlacement * (i + 1) ≡ wordsOfPlacement * i + wordsOfPlacement = omega arith in
-    let whole = eights i (take (wordsOfPlacement * i) ws) (length-take-le (wordsOfPlacement * i) ws (omega arith)) in
+    let whole = nines i (take (wordsOfPlacement * i) ws) (length-take-le (wordsOfPlacement * i) ws (omega arith)) in
     rw (j, take-add (wordsOfPlacement * i) wordsOfPlacement ws, rows-append whole (take wordsOfPlacement (drop (wordsOfPlacement * i) ws)), row-at ws i h)
 
 -- the bytes of each line 7
 pub length-placement : (p : Placement) → length (placementLine p) ≡ placementLineBytes
-unfolding placementLine
+unfolding placementRow placementLine
 length-placement p = length-line _
 
 pub lines-length : (ps : List Placement) → length (flatMap placementLine ps) ≡ placementLineBytes * length ps

@@ -7,36 +7,31 @@ use mathlib.Core.List.{List, _++_, flatMap}
 use mathlib.Core.Option.{Option, none, some}
 use borrow.Author.Tests.{le-ltb}
 use Rattle.job.specs.Job.{Job, jobOf}
-use Rattle.plan.specs.Prices.{Prices, pricesOf, priceSum, fewest}
+use Rattle.plan.specs.Prices.{isCheapest}
 use Rattle.layouts.specs.Placement.{Placement}
-use Rattle.texts.specs.SawText.{PriceLines, Saw, placementLine, resultLine, sawLines}
-use Rattle.texts.specs.Printed.{sawRun}
-use Rattle.texts_writing.specs.Wrote.{isFewest, summaryLine, sumGiven, denominatorGiven}
-
--- fewest by the sum and D of prices
-pub fewest-is : (job : Job) (ps : Prices) (n : ℕ) → isFewest n (priceSum job ps) (ps .denominator) ≡ fewest job ps n
-unfolding isFewest fewest
-fewest-is job ps n = refl
+use Rattle.texts.specs.SawText.{PriceLines, Saw, placementLine, resultRow, resultLine, sawLines}
+use Rattle.texts.specs.Printed.{sawRun, sawCost}
+use Rattle.texts_writing.specs.Wrote.{summaryLine, sumGiven, denominatorGiven}
 
 -- a sum of 0 is not above anything
-pub never-fewest : (n d : ℕ) → isFewest n 0 d ≡ false
-unfolding isFewest
-never-fewest n d = le-ltb ((n - 1) * d) 0 (omega arith)
+never-cheapest : (cost d : ℕ) → isCheapest cost 0 d ≡ false
+unfolding isCheapest
+never-cheapest cost d = le-ltb ((cost - 1) * d) 0 (omega arith)
 
 -- line 8 of the saw program
-pub summary-is : (job : Job) (n : ℕ) (o : Option PriceLines) → summaryLine n (sumGiven job o) (denominatorGiven job o) ≡ resultLine job n o
-unfolding summaryLine resultLine sumGiven denominatorGiven
-summary-is job n none = rw (never-fewest n 1)
-summary-is job n (some pl) = rw (fewest-is job (pricesOf job (pl .words)) n)
+pub summary-is : (job : Job) (cost : ℕ) (o : Option PriceLines) → summaryLine cost (sumGiven job o) (denominatorGiven job o) ≡ resultLine job cost o
+unfolding summaryLine resultRow resultLine sumGiven denominatorGiven
+summary-is job cost none = rw (never-cheapest cost 1)
+summary-is job cost (some pl) = refl
 
 -- lines 7 and line 8, whole
 pub saw-output :
-    (s : Saw) (ps : List Placement) (boards sum d : ℕ)
+    (s : Saw) (ps : List Placement) (cost sum d : ℕ)
     → ps ≡ sawRun s .placements
-    → boards ≡ sawRun s .last .turn .board
+    → cost ≡ sawCost s
     → sum ≡ sumGiven (jobOf (s .job)) (s .prices)
     → d ≡ denominatorGiven (jobOf (s .job)) (s .prices)
-    → flatMap placementLine ps ++ summaryLine boards sum d ≡ sawLines s
+    → flatMap placementLine ps ++ summaryLine cost sum d ≡ sawLines s
 unfolding sawLines
-saw-output s ps boards sum d e b p q =
-    rw (e, b, p, q) (ap (λ (l : List ℕ). flatMap placementLine (sawRun s .placements) ++ l) (summary-is (jobOf (s .job)) (sawRun s .last .turn .board) (s .prices)))
+saw-output s ps cost sum d e b p q =
+    rw (e, b, p, q) (ap (λ (l : List ℕ). flatMap placementLine (sawRun s .placements) ++ l) (summary-is (jobOf (s .job)) (sawCost s) (s .prices)))

@@ -1,16 +1,16 @@
 -- Document 01, "Texts": what is written to a lent output, and the lines of which it is made.
-use Prim.Native.Nat.{ℕ, _+_, _-_, _*_}
+use Prim.Native.Nat.{ℕ, _+_, _*_}
 use mathlib.Core.Path.{_≡_}
-use mathlib.Core.Bool.{Bool, true, false, cond}
+use mathlib.Core.Bool.{true, false, cond}
 use mathlib.Core.List.{List, [], _∷_}
 use mathlib.Core.Option.{Option, none, some}
-use lib.Dec.{ltb, eqb}
+use lib.Dec.{eqb}
 use lib.ListN.{length}
 use Rattle.job.specs.Sizes.{maxPieces}
 use Rattle.job.specs.Job.{Job}
 use Rattle.listing.specs.declared.plate.Plate.{Plate}
 use Rattle.listing.specs.Listing.{Cut}
-use Rattle.plan.specs.Prices.{pricesOf, priceSum}
+use Rattle.plan.specs.Prices.{pricesOf, priceSum, isCheapest}
 use Rattle.columns.specs.Group.{put}
 use Rattle.columns.specs.Line.{lineOf}
 use Rattle.texts.specs.Widths.{planLineBytes, placementLineBytes, summaryLineBytes}
@@ -33,13 +33,9 @@ longestFold = planLineBytes * maxPieces
 unfoldable pub countLine : (ℕ → Plate) → Cut → ℕ → List ℕ
 countLine plates c n = elim (eqb n 0) [ true ↦ [] | false ↦ lineOf (countRow (plates (c .plate)) c n) ]
 
--- "Fewest is 1 exactly if (boards−1)×D is below that sum"
-unfoldable pub isFewest : ℕ → ℕ → ℕ → Bool
-isFewest boards sum d = ltb ((boards - 1) * d) sum
-
--- line 8: boards, sum, D, fewest
+-- line 8: cost, sum, D, cheapest
 unfoldable pub summaryLine : ℕ → ℕ → ℕ → List ℕ
-summaryLine boards sum d = lineOf (8 ∷ boards ∷ sum ∷ d ∷ cond (isFewest boards sum d) 1 0 ∷ [])
+summaryLine cost sum d = lineOf (8 ∷ cost ∷ sum ∷ d ∷ cond (isCheapest cost sum d) 1 0 ∷ [])
 
 -- the sum and D of the lines 4, 5 and 6: "without prices: sum 0, D 1"
 unfoldable pub sumGiven : Job → Option PriceLines → ℕ

@@ -14,7 +14,7 @@ use columns::line::put_line;
 use placement::placement_at;
 use texts::widths::PLACEMENT_LINE;
 
-// Writes line 7 of the placement behind i others: its type and its turn are those of the number that they make.
+// Writes line 7 of the placement behind i others, the size of its board after the board: its type and its turn are those of the number that they make.
 fn write_placement(out: &mut [u8], at: usize, placements: &[u16], i: usize)
     requires { ⌜ (at + placementLineBytes ≤ length (now out)) × RecordIn wordsOfPlacement i (now placements) ⌝ }
     ensures { λ _. ⌜ now (out .exit) ≡ put (now (out .entry)) at (placementLine (placementAt (now (placements .entry)) i)) ⌝ }
@@ -24,6 +24,7 @@ fn write_placement(out: &mut [u8], at: usize, placements: &[u16], i: usize)
     let line = [
         7,
         p.board as u32,
+        p.size.0 as u32,
         p.strip as u32,
         p.stack as u32,
         p.place as u32,

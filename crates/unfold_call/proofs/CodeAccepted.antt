@@ -12,7 +12,7 @@ use Rattle.job.specs.Buffers.{given, answer}
 use Rattle.job.specs.Job.{Job, jobOf, jobWords, admission}
 use Rattle.job.specs.Admitted.{Admitted, Sided}
 use Rattle.job.proofs.Verdicts.{then-first, then-second}
-use Rattle.job.proofs.Admission.{admitted-words, admitted-job, admitted-sided}
+use Rattle.job.proofs.Admission.{admitted-words, admitted-job, admitted-sided, admitted-stocked}
 use Rattle.job.proofs.CodeItems.{items-length}
 use Rattle.job.proofs.CodeAdmission.{passed-length}
 use Rattle.job.proofs.CodeEnds.{given-pass}
@@ -22,15 +22,15 @@ use Rattle.listing.specs.Holds.{Holds}
 use Rattle.listing.specs.ListCall.{platesEnd, cutsEnd}
 use Rattle.listing.proofs.WalkModel.{row-model}
 use Rattle.listing_call.proofs.CodeEnding.{listingResults}
-use Rattle.plan.specs.Plan.{countsRow, planRow, boards, total}
+use Rattle.plan.specs.Plan.{countsRow, planRow, total}
 use Rattle.plan.specs.Feasible.{Feasible, NonePast}
 use Rattle.plan.proofs.PlanExact.{plan-exact, counts-exact}
 use Rattle.layouts.specs.Placement.{placementWords}
-use Rattle.layouts.specs.Unfold.{Run, run, unfolded}
+use Rattle.layouts.specs.Unfold.{Run, run, startOf, unfolded}
 use Rattle.layouts.specs.Offcuts.{events, offcutsIn, offcutsOf, offcutWords}
 use Rattle.layouts.specs.UnfoldCall.{unfoldingOf, offcutsFrom}
 use Rattle.layouts.specs.Demand3.{J, L}
-use Rattle.layouts.proofs.machine.MachineEnds.{start, steps-enough, unfolds}
+use Rattle.layouts.proofs.machine.MachineEnds.{steps-enough, unfolds}
 use Rattle.layouts.proofs.offcuts.AreaBalance.{area-balance}
 use Rattle.layouts.proofs.offcuts.Enough.{offcuts-enough}
 use Rattle.unfold_waiting.specs.Turns.{maxSteps}
@@ -39,7 +39,7 @@ use Rattle.unfold_step.specs.Ready.{ModelLent}
 use Rattle.unfold_run.specs.declared.run.Ran.{Ran}
 use Rattle.unfold_run.specs.Going.{Gives, started, startedOffcuts}
 use Rattle.unfold_call.specs.UnfoldSays.{results}
-use Rattle.unfold_call.proofs.Longer.{longerRun, boards-longer, run-longer, offcuts-longer}
+use Rattle.unfold_call.proofs.Longer.{longerRun, run-longer, offcuts-longer}
 
 module _ (ws : List ℕ) (checked : (jobWords ws then admission (jobOf ws)) ≡ pass) where
   pub job-words : jobWords ws ≡ pass
@@ -49,7 +49,7 @@ module _ (ws : List ℕ) (checked : (jobWords ws then admission (jobOf ws)) ≡ 
   job-admitted = admitted-job ws (admitted-words ws .0 checked)
 
   pub listed-model : modelRow (J ws) ≡ pass → Model (J ws) (L ws)
-  listed-model row = row-model (J ws) (admitted-sided (J ws) job-admitted) row
+  listed-model row = row-model (J ws) (admitted-sided (J ws) job-admitted) (admitted-stocked (J ws) job-admitted) row
 
   -- buffers that the listing has filled
   pub listed-lent :
@@ -65,7 +65,7 @@ module _ (ws : List ℕ) (checked : (jobWords ws then admission (jobOf ws)) ≡ 
       let row : modelRow (J ws) ≡ pass = given-pass (modelRow (J ws)) _ e in
       let v : given (r ∷ k ∷ []) ≡ given (listingResults ws) = rw row at e in
       record {
-        words = rw (items-length ws (getD ws 4 0) (passed-length ws job-words)) (passed-length ws job-words);
+        words = rw (items-length ws (getD ws 3 0) (passed-length ws job-words)) (passed-length ws job-words);
         admitted = job-admitted;
         model = listed-model row;
         plates-held = record { words = rw n (rw row at p) };
@@ -108,19 +108,16 @@ module _ (ws : List ℕ) (admitted : Admitted (jobOf ws)) (model : Model (jobOf 
   whole : unfolded job l counts ≡ longerRun job l past (started job l copied)
   whole =
       sym (steps-enough job l model sided counts none-past feasible maxSteps (omega (arith, feasible .few)))
-      ∙ ap (λ (ns : List ℕ). run maxSteps job l (start ns)) (sym (take-append-drop countsSize counts))
-      ∙ run-longer job l past maxSteps (start copied) copied-counted
-
-  copied-boards : boards l copied ≡ boards l counts
-  copied-boards = sym (boards-longer job l past (start copied) copied-counted) ∙ ap (boards l) (take-append-drop countsSize counts)
+      ∙ ap (λ (ns : List ℕ). run maxSteps job l (startOf ns)) (sym (take-append-drop countsSize counts))
+      ∙ run-longer job l past maxSteps (startOf copied) copied-counted
 
   copied-placements : started job l copied .placements ≡ unfoldingOf ws counts .placements
   unfolding unfoldingOf
   copied-placements = sym (ap (λ (r : Run). r .placements) whole)
 
-  copied-last : started job l copied .last .turn .board ≡ unfoldingOf ws counts .last .turn .board
+  copied-last : started job l copied .last .turn .board .number ≡ unfoldingOf ws counts .last .turn .board .number
   unfolding unfoldingOf
-  copied-last = sym (ap (λ (r : Run). r .last .turn .board) whole)
+  copied-last = sym (ap (λ (r : Run). r .last .turn .board .number) whole)
 
   -- there is room for its pieces
   copied-few : length (started job l copied .placements) ≤ maxPieces
@@ -132,8 +129,8 @@ module _ (ws : List ℕ) (admitted : Admitted (jobOf ws)) (model : Model (jobOf 
   copied-offcuts : startedOffcuts job l copied ≡ offcutsFrom ws counts
   unfolding offcutsFrom
   copied-offcuts =
-      sym (offcuts-longer job l past maxSteps (start copied) copied-counted)
-      ∙ ap (λ (ns : List ℕ). offcutsIn l (events maxSteps job l (start ns))) (take-append-drop countsSize counts)
+      sym (offcuts-longer job l past maxSteps (startOf copied) copied-counted)
+      ∙ ap (λ (ns : List ℕ). offcutsIn l (events maxSteps job l (startOf ns))) (take-append-drop countsSize counts)
       ∙ offcuts-enough job l model sided counts none-past feasible maxSteps (omega (arith, feasible .few))
 
   copied-few-offcuts : length (startedOffcuts job l copied) ≤ maxOffcuts
@@ -145,9 +142,6 @@ module _ (ws : List ℕ) (admitted : Admitted (jobOf ws)) (model : Model (jobOf 
     pub copy-counted : (k : ℕ) → length (l .cuts) ≡ k → k ≤ length left
     copy-counted k n = rw e (omega (arith, copied-counted))
 
-    pub copy-boards : (b : ℕ) → b ≡ boards l counts → b ≡ boards l left
-    copy-boards b h = h ∙ rw e (sym copied-boards)
-
     pub copy-few : length (started job l left .placements) ≤ maxPieces
     copy-few = rw e copied-few
 
@@ -157,7 +151,7 @@ module _ (ws : List ℕ) (admitted : Admitted (jobOf ws)) (model : Model (jobOf 
     module _ (lengths : Lengths) (r : Ran) (buffer list : List ℕ) (g : Gives lengths (started job l left) (startedOffcuts job l left) r buffer list) where
       pub copy-results : given (r .boards ∷ r .pieces ∷ r .offcuts ∷ []) ≡ given (results ws counts)
       copy-results =
-          let b : r .boards ≡ unfoldingOf ws counts .last .turn .board = g .boards-given ∙ ap (λ (ns : List ℕ). started job l ns .last .turn .board) e ∙ copied-last in
+          let b : r .boards ≡ unfoldingOf ws counts .last .turn .board .number = g .boards-given ∙ ap (λ (ns : List ℕ). started job l ns .last .turn .board .number) e ∙ copied-last in
           let n : r .pieces ≡ length (unfoldingOf ws counts .placements) = g .pieces-given ∙ ap (λ (ns : List ℕ). length (started job l ns .placements)) e ∙ ap length copied-placements in
           let o : r .offcuts ≡ length (offcutsFrom ws counts) = g .offcuts-given ∙ ap (λ (ns : List ℕ). length (startedOffcuts job l ns)) e ∙ ap length copied-offcuts in
           rw (b, n, o)

@@ -30,11 +30,6 @@ use Rattle.unfold_call.specs.declared.call.Unfolded.the-variants.{Done, 
 use Rattle.unfold_call.proofs.CodeAccepted.{listed-model}
 use Rattle.unfold_call.specs.UnfoldSays.{saysOf, results, OnSuccess, Ended}
 
--- one result that is given is the verdict's
-pub given-one : (v : Verdict) (b c : ℕ) → given (b ∷ []) ≡ answer v (c ∷ []) → b ≡ c
-given-one pass b c e = cc
-given-one (refuse number place) b c e = absurd (let z : _≡_ {A = ℕ} 0 1 = cc in omega arith)
-
 -- the verdict of the plan row
 abbrev pub planned : List ℕ → List ℕ → Verdict
 planned ws counts = countsRow (L ws) counts then planRow (J ws) (L ws) counts
@@ -202,7 +197,7 @@ module _ (ws : List ℕ) (first second : ℕ) (counts plates cuts placements off
         → planTail (jobOf ws) counts ≡ pass
         → placements′ ≡ filled (length placements) (placementWords (unfoldingOf ws counts .placements))
         → offcuts′ ≡ filled (length offcuts) (offcutWords first second (offcutsFrom ws counts))
-        → boards ≡ unfoldingOf ws counts .last .turn .board
+        → boards ≡ unfoldingOf ws counts .last .turn .board .number
         → pieces ≡ length (unfoldingOf ws counts .placements)
         → left ≡ length (offcutsFrom ws counts)
         → UnfoldPromise ws first second counts placements′ offcuts′ boards pieces left

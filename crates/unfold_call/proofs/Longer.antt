@@ -1,21 +1,19 @@
 -- Words past the last cut play no part: the unfolding of counts with more words behind them is that of the counts, with these words behind what is left;
 -- and the same pieces are left over (request Two).
-use Prim.Native.Nat.{ℕ, zero, suc, _-_, _≤_, _<_}
+use Prim.Native.Nat.{ℕ, zero, suc, _-_, _≤_}
 use native.Mathlib.Omega.{arith}
 use mathlib.Core.Path.{_≡_, refl, sym, _∙_, ap}
-use mathlib.Core.Logic.{_⊎_, inl, inr}
 use mathlib.Core.Bool.{Bool, true, false, _&&_}
 use mathlib.Core.List.{List, [], _∷_, _++_}
-use mathlib.Core.Option.{Option, some}
+use mathlib.Core.Option.{Option, some, none}
 use lib.Dec.{ltb}
 use lib.ListN.{length, getD, List·getD-append}
 use lib.Seq.{take-append-le, set-append-left}
 use Rattle.job.specs.Job.{Job}
-use Rattle.job.proofs.Tests.{at-most-or-above}
 use Rattle.listing.specs.Listing.{Cut, Listing}
-use Rattle.plan.specs.Plan.{countOf, onPlate, boards}
+use Rattle.plan.specs.Plan.{countOf, onPlate, boardsOf}
 use Rattle.plan.proofs.PlanExact.{countOf-take}
-use Rattle.layouts.specs.Unfold.{State, search, spent, Step, placed, leftOver, idle, done, step, openBoard, Run, placing, run}
+use Rattle.layouts.specs.Unfold.{State, search, spent, Step, placed, leftOver, idle, done, step, nextSize, openBoard, Run, placing, run}
 use Rattle.layouts.specs.Offcuts.{Offcut, events, offcut, offcutsIn}
 use Rattle.layouts.proofs.machine.Search.{found-cut}
 use Rattle.layouts.proofs.machine.MachineSteps.{step-ends}
@@ -61,18 +59,22 @@ module _ (job : Job) (l : Listing) (zs : List ℕ) where
       let (is, on) = found-cut l (t .piece .plate) (st .counts) k f in
       step-cut job l (longer st) t e k (same (t .piece .plate) ∙ f) ∙ rw (spent-longer (st .counts) zs k (omega arith)))
 
-  pub boards-longer : (st : State) → length (l .cuts) ≤ length (st .counts) → boards l (st .counts ++ zs) ≡ boards l (st .counts)
-  unfolding boards
-  boards-longer st h = count-longer (onPlate 0) (l .cuts) (st .counts) zs h
+  -- the next size is the same
+  size-longer : (n j : ℕ) (ns : List ℕ) → length (l .cuts) ≤ length ns → nextSize n j l (ns ++ zs) ≡ nextSize n j l ns
+  unfolding nextSize boardsOf
+  size-longer zero j ns h = refl
+  size-longer (suc n) j ns h =
+      ap (λ (m : ℕ). elim (ltb 0 m) as (λ _. Option ℕ) [ true ↦ some j | false ↦ nextSize n (suc j) l (ns ++ zs) ]) (count-longer (onPlate j) (l .cuts) ns zs h)
+      ∙ ap (λ (o : Option ℕ). elim (ltb 0 (countOf (onPlate j) (l .cuts) ns)) as (λ _. Option ℕ) [ true ↦ some j | false ↦ o ]) (size-longer n (suc j) ns h)
 
   -- a run with one step more
   module _ (fuel : ℕ) (st : State) (h : length (l .cuts) ≤ length (st .counts)) (rest : (st′ : State) → length (l .cuts) ≤ length (st′ .counts) → run fuel job l (longer st′) ≡ longerRun (run fuel job l st′)) where
-    by-boards : step job l st ≡ idle → (boards l (st .counts) ≤ 0) ⊎ (0 < boards l (st .counts)) → run (suc fuel) job l (longer st) ≡ longerRun (run (suc fuel) job l st)
+    by-size : step job l st ≡ idle → (o : Option ℕ) → nextSize (length (job .sizes)) 0 l (st .counts) ≡ o → run (suc fuel) job l (longer st) ≡ longerRun (run (suc fuel) job l st)
     unfolding openBoard
-    by-boards e (inl n) =
-        step-ends job l (longer st) (step-longer st h ∙ ap longerStep e) (boards-longer st h ∙ omega arith) (suc fuel) ∙ ap longerRun (sym (step-ends job l st e (omega arith) (suc fuel)))
-    by-boards e (inr n) =
-        run-open job l (longer st) fuel (step-longer st h ∙ ap longerStep e) (rw (boards-longer st h) n) ∙ rest (openBoard st) h ∙ ap longerRun (sym (run-open job l st fuel e n))
+    by-size e none n =
+        step-ends job l (longer st) (step-longer st h ∙ ap longerStep e) (size-longer (length (job .sizes)) 0 (st .counts) h ∙ n) (suc fuel) ∙ ap longerRun (sym (step-ends job l st e n (suc fuel)))
+    by-size e (some j) n =
+        run-open job l (longer st) fuel j (step-longer st h ∙ ap longerStep e) (size-longer (length (job .sizes)) 0 (st .counts) h ∙ n) ∙ rest (openBoard j st) h ∙ ap longerRun (sym (run-open job l st fuel j e n))
 
     by-step : (s : Step) → step job l st ≡ s → run (suc fuel) job l (longer st) ≡ longerRun (run (suc fuel) job l st)
     unfolding placing
@@ -82,7 +84,7 @@ module _ (job : Job) (l : Listing) (zs : List ℕ) where
     by-step (leftOver p st′) e =
         let n : length (st′ .counts) ≡ length (st .counts) = rw e at (step-length job l st) in
         run-over job l (longer st) fuel p (longer st′) (step-longer st h ∙ ap longerStep e) ∙ rest st′ (omega arith) ∙ ap longerRun (sym (run-over job l st fuel p st′ e))
-    by-step idle e = by-boards e (at-most-or-above (boards l (st .counts)) 0)
+    by-step idle e = by-size e (nextSize (length (job .sizes)) 0 l (st .counts)) refl
 
   pub run-longer : (fuel : ℕ) (st : State) → length (l .cuts) ≤ length (st .counts) → run fuel job l (longer st) ≡ longerRun (run fuel job l st)
   unfolding run
@@ -91,12 +93,12 @@ module _ (job : Job) (l : Listing) (zs : List ℕ) where
 
   -- what is left over, with one step more
   module _ (fuel : ℕ) (st : State) (h : length (l .cuts) ≤ length (st .counts)) (rest : (st′ : State) → length (l .cuts) ≤ length (st′ .counts) → offcutsIn l (events fuel job l (longer st′)) ≡ offcutsIn l (events fuel job l st′)) where
-    over-by-boards : step job l st ≡ idle → (boards l (st .counts) ≤ 0) ⊎ (0 < boards l (st .counts)) → offcutsIn l (events (suc fuel) job l (longer st)) ≡ offcutsIn l (events (suc fuel) job l st)
+    over-by-size : step job l st ≡ idle → (o : Option ℕ) → nextSize (length (job .sizes)) 0 l (st .counts) ≡ o → offcutsIn l (events (suc fuel) job l (longer st)) ≡ offcutsIn l (events (suc fuel) job l st)
     unfolding openBoard
-    over-by-boards e (inl n) =
-        offcuts-ended job l (longer st) (step-longer st h ∙ ap longerStep e) (boards-longer st h ∙ omega arith) (suc fuel) ∙ sym (offcuts-ended job l st e (omega arith) (suc fuel))
-    over-by-boards e (inr n) =
-        offcuts-open job l (longer st) fuel (step-longer st h ∙ ap longerStep e) (rw (boards-longer st h) n) ∙ rest (openBoard st) h ∙ sym (offcuts-open job l st fuel e n)
+    over-by-size e none n =
+        offcuts-ended job l (longer st) (step-longer st h ∙ ap longerStep e) (size-longer (length (job .sizes)) 0 (st .counts) h ∙ n) (suc fuel) ∙ sym (offcuts-ended job l st e n (suc fuel))
+    over-by-size e (some j) n =
+        offcuts-open job l (longer st) fuel j (step-longer st h ∙ ap longerStep e) (size-longer (length (job .sizes)) 0 (st .counts) h ∙ n) ∙ rest (openBoard j st) h ∙ sym (offcuts-open job l st fuel j e n)
 
     over-by-step : (s : Step) → step job l st ≡ s → offcutsIn l (events (suc fuel) job l (longer st)) ≡ offcutsIn l (events (suc fuel) job l st)
     over-by-step (placed p st′) e =
@@ -107,7 +109,7 @@ module _ (job : Job) (l : Listing) (zs : List ℕ) where
         offcuts-over job l (longer st) fuel p (longer st′) (step-longer st h ∙ ap longerStep e)
         ∙ ap (λ (os : List Offcut). offcut l (st .turn .board) p ∷ os) (rest st′ (omega arith))
         ∙ sym (offcuts-over job l st fuel p st′ e)
-    over-by-step idle e = over-by-boards e (at-most-or-above (boards l (st .counts)) 0)
+    over-by-step idle e = over-by-size e (nextSize (length (job .sizes)) 0 l (st .counts)) refl
 
   pub offcuts-longer : (fuel : ℕ) (st : State) → length (l .cuts) ≤ length (st .counts) → offcutsIn l (events fuel job l (longer st)) ≡ offcutsIn l (events fuel job l st)
   unfolding events

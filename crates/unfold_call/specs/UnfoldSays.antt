@@ -23,7 +23,7 @@ OnSuccess (Refused number place) promise = Unit {0}
 -- "unfolding, boards and pieces"; of offcuts it "also gives their number" (request Two)
 abbrev pub results : List ℕ → List ℕ → List ℕ
 results ws counts =
-    unfoldingOf ws counts .last .turn .board ∷ length (unfoldingOf ws counts .placements) ∷ length (offcutsFrom ws counts) ∷ []
+    unfoldingOf ws counts .last .turn .board .number ∷ length (unfoldingOf ws counts .placements) ∷ length (offcutsFrom ws counts) ∷ []
 
 -- `ws` are the job's words, `first` and `second` the two lengths, `counts` the counts passed in; the buffers as they were, the answer, and the buffers as
 -- they end

@@ -11,7 +11,6 @@ ghost use Rattle.job.specs.Row.{rowVerdict};
 ghost use Rattle.listing.specs.Holds.{Holds};
 ghost use Rattle.listing.specs.ListCall.{platesEnd, cutsEnd};
 ghost use Rattle.plan.specs.Plan.{countsRow, planRow};
-ghost use Rattle.plan.specs.Plan.{boards as boardsOf};
 ghost use Rattle.plan_test.specs.PlanSays.{planTail};
 ghost use Rattle.layouts.specs.Placement.{placementWords};
 ghost use Rattle.layouts.specs.Offcuts.{offcutWords};
@@ -45,7 +44,7 @@ pub enum Unfolded {
     Refused(u16, usize),
 }
 
-// Unfolds an accepted plan, which opens a number of boards, over a listing of k cuts; the counts are spent from a copy. The offcuts are listed where the
+// Unfolds an accepted plan over a listing of k cuts; the counts are spent from a copy. The offcuts are listed where the
 // list is of full size.
 pub fn unfold_plan(
     job: &[u16],
@@ -53,14 +52,12 @@ pub fn unfold_plan(
     plates: &[u16],
     cuts: &[u16],
     k: CutNumber,
-    boards: u16,
     lengths: Lengths,
     placements: &mut [u16],
     offcuts: &mut [u16],
 ) -> Unfolded
     requires { ⌜ ModelLent (now job) (now plates) (now cuts) (k .0) ⌝ }
     requires { ⌜ (countsSize ≤ length (now counts)) × ((countsRow (L (now job)) (now counts) then planRow (J (now job)) (L (now job)) (now counts)) ≡ pass) ⌝ }
-    requires { ⌜ boards ≡ boardsOf (L (now job)) (now counts) ⌝ }
     requires { ⌜ (Holds (now placements) []) × ((placementsSize ≤ length (now placements)) × Holds (now offcuts) []) ⌝ }
     ensures { λ r. ⌜ saysOf r ≡ given (results (now (job .entry)) (now (counts .entry))) ⌝ }
     ensures { λ _. ⌜ Holds (now (placements .exit)) (placementWords (unfoldingOf (now (job .entry)) (now (counts .entry)) .placements)) ⌝ }
@@ -72,12 +69,12 @@ pub fn unfold_plan(
     let r = run(
         job,
         head.blade,
+        head.sizes,
         plates,
         cuts,
         k,
         lengths,
         &mut left,
-        boards,
         placements,
         offcuts,
     );
@@ -104,19 +101,18 @@ fn unfold_into(
         Listed::Refused(number, place) => Unfolded::Refused(number, place),
         Listed::Done(m, k) => {
             let head = head_of(job);
-            match plan_rows(job, head.types, cuts, m, k, counts) {
+            match plan_rows(job, head.sizes, head.types, cuts, m, k, counts) {
                 PlanAnswer::Refused(number, place) => {
                     clear(plates);
                     clear(cuts);
                     Unfolded::Refused(number, place)
                 }
-                PlanAnswer::Accepted(boards) => unfold_plan(
+                PlanAnswer::Accepted(_, _) => unfold_plan(
                     job,
                     counts,
                     plates,
                     cuts,
                     k,
-                    boards,
                     lengths,
                     placements,
                     offcuts,
@@ -166,14 +162,14 @@ fn unfold_checks(
     offcuts_sized(plates, cuts, counts, placements, offcuts)
 }
 
-// The unfolding call: the placements of an accepted plan, board after board, the offcuts in the order in which pieces are left over, and the numbers of
-// boards, pieces and offcuts. An offcut is usable if its width reaches the first and its height the second of two lengths.
+// The unfolding call: the placements of an accepted plan, board after board, the sizes in rising number, the offcuts in the order in which pieces are left
+// over, and the numbers of boards, pieces and offcuts. An offcut is usable if its width reaches the first and its height the second of two lengths.
 // Refused are 1 and 2 of the job's words; 2 a length outside 1 to 10,000, naming 0; 3 and 4 of the job; 5 a buffer shorter than its full size, plates 1,
 // cuts 2, counts 3, placements 4, offcuts 5; 6 and 7 of the model, naming 0; 8 a nonzero count past the last cut, naming the cut that it would be; 10 a
-// total above 4,000, naming 0; 11 a type short; 12 a plate type overdrawn. Plates and cuts end as the listing, placements as the eight words of each
-// piece, offcuts as the six words of each piece left over: board, x, y, width, height, and 1 if it is usable, else 0. After 5 all four are unchanged,
-// after another refusal every word of them is 0, after success the unused words are 0. On success the placements are the lines of a set of layouts, and
-// this set and the offcuts are what demand 3 says of an accepted plan.
+// total above 4,000, naming 0; 11 a type short; 12 a residual type overdrawn. Plates and cuts end as the listing, placements as the nine words of each
+// piece, offcuts as the six words of each piece left over: board, x, y, width, height, and 1 if it is usable, else 0. After 5 all four are unchanged, after
+// another refusal every word of them is 0, after success the unused words are 0. On success the placements are the lines of a set of layouts, and this set
+// and the offcuts are what demand 3 says of an accepted plan.
 pub fn unfold(
     job: &[u16],
     first: u16,

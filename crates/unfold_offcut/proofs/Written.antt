@@ -17,7 +17,7 @@ pub held-offcut-put :
     → at + wordsOfOffcut ≤ length buffer
     → Holds buffer (offcutWords first second os)
     → Holds
-    (set (set (set (set (set (set buffer at (o .board)) (at + 1) (o .x)) (at + 2) (o .y)) (at + 3) (o .width)) (at + 4) (o .height)) (at + 5) (usable first second o))
+    (set (set (set (set (set (set buffer at (o .board .number)) (at + 1) (o .x)) (at + 2) (o .y)) (at + 3) (o .width)) (at + 4) (o .height)) (at + 5) (usable first second o))
     (offcutWords first second (os ++ o ∷ []))
 unfolding offcutWords
 held-offcut-put {buffer} first second os at o e h r =
@@ -29,4 +29,4 @@ held-offcut-put {buffer} first second os at o e h r =
     (held-put (at + 3) (o .width) (simp length-append (omega arith)) (simp length-set (omega arith))
     (held-put (at + 2) (o .y) (simp length-append (omega arith)) (simp length-set (omega arith))
     (held-put (at + 1) (o .x) (simp length-append (omega arith)) (simp length-set (omega arith))
-    (held-put at (o .board) l (omega arith) r)))))))
+    (held-put at (o .board .number) l (omega arith) r)))))))

@@ -4,12 +4,15 @@ ghost use mathlib.Core.List.{List, [], _∷_, _++_};
 ghost use Prim.Native.Nat.{_≤_, _<_};
 ghost use lib.ListN.{length};
 ghost use Rattle.job.specs.Sizes.{wordsOfPlate, wordsOfOffcut, maxOffcuts, offcutsSize, RecordIn};
+ghost use Rattle.job.specs.Job.{Job};
 ghost use Rattle.listing.specs.Listing.{Listing};
 ghost use Rattle.listing.specs.Records.{plateWords};
 ghost use Rattle.listing.specs.Holds.{Holds};
+ghost use Rattle.layouts.specs.Placement.{opened};
 ghost use Rattle.layouts.specs.Offcuts.{Offcut as LeftPart, offcut, usable, offcutWords};
 ghost use Rattle.unfold_waiting.specs.Meaning.{pieceOf};
 ghost use Rattle.unfold_offcut.specs.Meaning.{offcutIn};
+use job::counters::PlateType;
 use job::sizes::OFFCUT_WORDS;
 use job::sizes::OFFCUTS_SIZE;
 use listing::words::plate_at;
@@ -21,9 +24,10 @@ pub struct Lengths {
     pub second: u16,
 }
 
-// The board of a piece left over, its lower left corner, and its sides.
+// The board of a piece left over, the size of that board, the piece's lower left corner, and its sides.
 pub struct Offcut {
     pub board: u16,
+    pub size: PlateType,
     pub x: u16,
     pub y: u16,
     pub width: u16,
@@ -42,14 +46,15 @@ fn usable(o: Offcut, lengths: Lengths) -> u16
     0
 }
 
-// The offcut of a piece on a board: its sides are those of its plate type.
-pub fn offcut_of(plates: &[u16], board: u16, p: Piece) -> Offcut
+// The offcut of a piece on a board of a size: its sides are those of its plate type.
+pub fn offcut_of(plates: &[u16], board: u16, size: PlateType, p: Piece) -> Offcut
     requires { ⌜ RecordIn wordsOfPlate (p .plate .0) (now plates) ⌝ }
-    ensures { λ r. ⌜ ((l : Listing) → Holds (now (plates .entry)) (plateWords (l .plates)) → offcutIn r ≡ offcut l board (pieceOf p)) ⌝ }
+    ensures { λ r. ⌜ ((job : Job) (l : Listing) → Holds (now (plates .entry)) (plateWords job (l .plates)) → offcutIn r ≡ offcut l (opened board (size .0)) (pieceOf p)) ⌝ }
 {
     let plate = plate_at(plates, p.plate);
     Offcut {
         board,
+        size,
         x: p.x,
         y: p.y,
         width: plate.width,
@@ -57,7 +62,7 @@ pub fn offcut_of(plates: &[u16], board: u16, p: Piece) -> Offcut
     }
 }
 
-// Writes an offcut behind the n that the buffer holds.
+// Writes an offcut behind the n that the buffer holds. Of its board it names the number.
 fn put_offcut(words: &mut [u16], n: u16, o: Offcut, lengths: Lengths)
     requires { ⌜ RecordIn wordsOfOffcut n (now words) ⌝ }
     ensures { λ _. ⌜ ((os : List LeftPart) → length os ≡ n → Holds (now (words .entry)) (offcutWords (lengths .first) (lengths .second) os) → Holds (now (words .exit)) (offcutWords (lengths .first) (lengths .second) (os ++ offcutIn o ∷ []))) ⌝ }

@@ -3,19 +3,19 @@ use Prim.Native.Nat.{ℕ, suc, _+_, _-_, _≤_, _<_}
 use native.Mathlib.Omega.{arith}
 use mathlib.Core.Path.{_≡_, refl, sym, _∙_, ap}
 use mathlib.Core.List.{List, [], _∷_, _++_, append-assoc, append-nil, flatMap}
+use mathlib.Core.Option.{none, some}
 use lib.ListN.{length, length-append}
 use Rattle.job.specs.Sizes.{maxOffcuts, offcutsSize}
 use Rattle.job.specs.Job.{Job}
 use Rattle.listing.specs.Listing.{Listing}
 use Rattle.listing.specs.Holds.{Holds}
-use Rattle.plan.specs.Plan.{boards}
 use Rattle.layouts.specs.Placement.{Placement}
-use Rattle.layouts.specs.Unfold.{Piece, State, placed, leftOver, idle, step, openBoard}
+use Rattle.layouts.specs.Unfold.{Piece, State, placed, leftOver, idle, step, nextSize, openBoard, startOf}
 use Rattle.layouts.specs.Offcuts.{events, Offcut, offcut, offcutsIn, offcutWords}
 use Rattle.layouts.proofs.offcuts.Steps.{offcuts-ended, offcuts-placed, offcuts-over, offcuts-open}
 use Rattle.unfold_waiting.specs.Turns.{maxSteps}
 use Rattle.unfold_offcut.specs.declared.Lengths.{Lengths}
-use Rattle.unfold_run.specs.Going.{Leaving, startOf, startedOffcuts}
+use Rattle.unfold_run.specs.Going.{Leaving, startedOffcuts}
 
 module _ (job : Job) (l : Listing) (lengths : Lengths) (os : List Offcut) where
   abbrev wordsOf : List Offcut → List ℕ
@@ -58,12 +58,12 @@ module _ (job : Job) (l : Listing) (lengths : Lengths) (os : List Offcut) where
     pub leaving-placed : (p : Placement) (st′ : State) → step job l st ≡ placed p st′ → Leaving job l lengths os fuel st′ n list
     leaving-placed p st′ e = moved fuel st′ (offcuts-placed job l st fuel p st′ e)
 
-    -- a board is opened
-    pub leaving-open : step job l st ≡ idle → 0 < boards l (st .counts) → (st′ : State) → st′ ≡ openBoard st → Leaving job l lengths os fuel st′ n list
-    leaving-open e h st′ f = rw f (moved fuel (openBoard st) (offcuts-open job l st fuel e h))
+    -- a board is opened, of size j
+    pub leaving-open : (j : ℕ) → step job l st ≡ idle → nextSize (length (job .sizes)) 0 l (st .counts) ≡ some j → (st′ : State) → st′ ≡ openBoard j st → Leaving job l lengths os fuel st′ n list
+    leaving-open j e h st′ f = rw f (moved fuel (openBoard j st) (offcuts-open job l st fuel j e h))
 
     -- nothing waits, and no board is left
-    pub leaving-ended : step job l st ≡ idle → boards l (st .counts) ≡ 0 → (st′ : State) → st′ ≡ st → Leaving job l lengths os 0 st′ n list
+    pub leaving-ended : step job l st ≡ idle → nextSize (length (job .sizes)) 0 l (st .counts) ≡ none → (st′ : State) → st′ ≡ st → Leaving job l lengths os 0 st′ n list
     leaving-ended e h st′ f = rw f (moved 0 st (offcuts-ended job l st e h (suc fuel) ∙ sym (offcuts-ended job l st e h 0)))
 
     -- a piece is left over

@@ -4,25 +4,26 @@ use mathlib.Core.Path.{_≡_}
 use mathlib.Core.List.{List, _++_}
 use lib.ListN.{length}
 use Rattle.job.specs.Sizes.{maxPieces, maxOffcuts, placementsSize, offcutsSize}
-use Rattle.job.specs.Job.{Job}
+use Rattle.job.specs.Job.{Job, sizeAt}
 use Rattle.listing.specs.Listing.{Listing}
 use Rattle.listing.specs.Holds.{Holds}
-use Rattle.plan.specs.Plan.{boards}
-use Rattle.layouts.specs.Placement.{turn, Placement, placementWords}
-use Rattle.layouts.specs.Unfold.{nothingWaits, State, Run, run}
+use Rattle.layouts.specs.Placement.{Placement, placementWords}
+use Rattle.layouts.specs.Unfold.{State, Run, run, startOf}
 use Rattle.layouts.specs.Offcuts.{events, Offcut, offcutsIn, offcutWords}
 use Rattle.unfold_waiting.specs.Turns.{TurnTo, maxSteps}
 use Rattle.unfold_offcut.specs.declared.Lengths.{Lengths}
 use Rattle.unfold_step.specs.Meaning.{stateOf}
 use Rattle.unfold_step.specs.Ready.{Within}
+use Rattle.unfold_run.specs.declared.remaining.Remaining.{Remaining}
 use Rattle.unfold_run.specs.declared.run.Progress.{Progress}
 use Rattle.unfold_run.specs.declared.run.Advance.{Advance}
 use Rattle.unfold_run.specs.declared.run.Advance.the-variants.{On, Ended}
 use Rattle.unfold_run.specs.declared.run.Ran.{Ran}
+use Rattle.unfold_run.specs.Opening.{OpensFrom}
 
--- `whole` is the whole unfolding, `st` the state that it has come to, from which `fuel` steps are left; `left` boards are left to be opened,
--- and `pieces` items are written to the buffer
-pub record Going (job : Job) (l : Listing) (whole : Run) (fuel : ℕ) (st : State) (left pieces : ℕ) (buffer : List ℕ) : Type 0 where
+-- `whole` is the whole unfolding, `st` the state that it has come to, from which `fuel` steps are left; `left` are the boards that are left to be
+-- opened, and `pieces` items are written to the buffer
+pub record Going (job : Job) (l : Listing) (whole : Run) (fuel : ℕ) (st : State) (left : Remaining) (pieces : ℕ) (buffer : List ℕ) : Type 0 where
   -- the items placed so far
   pub done : List Placement
   pub written : Holds buffer (placementWords done)
@@ -32,9 +33,9 @@ pub record Going (job : Job) (l : Listing) (whole : Run) (fuel : ℕ) (st : Stat
   pub last : run fuel job l st .last ≡ whole .last
   -- there is a count for each cut, and the boards left are those of the counts left
   pub counted : length (l .cuts) ≤ length (st .counts)
-  pub boards-left : left ≡ boards l (st .counts)
-  -- the pieces lie inside the board, and no number is above that of the steps
-  pub within : Within job l (st .waiting)
+  pub boards-left : OpensFrom l (length (job .sizes)) left (st .counts)
+  -- the pieces lie inside the board, by its own size (request Six), and no number is above that of the steps
+  pub within : Within (sizeAt job (st .turn .board .size)) l (st .waiting)
   pub few-steps : fuel ≤ maxSteps
   pub turns : TurnTo (maxSteps - fuel) (st .turn)
   -- there is room for all items
@@ -52,11 +53,15 @@ pub record Leaving (job : Job) (l : Listing) (lengths : Lengths) (os : List Offc
   -- there is room for all of them
   pub few-offcuts : length os ≤ maxOffcuts
 
+-- the boards of the size of the open board that are left to be opened (request Six)
+abbrev pub leftAt : Progress → Remaining
+leftAt at = record { size = at .size; boards = at .boards }
+
 module _ (job : Job) (l : Listing) (lengths : Lengths) (whole : Run) (os : List Offcut) where
   -- the same of the code's values, with the counts that are left
   abbrev pub GoingAt : ℕ → Progress → List ℕ → List ℕ → List ℕ → Type 0
   GoingAt fuel at ns buffer list =
-      Going job l whole fuel (stateOf (at .state) ns) (at .boards) (at .pieces) buffer × Leaving job l lengths os fuel (stateOf (at .state) ns) (at .offcuts) list
+      Going job l whole fuel (stateOf (at .size .0) (at .state) ns) (leftAt at) (at .pieces) buffer × Leaving job l lengths os fuel (stateOf (at .size .0) (at .state) ns) (at .offcuts) list
 
   -- after a step: the run goes on, or has ended where it stood
   abbrev pub Advanced : ℕ → Progress → Advance → List ℕ → List ℕ → List ℕ → Type 0
@@ -72,15 +77,11 @@ pub record GoesOn (job : Job) (l : Listing) (lengths : Lengths) (at : Progress) 
 
 -- what a run gives: the boards, the pieces and the offcuts, the words of the placements, and in a list of full size the words of the offcuts
 pub record Gives (lengths : Lengths) (whole : Run) (os : List Offcut) (r : Ran) (buffer list : List ℕ) : Type 0 where
-  pub boards-given : r .boards ≡ whole .last .turn .board
+  pub boards-given : r .boards ≡ whole .last .turn .board .number
   pub pieces-given : r .pieces ≡ length (whole .placements)
   pub offcuts-given : r .offcuts ≡ length os
   pub words-given : Holds buffer (placementWords (whole .placements))
   pub offcuts-listed : offcutsSize ≤ length list → Holds list (offcutWords (lengths .first) (lengths .second) os)
-
--- before the first step
-abbrev pub startOf : List ℕ → State
-startOf ns = record { counts = ns; waiting = nothingWaits; turn = turn 0 0 0 0 }
 
 -- the run of some counts, within the budget of steps, and its offcuts
 abbrev pub started : Job → Listing → List ℕ → Run

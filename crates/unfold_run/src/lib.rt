@@ -1,2 +1,3 @@
 // The run of an unfolding: step after step, board after board.
+pub mod remaining;
 pub mod run;

@@ -1,17 +1,17 @@
 // The run of an unfolding: step after step, board after board, within a budget of steps.
 ghost use mathlib.Core.Path.{_≡_};
 ghost use mathlib.Core.List.{List, []};
-ghost use Prim.Native.Nat.{ℕ, suc, _-_, _≤_};
+ghost use Prim.Native.Nat.{ℕ, suc, _≤_};
 ghost use lib.ListN.{length};
 ghost use Rattle.job.specs.Sizes.{maxPieces, maxOffcuts, placementsSize};
 ghost use Rattle.listing.specs.Holds.{Holds};
-ghost use Rattle.plan.specs.Plan.{boards as boardsOf};
 ghost use Rattle.layouts.specs.Unfold.{Run};
 ghost use Rattle.layouts.specs.Offcuts.{Offcut};
 ghost use Rattle.layouts.specs.Demand3.{J, L};
-ghost use Rattle.unfold_step.specs.Meaning.{spends};
 ghost use Rattle.unfold_step.specs.Ready.{ModelLent};
 ghost use Rattle.unfold_run.specs.Going.{GoingAt, GoesOn, Advanced, Gives, started, startedOffcuts};
+use crate::remaining::Remaining;
+use job::counters::BoardSizes;
 use job::counters::CutNumber;
 use job::counters::PlateType;
 use placement::put_placement;
@@ -21,12 +21,14 @@ use unfold_offcut::offcut_of;
 use unfold_step::placements::placement_of;
 use unfold_step::state::State;
 use unfold_step::state::Step;
+use unfold_waiting::left::boards_left;
 use unfold_waiting::turn::MAX_STEPS;
 
-// Where a run stands: its state, the boards that are left to be opened, the items placed, and the pieces left over.
+// Where a run stands: its state, the size of the board, the boards of that size that are left to be opened, the items placed, and the pieces left over.
 pub struct Progress {
     pub state: State,
-    pub boards: u16,
+    pub size: PlateType,
+    pub boards: u32,
     pub pieces: u16,
     pub offcuts: u16,
 }
@@ -44,23 +46,14 @@ pub struct Ran {
     pub offcuts: u16,
 }
 
-// The boards that are left after a cut on a plate type.
-fn boards_after(boards: u16, plate: PlateType) -> u16
-    requires { ⌜ spends (plate .0) ≤ boards ⌝ }
-    ensures { λ r. ⌜ r ≡ boards - spends (plate .0) ⌝ }
-{
-    if plate.0 == 0 {
-        return boards - 1;
-    }
-    boards
-}
-
 impl Progress {
-    // One step: an item is placed, a piece is left over, or the next board is opened; the run ends where nothing waits and no board is left.
+    // One step: an item is placed, a piece is left over, or the next board is opened, of the lowest size that has boards left; the run ends where nothing
+    // waits and no board is left.
     fn advance(
         self,
         job: &[u16],
         blade: u16,
+        sizes: BoardSizes,
         plates: &[u16],
         cuts: &[u16],
         k: CutNumber,
@@ -71,73 +64,76 @@ impl Progress {
     ) -> Advance
         requires { ⌜ ModelLent (now job) (now plates) (now cuts) (k .0) ⌝ }
         requires { ⌜ GoesOn (J (now job)) (L (now job)) lengths self (now counts) (now placements) (now offcuts) ⌝ }
-        requires { ⌜ blade ≡ J (now job) .blade ⌝ }
+        requires { ⌜ (blade ≡ J (now job) .blade) × (sizes .0 ≡ length (J (now job) .sizes)) ⌝ }
         ensures { λ r. ⌜ ((whole : Run) (os : List Offcut) (fuel : ℕ) → GoingAt (J (now (job .entry))) (L (now (job .entry))) lengths whole os (suc fuel) self (now (counts .entry)) (now (placements .entry)) (now (offcuts .entry)) → Advanced (J (now (job .entry))) (L (now (job .entry))) lengths whole os fuel self r (now (counts .exit)) (now (placements .exit)) (now (offcuts .exit))) ⌝ }
     {
         let state = self.state;
-        let boards = self.boards;
+        let size = self.size;
+        let left = Remaining {
+            size,
+            boards: self.boards,
+        };
         let pieces = self.pieces;
         let over = self.offcuts;
+        let mut at = self;
         match state.step(job, blade, plates, cuts, k, counts) {
             Step::Placed(item, next) => {
-                put_placement(placements, pieces, placement_of(item));
+                put_placement(placements, pieces, placement_of(item, size));
                 let plate = item.plate;
-                Advance::On(Progress {
-                    state: next,
-                    boards: boards_after(boards, plate),
-                    pieces: pieces + 1,
-                    offcuts: over,
-                })
+                at.state = next;
+                at.boards = left.after(plate);
+                at.pieces = pieces + 1;
+                Advance::On(at)
             }
             Step::LeftOver(piece, next) => {
-                let board = state.turn.board;
-                list_offcut(offcuts, over, offcut_of(plates, board, piece), lengths);
-                Advance::On(Progress {
-                    state: next,
-                    boards,
-                    pieces,
-                    offcuts: over + 1,
-                })
+                let o = offcut_of(plates, state.turn.board, size, piece);
+                list_offcut(offcuts, over, o, lengths);
+                at.state = next;
+                at.offcuts = over + 1;
+                Advance::On(at)
             }
             Step::Idle => {
-                if boards == 0 {
+                let open = left.next(sizes, cuts, k, counts);
+                if open.boards == 0 {
                     return Advance::Ended;
                 }
-                Advance::On(Progress {
-                    state: state.open_board(),
-                    boards,
-                    pieces,
-                    offcuts: over,
-                })
+                let other = open.size;
+                at.state = state.open_board(other);
+                at.size = other;
+                at.boards = open.boards;
+                Advance::On(at)
             }
         }
     }
 }
 
-// The whole unfolding of counts that open a number of boards, with the job's blade. Its offcuts are listed where the list is of full size; their number is given in any case.
+// The whole unfolding of the counts of k cuts, with the job's blade and its number of sizes. Its offcuts are listed where the list is of full size; their
+// number is given in any case.
 pub fn run(
     job: &[u16],
     blade: u16,
+    sizes: BoardSizes,
     plates: &[u16],
     cuts: &[u16],
     k: CutNumber,
     lengths: Lengths,
     counts: &mut [u16],
-    boards: u16,
     placements: &mut [u16],
     offcuts: &mut [u16],
 ) -> Ran
     requires { ⌜ ModelLent (now job) (now plates) (now cuts) (k .0) ⌝ }
-    requires { ⌜ (k .0 ≤ length (now counts)) × (boards ≡ boardsOf (L (now job)) (now counts)) ⌝ }
+    requires { ⌜ (k .0 ≤ length (now counts)) × (sizes .0 ≡ length (J (now job) .sizes)) ⌝ }
     requires { ⌜ (Holds (now placements) []) × (placementsSize ≤ length (now placements)) ⌝ }
     requires { ⌜ (length (started (J (now job)) (L (now job)) (now counts) .placements) ≤ maxPieces) × (length (startedOffcuts (J (now job)) (L (now job)) (now counts)) ≤ maxOffcuts) ⌝ }
     requires { ⌜ Holds (now offcuts) [] ⌝ }
     requires { ⌜ blade ≡ J (now job) .blade ⌝ }
     ensures { λ r. ⌜ Gives lengths (started (J (now (job .entry))) (L (now (job .entry))) (now (counts .entry))) (startedOffcuts (J (now (job .entry))) (L (now (job .entry))) (now (counts .entry))) r (now (placements .exit)) (now (offcuts .exit)) ⌝ }
 {
+    let first = PlateType(0);
     let mut at = Progress {
         state: State::start(),
-        boards,
+        size: first,
+        boards: boards_left(cuts, k, counts, first),
         pieces: 0,
         offcuts: 0,
     };
@@ -146,6 +142,7 @@ pub fn run(
         let Advance::On(next) = at.advance(
             job,
             blade,
+            sizes,
             plates,
             cuts,
             k,

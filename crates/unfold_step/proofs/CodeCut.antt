@@ -2,13 +2,16 @@
 use Prim.Native.Nat.{ℕ, zero, suc, _+_, _*_, _-_, _≤_, _<_}
 use native.Mathlib.Omega.{arith}
 use mathlib.Core.Path.{_≡_, _∙_, ap}
+use mathlib.Core.Logic.{_⊎_, inl, inr}
 use mathlib.Core.List.{List}
-use lib.ListN.{length, getD, length-append, length-replicate}
+use lib.ListN.{length, getD, length-append, length-replicate, List·getD-eq-default}
 use Rattle.job.specs.declared.item.Position.{Position}
 use Rattle.job.specs.Sizes.{maxSide, maxBlade, wordsOfPlate, wordsOfCut, jobSize, RecordIn}
 use Rattle.job.specs.Buffers.{filled}
-use Rattle.job.specs.Job.{Job, typeOf, positionAt, jobOf}
+use Rattle.job.specs.Job.{Job, noSize, sizeAt, typeOf, positionAt, jobOf}
+use Rattle.job.specs.Admitted.{Admitted}
 use Rattle.job.proofs.Positions.{permitted-type}
+use Rattle.job.proofs.Tests.{at-most-or-above}
 use Rattle.listing.specs.declared.cut.CutRecord.{CutRecord}
 use Rattle.listing.specs.Listing.{Cut, Listing, cutAt, noCut, listingOf}
 use Rattle.listing.specs.Holds.{Holds}
@@ -17,7 +20,7 @@ use Rattle.listing.proofs.CodeCuts.{held-cut}
 use Rattle.listing.proofs.ModelLaws.{numbered-below}
 use Rattle.listing.proofs.Plates.{may-cut}
 use Rattle.listing.proofs.RecordWords.{plate-words-length, cut-words-length}
-use Rattle.plan.specs.Plan.{onPlate, boards}
+use Rattle.plan.specs.Plan.{onPlate, boardsOf}
 use Rattle.layouts.specs.Placement.{Turn}
 use Rattle.layouts.specs.Unfold.{Piece, Waiting, taken, spent, wait, nextTurn, placed, done}
 use Rattle.layouts.proofs.trees.Cuts.{IsCut, plateOf, cut-fits, top-number, right-number}
@@ -39,6 +42,15 @@ unfolding cutAt
 cut-place l zero h = absurd (omega arith)
 cut-place l (suc c) h = let e : suc c - 1 ≡ c = omega arith in rw e
 
+-- the sides of a size are at most 10,000; one that the job has not has none
+sides-small : (job : Job) → Admitted job → (j : ℕ) → (sizeAt job j .width ≤ maxSide) × (sizeAt job j .height ≤ maxSide)
+unfolding sizeAt
+sides-small job a j = by (at-most-or-above (length (job .sizes)) j)
+  where
+    by : (length (job .sizes) ≤ j) ⊎ (j < length (job .sizes)) → (sizeAt job j .width ≤ maxSide) × (sizeAt job j .height ≤ maxSide)
+    by (inl h) = let e : sizeAt job j ≡ noSize = List·getD-eq-default (job .sizes) noSize h in rw e (omega arith, omega arith)
+    by (inr h) = let s = a .each-size j h in (s .width-limits .1, s .height-limits .1)
+
 module _ (ws plates cuts : List ℕ) (k : ℕ) (lent : ModelLent ws plates cuts k) where
   abbrev job : Job
   job = jobOf ws
@@ -52,7 +64,11 @@ module _ (ws plates cuts : List ℕ) (k : ℕ) (lent : ModelLent ws plates cuts 
 
   -- and those of a plate type
   pub plate-there : (j : ℕ) → j < length (l .plates) → RecordIn wordsOfPlate j plates
-  plate-there j h = omega (arith, held-room (lent .plates-held), plate-words-length (l .plates))
+  plate-there j h = omega (arith, held-room (lent .plates-held), plate-words-length job (l .plates))
+
+  -- there is one
+  some-plate : 0 < length (l .plates)
+  some-plate = omega (arith, lent .model .some-size, lent .model .size-plates)
 
   module _ (ns : List ℕ) (c : ℕ) (p : Piece) (able : Cuttable job l ns c p) where
     is-cut : IsCut l c
@@ -67,7 +83,7 @@ module _ (ws plates cuts : List ℕ) (k : ℕ) (lent : ModelLent ws plates cuts 
 
     -- the words of the type of its item, and of the plate types of its residuals, are there
     module _ (r : CutRecord) (e : cutIn r ≡ cutRead cuts (c - 1)) where
-      pub item-there : (1 ≤ typeOf (r .item .0)) × (jobSize (typeOf (r .item .0)) ≤ length ws)
+      pub item-there : (1 ≤ typeOf (r .item .0)) × (jobSize (getD ws 2 0) (typeOf (r .item .0)) ≤ length ws)
       item-there =
           let f = cut-fits job l (lent .model) c is-cut in
           let t = permitted-type job (cutAt l c .item) (may-cut (job .mode) (positionAt job (cutAt l c .item)) (plateOf l c) (f .allowed) .allowed) in
@@ -77,19 +93,19 @@ module _ (ws plates cuts : List ℕ) (k : ℕ) (lent : ModelLent ws plates cuts 
       pub top-there : RecordIn wordsOfPlate (r .top .0) plates
       top-there =
           let i : r .top .0 ≡ cutAt l c .top = ap (λ (x : Cut). x .top) (cut-is r e) in
-          plate-there (r .top .0) (rw i (numbered-below job l _ (cutAt l c .top) (lent .model .some-plate) (top-number job l (lent .model) c is-cut)))
+          plate-there (r .top .0) (rw i (numbered-below job l _ (cutAt l c .top) some-plate (top-number job l (lent .model) c is-cut)))
 
       pub right-there : RecordIn wordsOfPlate (r .right .0) plates
       right-there =
           let i : r .right .0 ≡ cutAt l c .right = ap (λ (x : Cut). x .right) (cut-is r e) in
-          plate-there (r .right .0) (rw i (numbered-below job l _ (cutAt l c .right) (lent .model .some-plate) (right-number job l (lent .model) c is-cut)))
+          plate-there (r .right .0) (rw i (numbered-below job l _ (cutAt l c .right) some-plate (right-number job l (lent .model) c is-cut)))
 
-      -- the boards left fall by one where the cut is on type 0
-      pub boards-fall : {ns′ : List ℕ} → ns′ ≡ spent ns c → boards l ns ≡ spends (r .plate .0) + boards l ns′
-      unfolding boards onPlate
-      boards-fall n =
+      -- the boards left of a size fall by one where the cut is on that size
+      pub boards-fall : {ns′ : List ℕ} → ns′ ≡ spent ns c → (z : ℕ) → boardsOf l z ns ≡ spends z (r .plate .0) + boardsOf l z ns′
+      unfolding boardsOf onPlate
+      boards-fall n z =
           let i : r .plate .0 ≡ cutAt l c .plate = ap (λ (x : Cut). x .plate) (cut-is r e) in
-          rw (n, i, ← cut-place l c (able .from-one), spent-at ns c (able .from-one)) (count-falls (onPlate 0) (l .cuts) ns (c - 1) (omega (arith, able .from-one, able .to-last)) (able .left))
+          rw (n, i, ← cut-place l c (able .from-one), spent-at ns c (able .from-one)) (count-falls (onPlate z) (l .cuts) ns (c - 1) (omega (arith, able .from-one, able .to-last)) (able .left))
 
       module _ (item : Position) (f : item ≡ positionAt job (r .item .0)) (blade : ℕ) (b : blade ≡ job .blade) where
         item-is : item ≡ positionAt job (cutAt l c .item)
@@ -97,10 +113,10 @@ module _ (ws plates cuts : List ℕ) (k : ℕ) (lent : ModelLent ws plates cuts 
 
         -- the item ends inside the board, and the blade past it at most 20 behind its edge
         pub across-small : p .x + item .width + blade ≤ maxSide + maxBlade
-        across-small = omega (arith, rw (← item-is) at (item-across job l (lent .model) c is-cut p (able .on) (able .in-board)), lent .admitted .width-limits .1, lent .admitted .blade-limits .1)
+        across-small = omega (arith, rw (← item-is) at (item-across job l (lent .model) (sizeAt job (able .size)) c is-cut p (able .on) (able .in-board)), sides-small job (lent .admitted) (able .size) .0, lent .admitted .blade-limits .1)
 
         pub up-small : p .y + item .height + blade ≤ maxSide + maxBlade
-        up-small = omega (arith, rw (← item-is) at (item-up job l (lent .model) c is-cut p (able .on) (able .in-board)), lent .admitted .height-limits .1, lent .admitted .blade-limits .1)
+        up-small = omega (arith, rw (← item-is) at (item-up job l (lent .model) (sizeAt job (able .size)) c is-cut p (able .on) (able .in-board)), sides-small job (lent .admitted) (able .size) .1, lent .admitted .blade-limits .1)
 
         -- what the code makes is the step
         pub done-so :

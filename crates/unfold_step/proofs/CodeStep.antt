@@ -3,7 +3,8 @@ use Prim.Native.Nat.{ℕ, _-_}
 use native.Mathlib.Omega.{arith}
 use mathlib.Core.Path.{_≡_, refl, sym, _∙_}
 use mathlib.Core.Option.{some}
-use Rattle.job.specs.Job.{Job}
+use Rattle.job.specs.declared.size.Size.{Size}
+use Rattle.job.specs.Job.{Job, sizeAt}
 use Rattle.listing.specs.Listing.{Listing}
 use Rattle.listing.specs.Model.{Model}
 use Rattle.layouts.specs.Unfold.{Waiting, State, Taken, taken, search, spent, highest, done, step}
@@ -35,9 +36,13 @@ unfolding done
 done-spends job l st t c = refl
 
 module _ (job : Job) (l : Listing) (m : Model job l) (st : State) (t : Taken) (e : highest (st .waiting) ≡ some t) where
+  -- the size of the board
+  abbrev size : Size
+  size = sizeAt job (st .turn .board .size)
+
   -- it is as ready as the state was
   pub rest-ready : Ready job l st → Ready job l (resting st t)
-  rest-ready r = record { counted = r .counted; within = taken-in job l m (st .waiting) t e (r .within) .1; turns = r .turns }
+  rest-ready r = record { counted = r .counted; within = taken-in job l m size (st .waiting) t e (r .within) .1; turns = r .turns }
 
   module _ (c : ℕ) (f : search (t .piece .plate) 1 (l .cuts) (st .counts) ≡ some c) where
     -- the cut found can be done on the piece
@@ -51,7 +56,8 @@ module _ (job : Job) (l : Listing) (m : Model job l) (st : State) (t : Taken) (e
           to-last = is .1;
           left = rw place (at .left);
           on = on;
-          in-board = taken-in job l m (st .waiting) t e (r .within) .0;
+          size = st .turn .board .size;
+          in-board = taken-in job l m size (st .waiting) t e (r .within) .0;
         }
 
     -- done on the state without the piece, it is the step

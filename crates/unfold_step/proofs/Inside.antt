@@ -6,7 +6,8 @@ use mathlib.Core.Bool.{Bool, true, false}
 use mathlib.Core.Option.{Option, none, some}
 use lib.Dec.{eqb}
 use Rattle.job.specs.declared.item.Position.{Position}
-use Rattle.job.specs.Job.{Job, positionAt}
+use Rattle.job.specs.declared.size.Size.{Size}
+use Rattle.job.specs.Job.{Job, sizeAt, positionAt}
 use Rattle.job.specs.Admitted.{Sided}
 use Rattle.listing.specs.declared.plate.Residuals.{Residuals}
 use Rattle.listing.specs.Listing.{Listing, plateAt, cutAt}
@@ -31,80 +32,80 @@ pub record Ends (x y b across up : ℕ) (item : Position) (r : Residuals) : Type
   pub right-up : y + r .right .height ≤ up
 
 module _ (job : Job) (l : Listing) (m : Model job l) where
-  -- a cut c on the type of a piece that lies inside the board
-  module _ (c : ℕ) (is : IsCut l c) (p : Piece) (on : cutAt l c .plate ≡ p .plate) (i : InBoard job l p) where
+  -- a cut c on the type of a piece that lies inside a board of size z
+  module _ (z : Size) (c : ℕ) (is : IsCut l c) (p : Piece) (on : cutAt l c .plate ≡ p .plate) (i : InBoard z l p) where
     abbrev item : Position
     item = positionAt job (cutAt l c .item)
 
     -- the piece ends inside the board by the sides of the cut's plate type, within which the item is
-    ends-across : p .x + plateOf l c .width ≤ job .width
+    ends-across : p .x + plateOf l c .width ≤ z .width
     ends-across = rw on (i .across)
 
-    ends-up : p .y + plateOf l c .height ≤ job .height
+    ends-up : p .y + plateOf l c .height ≤ z .height
     ends-up = rw on (i .up)
 
     item-within : (item .width ≤ plateOf l c .width) × (item .height ≤ plateOf l c .height)
     item-within = let p = may-cut (job .mode) item (plateOf l c) (cut-fits job l m c is .allowed) in (p .in-width, p .in-height)
 
     -- the item lies inside the board
-    pub item-across : p .x + item .width ≤ job .width
+    pub item-across : p .x + item .width ≤ z .width
     item-across = omega (arith, ends-across, item-within .0)
 
-    pub item-up : p .y + item .height ≤ job .height
+    pub item-up : p .y + item .height ≤ z .height
     item-up = omega (arith, ends-up, item-within .1)
 
     -- and so do its residuals
-    residuals-end : Ends (p .x) (p .y) (job .blade) (job .width) (job .height) item (leftBy job l (cutAt l c))
+    residuals-end : Ends (p .x) (p .y) (job .blade) (z .width) (z .height) item (leftBy job l (cutAt l c))
     residuals-end =
         let a = ends-across in
         let b = ends-up in
         let (u, v) = item-within in
-        leaves-by (job .mode) (job .blade) item (plateOf l c) (Ends (p .x) (p .y) (job .blade) (job .width) (job .height) item)
+        leaves-by (job .mode) (job .blade) item (plateOf l c) (Ends (p .x) (p .y) (job .blade) (z .width) (z .height) item)
         (λ _. record { top-across = omega arith; top-up = λ h. omega arith; right-across = λ h. omega arith; right-up = omega arith })
         (λ _ _. record { top-across = omega arith; top-up = λ h. omega arith; right-across = λ h. omega arith; right-up = omega arith })
         (λ _ _. record { top-across = omega arith; top-up = λ h. omega arith; right-across = λ h. omega arith; right-up = omega arith })
         (λ _ _. record { top-across = omega arith; top-up = λ h. omega arith; right-across = λ h. omega arith; right-up = omega arith })
 
     module _ (sided : Sided job) where
-      pub top-in : 0 < cutAt l c .top → InBoard job l (piece (cutAt l c .top) (p .x) (p .y + item .height + job .blade))
+      pub top-in : 0 < cutAt l c .top → InBoard z l (piece (cutAt l c .top) (p .x) (p .y + item .height + job .blade))
       top-in h =
-          let (k, j, e) = number-kept job l m (leftBy job l (cutAt l c) .top) (cutAt l c .top) (top-number job l m c is) h in
+          let (k, j, e, _) = number-kept job l m (leftBy job l (cutAt l c) .top) (cutAt l c .top) (top-number job l m c is) h in
           record { listed = j; across = rw e (residuals-end .top-across); up = rw e (residuals-end .top-up (kept-sides job sided (leftBy job l (cutAt l c) .top) k .1)) }
 
-      pub right-in : 0 < cutAt l c .right → InBoard job l (piece (cutAt l c .right) (p .x + item .width + job .blade) (p .y))
+      pub right-in : 0 < cutAt l c .right → InBoard z l (piece (cutAt l c .right) (p .x + item .width + job .blade) (p .y))
       right-in h =
-          let (k, j, e) = number-kept job l m (leftBy job l (cutAt l c) .right) (cutAt l c .right) (right-number job l m c is) h in
+          let (k, j, e, _) = number-kept job l m (leftBy job l (cutAt l c) .right) (cutAt l c .right) (right-number job l m c is) h in
           record { listed = j; across = rw e (residuals-end .right-across (kept-sides job sided (leftBy job l (cutAt l c) .right) k .0)); up = rw e (residuals-end .right-up) }
 
   -- a residual that waits leaves the others where they are
-  waitAt-in : (s : ℕ) (p : Piece) (w : Waiting) → InBoard job l p → Within job l w → Within job l (waitAt s p w)
+  waitAt-in : (z : Size) (s : ℕ) (p : Piece) (w : Waiting) → InBoard z l p → Within z l w → Within z l (waitAt s p w)
   unfolding waitAt
-  waitAt-in s p w i h = go (eqb s 1) refl (eqb s 2) refl
+  waitAt-in z s p w i h = go (eqb s 1) refl (eqb s 2) refl
     where
-      go : (a : Bool) → eqb s 1 ≡ a → (b : Bool) → eqb s 2 ≡ b → Within job l (waitAt s p w)
+      go : (a : Bool) → eqb s 1 ≡ a → (b : Bool) → eqb s 2 ≡ b → Within z l (waitAt s p w)
       go true e b f = rw (e, waitAt) (record { one = i; two = h .two; three = h .three })
       go false e true f = rw (e, waitAt, f, waitAt) (record { one = h .one; two = i; three = h .three })
       go false e false f = rw (e, waitAt, f, waitAt) (record { one = h .one; two = h .two; three = i })
 
-  wait-in : (j x y : ℕ) (w : Waiting) → (0 < j → InBoard job l (piece j x y)) → Within job l w → Within job l (wait l j x y w)
+  wait-in : (z : Size) (j x y : ℕ) (w : Waiting) → (0 < j → InBoard z l (piece j x y)) → Within z l w → Within z l (wait l j x y w)
   unfolding wait
-  wait-in zero x y w i h = h
-  wait-in (suc j) x y w i h = waitAt-in (plateAt l (suc j) .stage) (piece (suc j) x y) w (i (omega arith)) h
+  wait-in z zero x y w i h = h
+  wait-in z (suc j) x y w i h = waitAt-in z (plateAt l (suc j) .stage) (piece (suc j) x y) w (i (omega arith)) h
 
   -- the piece taken lies inside the board, and so do those that wait on
-  abbrev TakenIn : Option Taken → Type 0
-  TakenIn none = Unit {0}
-  TakenIn (some t) = InBoard job l (t .piece) × Within job l (t .rest)
+  abbrev TakenIn : Size → Option Taken → Type 0
+  TakenIn z none = Unit {0}
+  TakenIn z (some t) = InBoard z l (t .piece) × Within z l (t .rest)
 
-  highest-in : (a b c : Option Piece) → InSlot job l a → InSlot job l b → InSlot job l c → TakenIn (highest (record { first = a; second = b; third = c }))
+  highest-in : (z : Size) (a b c : Option Piece) → InSlot z l a → InSlot z l b → InSlot z l c → TakenIn z (highest (record { first = a; second = b; third = c }))
   unfolding highest
-  highest-in a b (some p) x y z = (z, record { one = x; two = y; three = tt })
-  highest-in a (some p) none x y z = (y, record { one = x; two = tt; three = tt })
-  highest-in (some p) none none x y z = (x, record { one = tt; two = tt; three = tt })
-  highest-in none none none x y z = tt
+  highest-in size a b (some p) x y z = (z, record { one = x; two = y; three = tt })
+  highest-in size a (some p) none x y z = (y, record { one = x; two = tt; three = tt })
+  highest-in size (some p) none none x y z = (x, record { one = tt; two = tt; three = tt })
+  highest-in size none none none x y z = tt
 
-  pub taken-in : (w : Waiting) (t : Taken) → highest w ≡ some t → Within job l w → InBoard job l (t .piece) × Within job l (t .rest)
-  taken-in w t e h = rw e at (highest-in (w .first) (w .second) (w .third) (h .one) (h .two) (h .three))
+  pub taken-in : (z : Size) (w : Waiting) (t : Taken) → highest w ≡ some t → Within z l w → InBoard z l (t .piece) × Within z l (t .rest)
+  taken-in z w t e h = rw e at (highest-in z (w .first) (w .second) (w .third) (h .one) (h .two) (h .three))
 
   -- the next turn is at most one step ahead
   pub next-to : (n s : ℕ) (t : Turn) → TurnTo n t → TurnTo (suc n) (nextTurn s t)
@@ -116,9 +117,19 @@ module _ (job : Job) (l : Listing) (m : Model job l) where
       go false e true f = rw (e, nextTurn, f, nextTurn) (record { board-to = omega arith; strip-to = omega arith; stack-to = omega arith; place-to = omega arith })
       go false e false f = rw (e, nextTurn, f, nextTurn) (record { board-to = omega arith; strip-to = omega arith; stack-to = omega arith; place-to = omega arith })
 
+  -- it is on the same board
+  next-board : (s : ℕ) (t : Turn) → nextTurn s t .board ≡ t .board
+  unfolding nextTurn
+  next-board s t = go (eqb s 1) refl (eqb s 2) refl
+    where
+      go : (a : Bool) → eqb s 1 ≡ a → (b : Bool) → eqb s 2 ≡ b → nextTurn s t .board ≡ t .board
+      go true e b f = rw (e, nextTurn)
+      go false e true f = rw (e, nextTurn, f, nextTurn)
+      go false e false f = rw (e, nextTurn, f, nextTurn)
+
   -- a state that a step leads to, after at most n others
   pub record Kept (n : ℕ) (st′ : State) : Type 0 where
-    pub within : Within job l (st′ .waiting)
+    pub within : Within (sizeAt job (st′ .turn .board .size)) l (st′ .waiting)
     pub turns : TurnTo (suc n) (st′ .turn)
 
   abbrev pub StepKeeps : ℕ → Step → Type 0
@@ -126,18 +137,22 @@ module _ (job : Job) (l : Listing) (m : Model job l) where
   StepKeeps n (leftOver p st′) = Kept n st′
   StepKeeps n idle = Unit {0}
 
-  module _ (sided : Sided job) (n : ℕ) (st : State) (w : Within job l (st .waiting)) (t : TurnTo n (st .turn)) where
+  module _ (sided : Sided job) (n : ℕ) (st : State) (w : Within (sizeAt job (st .turn .board .size)) l (st .waiting)) (t : TurnTo n (st .turn)) where
+    -- the size of the board
+    abbrev size : Size
+    size = sizeAt job (st .turn .board .size)
+
     done-keeps : (u : Taken) → highest (st .waiting) ≡ some u → (k : ℕ) → search (u .piece .plate) 1 (l .cuts) (st .counts) ≡ some k → StepKeeps n (done job l st u k)
     unfolding done
     done-keeps u e k f =
-        let (i, r) = taken-in (st .waiting) u e w in
+        let (i, r) = taken-in size (st .waiting) u e w in
         let (is, on) = found-cut l (u .piece .plate) (st .counts) k f in
         let c = cutAt l k in
         let item = positionAt job (c .item) in
         let x = u .piece .x in
         let y = u .piece .y in
         record {
-          within = wait-in (c .top) x (y + item .height + job .blade) (wait l (c .right) (x + item .width + job .blade) y (u .rest)) (top-in k is (u .piece) on i sided) (wait-in (c .right) (x + item .width + job .blade) y (u .rest) (right-in k is (u .piece) on i sided) r);
+          within = rw (next-board (u .stage) (st .turn)) (wait-in size (c .top) x (y + item .height + job .blade) (wait l (c .right) (x + item .width + job .blade) y (u .rest)) (top-in size k is (u .piece) on i sided) (wait-in size (c .right) (x + item .width + job .blade) y (u .rest) (right-in size k is (u .piece) on i sided) r));
           turns = next-to n (u .stage) (st .turn) t;
         }
 
@@ -145,15 +160,15 @@ module _ (job : Job) (l : Listing) (m : Model job l) where
     pub step-keeps : StepKeeps n (step job l st)
     step-keeps =
         step-by job l st (StepKeeps n) (λ _. tt)
-        (λ u e f. record { within = taken-in (st .waiting) u e w .1; turns = record { board-to = omega arith; strip-to = omega arith; stack-to = omega arith; place-to = omega arith } })
+        (λ u e f. record { within = taken-in size (st .waiting) u e w .1; turns = record { board-to = omega arith; strip-to = omega arith; stack-to = omega arith; place-to = omega arith } })
         done-keeps
 
   -- the piece that a step leaves over lies inside the board
-  abbrev OverIn : Step → Type 0
-  OverIn (placed p st′) = Unit {0}
-  OverIn (leftOver p st′) = InBoard job l p
-  OverIn idle = Unit {0}
+  abbrev OverIn : Size → Step → Type 0
+  OverIn z (placed p st′) = Unit {0}
+  OverIn z (leftOver p st′) = InBoard z l p
+  OverIn z idle = Unit {0}
 
-  pub over-in : (st : State) (p : Piece) (st′ : State) → Within job l (st .waiting) → step job l st ≡ leftOver p st′ → InBoard job l p
+  pub over-in : (z : Size) (st : State) (p : Piece) (st′ : State) → Within z l (st .waiting) → step job l st ≡ leftOver p st′ → InBoard z l p
   unfolding done
-  over-in st p st′ w e = rw e at (step-by job l st OverIn (λ _. tt) (λ u f _. taken-in (st .waiting) u f w .0) (λ _ _ _ _. tt))
+  over-in z st p st′ w e = rw e at (step-by job l st (OverIn z) (λ _. tt) (λ u f _. taken-in z (st .waiting) u f w .0) (λ _ _ _ _. tt))

@@ -1,14 +1,12 @@
 -- Document 01, "Unfolding": what a step is, by the piece that is taken and the cut that is found, and what a run is, by its first step.
-use Prim.Native.Nat.{ℕ, suc, _<_}
+use Prim.Native.Nat.{ℕ, suc}
 use mathlib.Core.Path.{_≡_, refl}
 use mathlib.Core.Option.{Option, none, some}
 use lib.ListN.{length}
-use borrow.Author.Tests.{lt-ltb}
 use Rattle.job.specs.Job.{Job}
 use Rattle.listing.specs.Listing.{Listing}
-use Rattle.plan.specs.Plan.{boards}
 use Rattle.layouts.specs.Placement.{Placement}
-use Rattle.layouts.specs.Unfold.{Piece, State, Taken, highest, search, Step, placed, leftOver, idle, done, step, openBoard, placing, run}
+use Rattle.layouts.specs.Unfold.{Piece, State, Taken, highest, search, Step, placed, leftOver, idle, done, step, nextSize, openBoard, placing, run}
 use Rattle.layouts.proofs.machine.Search.{spent-length}
 use Rattle.unfold_step.specs.Meaning.{countsAfter}
 
@@ -61,7 +59,7 @@ module _ (job : Job) (l : Listing) (st : State) where
   unfolding run
   run-over fuel p st′ e = rw (e, run)
 
-  -- a board is opened first
-  pub run-open : (fuel : ℕ) → step job l st ≡ idle → 0 < boards l (st .counts) → run (suc fuel) job l st ≡ run fuel job l (openBoard st)
+  -- a board is opened first, of size j
+  pub run-open : (fuel j : ℕ) → step job l st ≡ idle → nextSize (length (job .sizes)) 0 l (st .counts) ≡ some j → run (suc fuel) job l st ≡ run fuel job l (openBoard j st)
   unfolding run
-  run-open fuel e h = rw (e, lt-ltb 0 (boards l (st .counts)) h, run)
+  run-open fuel j e h = rw (e, h, run)

@@ -11,29 +11,29 @@ use Rattle.unfold_step.specs.declared.state.PlacedItem.{PlacedItem}
 use Rattle.unfold_step.specs.declared.state.Step.{Step as CodeStep}
 use Rattle.unfold_step.specs.declared.state.Step.the-variants.{Placed, LeftOver, Idle}
 
--- a state, with the counts that are left
-abbrev pub stateOf : CodeState → List ℕ → State
-stateOf st ns = record { counts = ns; waiting = waitingOf (st .waiting); turn = turnOf (st .turn) }
+-- a state on a board of size z (request Six), with the counts that are left
+abbrev pub stateOf : ℕ → CodeState → List ℕ → State
+stateOf z st ns = record { counts = ns; waiting = waitingOf (st .waiting); turn = turnOf z (st .turn) }
 
--- the placement of an item that is placed
-abbrev pub placedOf : PlacedItem → Placement
-placedOf p = record { turn = turnOf (p .turn); item = p .item .0; x = p .x; y = p .y }
+-- the placement of an item that is placed there
+abbrev pub placedOf : ℕ → PlacedItem → Placement
+placedOf z p = record { turn = turnOf z (p .turn); item = p .item .0; x = p .x; y = p .y }
 
 -- what a step does, with the counts that it leaves
-abbrev pub stepMeans : CodeStep → List ℕ → Step
-stepMeans (Placed p st) ns = placed (placedOf p) (stateOf st ns)
-stepMeans (LeftOver p st) ns = leftOver (pieceOf p) (stateOf st ns)
-stepMeans Idle ns = idle
+abbrev pub stepMeans : ℕ → CodeStep → List ℕ → Step
+stepMeans z (Placed p st) ns = placed (placedOf z p) (stateOf z st ns)
+stepMeans z (LeftOver p st) ns = leftOver (pieceOf p) (stateOf z st ns)
+stepMeans z Idle ns = idle
 
--- the boards that a cut on plate type j spends: 1 where it is type 0
-abbrev pub spends : ℕ → ℕ
-spends j = cond (eqb j 0) 1 0
+-- what a cut on a plate takes from the counts on plate type j: 1 where the plate is of that type
+abbrev pub spends : ℕ → ℕ → ℕ
+spends j plate = cond (eqb plate j) 1 0
 
--- the boards that a step spends
-abbrev pub stepSpends : CodeStep → ℕ
-stepSpends (Placed p st) = spends (p .plate .0)
-stepSpends (LeftOver p st) = 0
-stepSpends Idle = 0
+-- what a step takes from them
+abbrev pub stepSpends : ℕ → CodeStep → ℕ
+stepSpends j (Placed p st) = spends j (p .plate .0)
+stepSpends j (LeftOver p st) = 0
+stepSpends j Idle = 0
 
 -- the counts that a step leaves of some counts
 abbrev pub countsAfter : Step → List ℕ → List ℕ

@@ -5,16 +5,18 @@ ghost use Rattle.placement.specs.PlacementRead.{placementIn};
 ghost use Rattle.unfold_step.specs.Meaning.{placedOf};
 use crate::state::PlacedItem;
 use job::counters::ItemType;
+use job::counters::PlateType;
 use placement::Placement;
 
-// Where it comes in turn, its type, where it lies, and its turn.
-pub fn placement_of(p: PlacedItem) -> Placement
-    ensures { λ r. ⌜ (placementIn r ≡ placedOf p) × (r .turned ≤ 1) ⌝ }
+// Where it comes in turn, on a board of a size, its type, where it lies, and its turn.
+pub fn placement_of(p: PlacedItem, size: PlateType) -> Placement
+    ensures { λ r. ⌜ (placementIn r ≡ placedOf (size .0) p) × (r .turned ≤ 1) ⌝ }
 {
     let turn = p.turn;
     let number = p.item.0;
     Placement {
         board: turn.board,
+        size,
         strip: turn.strip,
         stack: turn.stack,
         place: turn.place,

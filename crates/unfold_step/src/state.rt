@@ -2,14 +2,14 @@
 ghost use mathlib.Core.Path.{_≡_};
 ghost use mathlib.Core.List.{List};
 ghost use Prim.Native.Nat.{ℕ, _+_};
-ghost use Rattle.plan.specs.Plan.{boards};
-ghost use Rattle.layouts.specs.Placement.{turn};
+ghost use Rattle.plan.specs.Plan.{boardsOf};
+ghost use Rattle.layouts.specs.Placement.{opened, turn};
 ghost use Rattle.layouts.specs.Unfold.{nothingWaits, spent, taken, done, step, openBoard};
 ghost use Rattle.layouts.specs.Demand3.{J, L};
 ghost use Rattle.unfold_waiting.specs.Meaning.{pieceOf, waitingOf, turnOf};
 ghost use Rattle.unfold_waiting.specs.Turns.{TurnTo, maxSteps};
 ghost use Rattle.unfold_step.specs.Meaning.{stateOf, stepMeans, stepSpends, countsAfter};
-ghost use Rattle.unfold_step.specs.Ready.{ModelLent, Cuttable, Ready};
+ghost use Rattle.unfold_step.specs.Ready.{ModelLent, Cuttable, ReadyOn};
 use job::counters::CutNumber;
 use job::counters::ItemPosition;
 use job::counters::PlateType;
@@ -24,7 +24,7 @@ use unfold_waiting::search::spend;
 use unfold_waiting::turn::Turn;
 use unfold_waiting::waiting::Waiting;
 
-// The pieces that wait, and where the last item was placed. The counts that are left stand beside it.
+// The pieces that wait, and where the last item was placed. The counts that are left and the size of the board stand beside it.
 pub struct State {
     pub waiting: Waiting,
     pub turn: Turn,
@@ -49,7 +49,7 @@ pub enum Step {
 impl State {
     // Before the first board.
     pub fn start() -> State
-        ensures { λ r. ⌜ ((ns : List ℕ) → stateOf r ns ≡ record { counts = ns; waiting = nothingWaits; turn = turn 0 0 0 0 }) ⌝ }
+        ensures { λ r. ⌜ ((z : ℕ) (ns : List ℕ) → stateOf z r ns ≡ record { counts = ns; waiting = nothingWaits; turn = turn (opened 0 z) 0 0 0 }) ⌝ }
     {
         State {
             waiting: Waiting::nothing(),
@@ -57,14 +57,14 @@ impl State {
         }
     }
 
-    // The next board waits.
-    pub fn open_board(self) -> State
-        requires { ⌜ TurnTo maxSteps (turnOf (self .turn)) ⌝ }
-        ensures { λ r. ⌜ ((ns : List ℕ) → stateOf r ns ≡ openBoard (stateOf self ns)) ⌝ }
+    // The next board, of size j, waits.
+    pub fn open_board(self, j: PlateType) -> State
+        requires { ⌜ TurnTo maxSteps (turnOf 0 (self .turn)) ⌝ }
+        ensures { λ r. ⌜ ((z : ℕ) (ns : List ℕ) → stateOf (j .0) r ns ≡ openBoard (j .0) (stateOf z self ns)) ⌝ }
     {
         let turn = self.turn;
         State {
-            waiting: Waiting::board(),
+            waiting: Waiting::board(j),
             turn: turn.next_board(),
         }
     }
@@ -83,12 +83,12 @@ impl State {
         p: Piece,
     ) -> Step
         requires { ⌜ ModelLent (now job) (now plates) (now cuts) (k .0) ⌝ }
-        requires { ⌜ Ready (J (now job)) (L (now job)) (stateOf self (now counts)) ⌝ }
+        requires { ⌜ ReadyOn (J (now job)) (L (now job)) self (now counts) ⌝ }
         requires { ⌜ Cuttable (J (now job)) (L (now job)) (now counts) (c .0) (pieceOf p) ⌝ }
         requires { ⌜ blade ≡ J (now job) .blade ⌝ }
-        ensures { λ r. ⌜ stepMeans r (now (counts .exit)) ≡ done (J (now (job .entry))) (L (now (job .entry))) (stateOf self (now (counts .entry))) (taken (pieceOf p) stage (waitingOf (self .waiting))) (c .0) ⌝ }
+        ensures { λ r. ⌜ ((z : ℕ) → stepMeans z r (now (counts .exit)) ≡ done (J (now (job .entry))) (L (now (job .entry))) (stateOf z self (now (counts .entry))) (taken (pieceOf p) stage (waitingOf (self .waiting))) (c .0)) ⌝ }
         ensures { λ r. ⌜ now (counts .exit) ≡ spent (now (counts .entry)) (c .0) ⌝ }
-        ensures { λ r. ⌜ boards (L (now (job .entry))) (now (counts .entry)) ≡ stepSpends r + boards (L (now (job .entry))) (now (counts .exit)) ⌝ }
+        ensures { λ r. ⌜ ((j : ℕ) → boardsOf (L (now (job .entry))) j (now (counts .entry)) ≡ stepSpends j r + boardsOf (L (now (job .entry))) j (now (counts .exit))) ⌝ }
     {
         let waiting = self.waiting;
         let turn = self.turn;
@@ -117,7 +117,7 @@ impl State {
         )
     }
 
-    // One step: of the pieces that wait the one of the highest stage is cut, or is left over.
+    // One step, on a board of whichever size: of the pieces that wait the one of the highest stage is cut, or is left over.
     pub fn step(
         self,
         job: &[u16],
@@ -128,11 +128,11 @@ impl State {
         counts: &mut [u16],
     ) -> Step
         requires { ⌜ ModelLent (now job) (now plates) (now cuts) (k .0) ⌝ }
-        requires { ⌜ Ready (J (now job)) (L (now job)) (stateOf self (now counts)) ⌝ }
+        requires { ⌜ ReadyOn (J (now job)) (L (now job)) self (now counts) ⌝ }
         requires { ⌜ blade ≡ J (now job) .blade ⌝ }
-        ensures { λ r. ⌜ stepMeans r (now (counts .exit)) ≡ step (J (now (job .entry))) (L (now (job .entry))) (stateOf self (now (counts .entry))) ⌝ }
-        ensures { λ r. ⌜ now (counts .exit) ≡ countsAfter (step (J (now (job .entry))) (L (now (job .entry))) (stateOf self (now (counts .entry)))) (now (counts .entry)) ⌝ }
-        ensures { λ r. ⌜ boards (L (now (job .entry))) (now (counts .entry)) ≡ stepSpends r + boards (L (now (job .entry))) (now (counts .exit)) ⌝ }
+        ensures { λ r. ⌜ ((z : ℕ) → stepMeans z r (now (counts .exit)) ≡ step (J (now (job .entry))) (L (now (job .entry))) (stateOf z self (now (counts .entry)))) ⌝ }
+        ensures { λ r. ⌜ ((z : ℕ) → now (counts .exit) ≡ countsAfter (step (J (now (job .entry))) (L (now (job .entry))) (stateOf z self (now (counts .entry)))) (now (counts .entry))) ⌝ }
+        ensures { λ r. ⌜ ((j : ℕ) → boardsOf (L (now (job .entry))) j (now (counts .entry)) ≡ stepSpends j r + boardsOf (L (now (job .entry))) j (now (counts .exit))) ⌝ }
     {
         let waiting = self.waiting;
         let turn = self.turn;

@@ -10,6 +10,7 @@ use Rattle.unfold_pick.specs.declared.Piece.{Piece as CodePiece}
 use Rattle.unfold_pick.specs.declared.Next.{Next}
 use Rattle.unfold_pick.specs.declared.Next.the-variants.{Of, Nothing}
 use Rattle.unfold_pick.specs.Next.{firstOf, nextOf}
+use Rattle.job.specs.Job.{Job}
 use Rattle.listing.specs.declared.plate.Plate.{Plate}
 use Rattle.listing.specs.Listing.{Listing, plateAt}
 use Rattle.listing.specs.Records.{plateWords}
@@ -88,6 +89,6 @@ module _ (l : Listing) (j x y : ℕ) (w : Waiting) where
     wait-third e f = wait-kept ∙ rw (ne-eqb _ _ e, ne-eqb _ _ f, waitAt)
 
 -- the stage of a plate type is that of its words
-pub held-stage : {buffer : List ℕ} (l : Listing) (j : ℕ) {r : Plate} → Holds buffer (plateWords (l .plates)) → r ≡ plateRead buffer j → plateAt l j .stage ≡ r .stage
+pub held-stage : {buffer : List ℕ} (job : Job) (l : Listing) (j : ℕ) {r : Plate} → Holds buffer (plateWords job (l .plates)) → r ≡ plateRead buffer j → plateAt l j .stage ≡ r .stage
 unfolding plateAt
-held-stage l j h e = sym (ap (λ (p : Plate). p .stage) (e ∙ held-plate (l .plates) h j))
+held-stage job l j h e = sym (ap (λ (p : Plate). p .stage) (e ∙ held-plate job (l .plates) h j))

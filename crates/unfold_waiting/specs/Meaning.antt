@@ -2,7 +2,7 @@
 use Prim.Native.Nat.{ℕ}
 use mathlib.Core.Bool.{cond}
 use mathlib.Core.Option.{Option, none, some}
-use Rattle.layouts.specs.Placement.{Turn, turn}
+use Rattle.layouts.specs.Placement.{opened, Turn, turn}
 use Rattle.layouts.specs.Unfold.{Piece, Waiting, waiting}
 use Rattle.unfold_pick.specs.declared.Piece.{Piece as CodePiece}
 use Rattle.unfold_waiting.specs.declared.search.Found.{Found}
@@ -21,9 +21,9 @@ slotOf p = cond (p .here) (some (pieceOf p)) none
 abbrev pub waitingOf : CodeWaiting → Waiting
 waitingOf w = waiting (slotOf (w .first)) (slotOf (w .second)) (slotOf (w .third))
 
--- where the last item was placed
-abbrev pub turnOf : CodeTurn → Turn
-turnOf t = turn (t .board) (t .strip) (t .stack) (t .place)
+-- where the last item was placed, on a board of size z (request Six)
+abbrev pub turnOf : ℕ → CodeTurn → Turn
+turnOf z t = turn (opened (t .board) z) (t .strip) (t .stack) (t .place)
 
 -- the answer of the search
 abbrev pub foundMeans : Found → Option ℕ

@@ -7,9 +7,9 @@ use Rattle.layouts.specs.Placement.{Turn}
 abbrev pub maxSteps : ℕ
 maxSteps = 4 * maxPieces
 
--- board, strip, stack and place are at most n
+-- the numbers of board, strip, stack and place are at most n
 pub record TurnTo (n : ℕ) (t : Turn) : Type 0 where
-  pub board-to : t .board ≤ n
+  pub board-to : t .board .number ≤ n
   pub strip-to : t .strip ≤ n
   pub stack-to : t .stack ≤ n
   pub place-to : t .place ≤ n

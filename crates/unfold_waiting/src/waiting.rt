@@ -2,6 +2,7 @@
 ghost use mathlib.Core.Path.{_≡_};
 ghost use mathlib.Core.Option.{none, some};
 ghost use Rattle.job.specs.Sizes.{wordsOfPlate, RecordIn};
+ghost use Rattle.job.specs.Job.{Job};
 ghost use Rattle.listing.specs.Listing.{Listing};
 ghost use Rattle.listing.specs.Records.{plateWords};
 ghost use Rattle.listing.specs.Holds.{Holds};
@@ -44,14 +45,14 @@ impl Waiting {
         }
     }
 
-    // A board waits, a piece of type 0.
-    pub fn board() -> Waiting
-        ensures { λ r. ⌜ waitingOf r ≡ waiting (some (record { plate = 0; x = 0; y = 0 })) none none ⌝ }
+    // A board waits, a piece of the plate type of its size.
+    pub fn board(size: PlateType) -> Waiting
+        ensures { λ r. ⌜ waitingOf r ≡ waiting (some (record { plate = size .0; x = 0; y = 0 })) none none ⌝ }
     {
         Waiting {
             first: Piece {
                 here: true,
-                plate: PlateType(0),
+                plate: size,
                 x: 0,
                 y: 0,
             },
@@ -74,10 +75,10 @@ impl Waiting {
         w
     }
 
-    // A kept residual of type j waits at (x, y), in the place of its stage; type 0 is waste.
+    // A kept residual of type j waits at (x, y), in the place of its stage; the number 0, which no residual type has, is waste.
     pub fn wait(self, plates: &[u16], j: PlateType, x: u16, y: u16) -> Waiting
         requires { ⌜ RecordIn wordsOfPlate (j .0) (now plates) ⌝ }
-        ensures { λ r. ⌜ ((l : Listing) → Holds (now (plates .entry)) (plateWords (l .plates)) → waitingOf r ≡ wait l (j .0) x y (waitingOf self)) ⌝ }
+        ensures { λ r. ⌜ ((job : Job) (l : Listing) → Holds (now (plates .entry)) (plateWords job (l .plates)) → waitingOf r ≡ wait l (j .0) x y (waitingOf self)) ⌝ }
     {
         if j.0 == 0 {
             return self;

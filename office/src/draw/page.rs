@@ -1,7 +1,8 @@
-//! All boards on one HTML page, with tables of the item types and of the usable offcuts before them.
+//! All boards on one HTML page, with tables of the board sizes, of the item types and of the usable
+//! offcuts before them.
 
 use super::svg::{board_file, colour, Board, Drawing, STYLE};
-use crate::answer::{Answer, Placement};
+use crate::answer::{self, Answer};
 use crate::columns::thousands;
 use crate::job::Job;
 use crate::remains::{Offcut, Remains};
@@ -32,13 +33,15 @@ pub fn page(job: &Job, answer: &Answer, remains: &Remains) -> Vec<(String, Strin
         "<svg class=\"board\" width=\"0\" height=\"0\" style=\"position: absolute\">{STYLE}</svg>"
     );
     summary(&mut page, job, answer, remains);
-    let [width, height] = drawing.size();
     let boards = titles.iter().zip(&answer.boards).zip(&remains.boards);
-    for (number, ((title, placements), rest)) in (1..).zip(boards) {
+    for (number, ((title, opened), rest)) in (1..).zip(boards) {
         let shares = shares(&rest.areas);
+        let size = job.sizes[opened.size];
+        let [width, height] = drawing.sides(size);
         let board = Board {
+            size,
             title: [title, &shares],
-            placements,
+            placements: &opened.placements,
             offcuts: &rest.offcuts,
             swath: &rest.swath,
         };
@@ -53,22 +56,25 @@ pub fn page(job: &Job, answer: &Answer, remains: &Remains) -> Vec<(String, Strin
     files
 }
 
-/// The title of each board: its pieces, the blade, and the first board that is laid out alike.
+/// The title of each board: its size, its pieces, the blade, and the first board that is of the same size
+/// and laid out alike.
 fn titles(job: &Job, answer: &Answer) -> Vec<String> {
     let boards = answer.boards.len();
-    let mut first: HashMap<&[Placement], usize> = HashMap::new();
+    let mut first: HashMap<&answer::Board, usize> = HashMap::new();
     let mut titles = Vec::new();
     let blade = job.blade;
-    for (number, placements) in (1..).zip(&answer.boards) {
-        let alike = *first.entry(placements).or_insert(number);
+    for (number, board) in (1..).zip(&answer.boards) {
+        let alike = *first.entry(board).or_insert(number);
         let alike = if alike < number {
             format!("; as board {alike}")
         } else {
             String::new()
         };
-        let pieces = counted(placements.len(), "piece");
+        let pieces = counted(board.placements.len(), "piece");
+        let size = board.size;
+        let sides = job.sizes[size].words();
         titles.push(format!(
-            "Board {number} of {boards}: {pieces}; blade {blade} mm{alike}"
+            "Board {number} of {boards}: size {size} ({sides}), {pieces}; blade {blade} mm{alike}"
         ));
     }
     titles
@@ -97,14 +103,13 @@ fn counted(number: usize, thing: &str) -> String {
     format!("{} {thing}{plural}", thousands(number))
 }
 
-/// Boards, pieces, areas and bound, and the tables of item types and of usable offcuts.
+/// Boards, cost, pieces, areas and bound, and the tables of sizes, of item types and of usable offcuts.
 fn summary(page: &mut String, job: &Job, answer: &Answer, remains: &Remains) {
     let boards = counted(answer.boards.len(), "board");
     let _ = writeln!(
         page,
-        "<h1>{boards} of {} by {} mm, mode {}, blade {} mm</h1>",
-        job.width,
-        job.height,
+        "<h1>{boards}, cost {}, mode {}, blade {} mm</h1>",
+        thousands(answer.cost),
         job.mode(),
         job.blade
     );
@@ -115,15 +120,48 @@ fn summary(page: &mut String, job: &Job, answer: &Answer, remains: &Remains) {
         shares(&remains.areas())
     );
     page.push_str(
-        "Red lines are the edges of strips, dashed ones those of stacks; \
+        "All boards are drawn to one scale. Red lines are the edges of strips, dashed ones those of stacks; \
          the number beside a strip is its height. A dark corner marks a turned item. \
          Offcuts are shaded, usable ones darker and with their sides; waste is hatched. \
          Brown bands, to scale, are the swath of the blade: what it takes between pieces, a loss \
          beside the waste.</p>\n",
     );
     let _ = writeln!(page, "<p>{}</p>", bound(answer));
+    sizes(page, job, answer, remains);
     table(page, job, answer);
     offcuts(page, remains);
+}
+
+/// The table of board sizes: how many boards of each are opened, what they cost, and their yield.
+fn sizes(page: &mut String, job: &Job, answer: &Answer, remains: &Remains) {
+    let head = [
+        "size",
+        "width",
+        "height",
+        "cost",
+        "boards",
+        "cost together",
+        "yield",
+    ];
+    let head = head.map(|name| format!("<th>{name}</th>")).concat();
+    let _ = writeln!(page, "<table><tr>{head}</tr>");
+    for (number, size) in job.sizes.iter().enumerate() {
+        let boards = answer.boards_of(number);
+        let together = boards * size.cost;
+        let numbers = [number, size.width, size.height, size.cost, boards, together];
+        let cells = numbers.map(|number| format!("<td>{number}</td>")).concat();
+        let of_size = answer.boards.iter().zip(&remains.boards);
+        let of_size = of_size.filter(|(board, _)| board.size == number);
+        let areas: Vec<&Balance> = of_size.map(|(_, rest)| &rest.areas).collect();
+        let items: u64 = areas.iter().map(|areas| areas.items).sum();
+        let whole: u64 = areas.iter().map(|areas| areas.whole()).sum();
+        let share = match whole {
+            0 => "-".to_string(),
+            _ => percent(items, whole),
+        };
+        let _ = writeln!(page, "<tr>{cells}<td>{share}</td></tr>");
+    }
+    page.push_str("</table>\n");
 }
 
 /// The table of item types.
@@ -176,17 +214,17 @@ fn offcuts(page: &mut String, remains: &Remains) {
     page.push_str("</table>\n");
 }
 
-/// What the prices say of the number of boards.
+/// What the prices say of the cost.
 fn bound(answer: &Answer) -> String {
     let [sum, denominator] = [answer.sum, answer.denominator];
-    match (sum, answer.fewest) {
-        (0, _) => "No prices were sent, so nothing is said of the fewest boards possible.".into(),
+    match (sum, answer.cheapest) {
+        (0, _) => "No prices were sent, so nothing is said of the cheapest plan.".into(),
         (_, true) => {
-            format!("No plan needs fewer boards: the prices show a bound of {sum}/{denominator}.")
+            format!("No plan is cheaper: the prices show a bound of {sum}/{denominator}.")
         }
         (_, false) => format!(
-            "The prices show that at least {} are needed ({sum}/{denominator}).",
-            counted(sum.div_ceil(denominator), "board")
+            "The prices show that every plan costs at least {} ({sum}/{denominator}).",
+            thousands(sum.div_ceil(denominator))
         ),
     }
 }

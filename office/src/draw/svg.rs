@@ -6,14 +6,15 @@
 
 use super::label::{self, Area};
 use crate::answer::Placement;
-use crate::job::Job;
+use crate::job::{Job, Size};
 use crate::remains::{Band, Offcut};
 use std::collections::BTreeMap;
 use std::fmt::Write;
 
 /// The most room that a board takes in the picture, across and upwards.
 const ROOM: [f64; 2] = [900.0, 600.0];
-/// The least length of a board's side in the picture; a very flat board is stretched to it.
+/// The least length in the picture of the greatest width and of the greatest height among the sizes, to
+/// which very flat boards are stretched; a smaller size is drawn to the same scale, and may be shorter.
 const LEAST: f64 = 90.0;
 /// Room around the board: left for its height, above for the title, right for the strips' heights,
 /// below for its width.
@@ -48,9 +49,10 @@ pub const STYLE: &str = "<style>
 </pattern></defs>
 ";
 
-/// What is drawn of a board: its title and the line below it, its items, its offcuts and the bands of
+/// What is drawn of a board: its size, its title and the line below it, its items, its offcuts and the bands of
 /// its swath.
 pub struct Board<'a> {
+    pub size: Size,
     pub title: [&'a str; 2],
     pub placements: &'a [Placement],
     pub offcuts: &'a [Offcut],
@@ -64,16 +66,25 @@ struct Span {
     y: [usize; 2],
 }
 
-/// The pictures of a job's boards, all to one scale.
+/// The pictures of a job's boards, of all sizes to one scale.
 pub struct Drawing<'a> {
     job: &'a Job,
     scale: [f64; 2],
 }
 
+/// The picture of a board of one size.
+struct Picture<'a> {
+    job: &'a Job,
+    scale: [f64; 2],
+    size: Size,
+}
+
 impl<'a> Drawing<'a> {
-    /// The scale at which the board fills its room.
+    /// The scale at which the widest and the highest size just fill the room.
     pub fn of(job: &'a Job) -> Drawing<'a> {
-        let [width, height] = [job.width as f64, job.height as f64];
+        let longest = |side: fn(&Size) -> usize| job.sizes.iter().map(side).max().unwrap_or(1);
+        let [width, height] = [longest(|size| size.width), longest(|size| size.height)];
+        let [width, height] = [width as f64, height as f64];
         let scale = (ROOM[0] / width).min(ROOM[1] / height);
         Drawing {
             job,
@@ -81,17 +92,38 @@ impl<'a> Drawing<'a> {
         }
     }
 
+    /// The picture of a board of a size.
+    fn picture(&self, size: Size) -> Picture<'a> {
+        Picture {
+            job: self.job,
+            scale: self.scale,
+            size,
+        }
+    }
+
     /// The picture of a board under its title; `head` is the style, or nothing where the page has it.
     pub fn board(&self, board: &Board, head: &str) -> String {
-        let [width, height] = self.size();
+        self.picture(board.size).board(board, head)
+    }
+
+    /// The width and height of the picture of a board of a size.
+    pub fn sides(&self, size: Size) -> [f64; 2] {
+        self.picture(size).sides_of_picture()
+    }
+}
+
+impl Picture<'_> {
+    /// The whole picture.
+    fn board(&self, board: &Board, head: &str) -> String {
+        let [width, height] = self.sides_of_picture();
         let mut out = format!(
             "<svg class=\"board\" xmlns=\"http://www.w3.org/2000/svg\" \
              width=\"{width:.0}\" height=\"{height:.0}\" \
              viewBox=\"0 0 {width:.1} {height:.1}\">\n{head}"
         );
         let whole = Span {
-            x: [0, self.job.width],
-            y: [0, self.job.height],
+            x: [0, self.size.width],
+            y: [0, self.size.height],
         };
         out.push_str(&self.rectangle(whole, "class=\"waste\"", ""));
         for offcut in board.offcuts {
@@ -109,11 +141,11 @@ impl<'a> Drawing<'a> {
         out
     }
 
-    /// The size of the picture.
-    pub fn size(&self) -> [f64; 2] {
+    /// The width and height of the picture.
+    fn sides_of_picture(&self) -> [f64; 2] {
         let [width, height] = [
-            self.job.width as f64 * self.scale[0],
-            self.job.height as f64 * self.scale[1],
+            self.size.width as f64 * self.scale[0],
+            self.size.height as f64 * self.scale[1],
         ];
         [LEFT + width.max(TITLE) + RIGHT, ABOVE + height + BELOW]
     }
@@ -123,7 +155,7 @@ impl<'a> Drawing<'a> {
         let length = |[from, to]: [usize; 2], scale: f64| (to - from) as f64 * scale;
         Area {
             x: LEFT + span.x[0] as f64 * self.scale[0],
-            y: ABOVE + (self.job.height - span.y[1]) as f64 * self.scale[1],
+            y: ABOVE + (self.size.height - span.y[1]) as f64 * self.scale[1],
             width: length(span.x, self.scale[0]),
             height: length(span.y, self.scale[1]),
         }
@@ -237,7 +269,7 @@ impl<'a> Drawing<'a> {
             self.joined(placements, |placement| (placement.strip, placement.stack))
         {
             let y = strips[&(strip, 0)].y;
-            if span.x[1] < self.job.width {
+            if span.x[1] < self.size.width {
                 out.push_str(&self.line(
                     "stack",
                     Span {
@@ -248,17 +280,17 @@ impl<'a> Drawing<'a> {
             }
         }
         for strip in strips.values() {
-            if strip.y[1] < self.job.height {
+            if strip.y[1] < self.size.height {
                 out.push_str(&self.line(
                     "strip",
                     Span {
-                        x: [0, self.job.width],
+                        x: [0, self.size.width],
                         y: [strip.y[1]; 2],
                     },
                 ));
             }
             let beside = self.area(Span {
-                x: [self.job.width; 2],
+                x: [self.size.width; 2],
                 y: strip.y,
             });
             let area = Area {
@@ -300,8 +332,8 @@ impl<'a> Drawing<'a> {
     /// The title above the board and the line below that, its width below it and its height left of it.
     fn sides(&self, out: &mut String, [title, below_it]: [&str; 2]) {
         let board = self.area(Span {
-            x: [0, self.job.width],
-            y: [0, self.job.height],
+            x: [0, self.size.width],
+            y: [0, self.size.height],
         });
         let _ = writeln!(
             out,
@@ -316,13 +348,13 @@ impl<'a> Drawing<'a> {
             width: board.width.max(60.0),
             ..board
         };
-        label::write(out, below, &[format!("{} mm", self.job.width)]);
+        label::write(out, below, &[format!("{} mm", self.size.width)]);
         let left = Area {
             x: LEFT - UPRIGHT,
             width: UPRIGHT,
             ..board
         };
-        label::write(out, left, &[format!("{} mm", self.job.height)]);
+        label::write(out, left, &[format!("{} mm", self.size.height)]);
     }
 }
 

@@ -3,11 +3,11 @@
 use super::*;
 use crate::answer::Answer;
 use crate::columns::line;
-use crate::job::tests::{job, job_a, job_with_blade, job_with_leave};
+use crate::job::tests::{job, job_a, job_with_blade, job_with_leave, two_sizes};
 use crate::job::Job;
 use crate::remains::{Remains, LEAST};
 
-const OUTPUT: &str = "7 1 1 1 1 1 0 0 0\n7 1 1 2 1 2 5 0 0\n7 1 2 1 1 2 0 4 0\n7 1 2 2 1 2 3 4 0\n7 2 1 1 1 1 0 0 0\n8 2 2 1 1\n";
+const OUTPUT: &str = "7 1 0 1 1 1 1 0 0 0\n7 1 0 1 2 1 2 5 0 0\n7 1 0 2 1 1 2 0 4 0\n7 1 0 2 2 1 2 3 4 0\n7 2 0 1 1 1 1 0 0 0\n8 2 2 1 1\n";
 
 /// The files of a drawing, with two lengths.
 fn drawn(job: &Job, output: &str, lengths: [usize; 2]) -> Vec<(String, String)> {
@@ -26,7 +26,7 @@ fn job_a_is_drawn() {
     assert_eq!(board.matches("class=\"strip\"").count(), 1);
     assert_eq!(board.matches("class=\"stack\"").count(), 4);
     assert!(board.contains("type 1, 5 × 4, at x 0, y 0"));
-    assert!(board.contains(">Board 1 of 2: 4 pieces; blade 0 mm</text>"));
+    assert!(board.contains(">Board 1 of 2: size 0 (9 by 7), 4 pieces; blade 0 mm</text>"));
     let shares = ">yield 74.6 %, offcuts 14.3 %, waste 11.1 %, swath 0.0 %</text>";
     assert!(board.contains(shares));
     assert!(!board.contains("class=\"swath\""));
@@ -35,16 +35,16 @@ fn job_a_is_drawn() {
     let page = &files[2].1;
     assert_eq!(page.matches("<figure").count(), 2);
     assert_eq!(page.matches("id=\"hatching\"").count(), 1);
-    assert!(page.contains("No plan needs fewer boards"));
+    assert!(page.contains("No plan is cheaper"));
     let shares = "yield 53.2 %, offcuts 41.3 %, waste 5.6 %, swath 0.0 %.";
     assert!(page.contains(&format!("of the boards' area: {shares}")));
-    assert!(page.contains("<h1>2 boards of 9 by 7 mm, mode 2N, blade 0 mm</h1>"));
+    assert!(page.contains("<h1>2 boards, cost 2, mode 2N, blade 0 mm</h1>"));
 }
 
 #[test]
 fn the_swath_is_drawn_to_scale_and_the_blade_named() {
     let job = job_with_blade("2N", [20, 10], 2, &[[8, 9, 1], [8, 6, 1]]);
-    let output = "7 1 1 1 1 1 0 0 0\n7 1 1 2 1 2 10 0 0\n8 1 0 1 0\n";
+    let output = "7 1 0 1 1 1 1 0 0 0\n7 1 0 1 2 1 2 10 0 0\n8 1 0 1 0\n";
     let files = drawn(&job, output, LEAST);
     let [board, page] = [0, 1].map(|file: usize| &files[file].1);
     // 45 to a millimetre: the board is 900 wide and 450 high, and begins at 30 and 48.
@@ -59,11 +59,30 @@ fn the_swath_is_drawn_to_scale_and_the_blade_named() {
     assert_eq!(board.matches(">blade 2</tspan>").count(), 3);
     let title = "<title>swath of the blade of 2, 2 × 9, at x 8, y 0</title>";
     assert!(board.contains(title));
-    assert!(board.contains(">Board 1 of 1: 2 pieces; blade 2 mm</text>"));
+    assert!(board.contains(">Board 1 of 1: size 0 (20 by 10), 2 pieces; blade 2 mm</text>"));
     let shares = "yield 60.0 %, offcuts 0.0 %, waste 15.0 %, swath 25.0 %";
     assert!(board.contains(shares) && page.contains(&format!("area: {shares}.")));
     assert!(page.contains("mode 2N, blade 2 mm</h1>"));
     assert!(page.contains("Brown bands, to scale, are the swath of the blade"));
+}
+
+#[test]
+fn boards_of_two_sizes_are_drawn_to_one_scale() {
+    let output = "7 1 0 1 1 1 1 0 0 0\n7 1 0 1 2 1 2 5 0 0\n7 2 0 1 1 1 1 0 0 0\n\
+                  7 2 0 1 2 1 2 5 0 0\n7 3 1 1 1 1 2 0 0 0\n8 7 0 1 0\n";
+    let files = drawn(&two_sizes(), output, LEAST);
+    let [first, third, page] = [0, 2, 3].map(|file: usize| &files[file].1);
+    // 600 over 7 to a millimetre: both are 9 wide, the one 7 high and the other 3.
+    assert!(first.contains("width=\"771.4\" height=\"600.0\" class=\"waste\""));
+    assert!(third.contains("width=\"771.4\" height=\"257.1\" class=\"waste\""));
+    assert!(first.contains(">Board 1 of 3: size 0 (9 by 7), 2 pieces; blade 0 mm</text>"));
+    assert!(third.contains(">Board 3 of 3: size 1 (9 by 3), 1 piece; blade 0 mm</text>"));
+    assert!(page.contains("<h1>3 boards, cost 7, mode 2N, blade 0 mm</h1>"));
+    assert!(page.contains("<th>cost</th><th>boards</th><th>cost together</th><th>yield</th>"));
+    let row = |cells: [&str; 7]| cells.map(|cell| format!("<td>{cell}</td>")).concat();
+    assert!(page.contains(&row(["0", "9", "7", "3", "2", "6", "46.0 %"])));
+    assert!(page.contains(&row(["1", "9", "3", "1", "1", "1", "33.3 %"])));
+    assert!(page.contains("No prices were sent, so nothing is said of the cheapest plan."));
 }
 
 #[test]
@@ -90,13 +109,13 @@ fn offcuts_are_shaded_and_the_usable_ones_named() {
     assert!(nine.unwrap() < four.unwrap());
     assert!(!page.contains(&row(["3", "3", "1"])));
     let none = &drawn(&job_a(), OUTPUT, [10, 10])[2].1;
-    assert_eq!((marks(none), none.matches("<table>").count()), ([3, 0], 1));
+    assert_eq!((marks(none), none.matches("<table>").count()), ([3, 0], 2));
 }
 
 #[test]
 fn turned_items_are_marked_and_drawn_as_they_lie() {
     let job = job_with_leave("2N", [5, 5], &[[3, 5, 1, 1], [2, 2, 1, 1]]);
-    let output = "7 1 1 1 1 1 0 0 1\n7 1 2 1 1 2 0 3 0\n8 1 0 1 0\n";
+    let output = "7 1 0 1 1 1 1 0 0 1\n7 1 0 2 1 1 2 0 3 0\n8 1 0 1 0\n";
     let files = drawn(&job, output, LEAST);
     let board = &files[0].1;
     assert_eq!(board.matches("class=\"item\"").count(), 2);
@@ -139,6 +158,7 @@ fn four_thousand(board: [usize; 2]) -> Vec<(String, String)> {
         output += &line(&[
             7,
             number + 1,
+            0,
             strip + 1,
             stack + 1,
             1,
@@ -166,7 +186,7 @@ fn four_thousand_pieces_make_a_page_of_a_few_megabytes() {
 #[test]
 fn eight_thousand_offcuts_are_drawn() {
     let job = job("2N", [2, 2], &[[1, 1, 4000]]);
-    let boards = (1..=4000).map(|board| line(&[7, board, 1, 1, 1, 1, 0, 0, 0]));
+    let boards = (1..=4000).map(|board| line(&[7, board, 0, 1, 1, 1, 1, 0, 0, 0]));
     let output: String = boards.chain([line(&[8, 4000, 0, 1, 0])]).collect();
     let files = drawn(&job, &output, [2, 1]);
     let page = &files[4000].1;

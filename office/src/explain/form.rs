@@ -5,9 +5,9 @@ use super::Told;
 use crate::columns::{group, thousands, COLUMNS};
 
 /// The numbers of a line of this kind, the kind first.
-const KINDS: [&[&str]; 8] = [
+const KINDS: [&[&str]; 11] = [
     &[],
-    &["1", "stages", "exact", "W", "H", "n", "b"],
+    &["1", "stages", "exact", "t", "n", "b"],
     &["2", "type", "width", "height", "demand", "leave"],
     &[
         "3", "plate", "item", "count", "width", "height", "stage", "turn",
@@ -16,18 +16,23 @@ const KINDS: [&[&str]; 8] = [
     &["5", "type", "price"],
     &["6", "plate type", "price"],
     &[
-        "7", "board", "strip", "stack", "place", "type", "x", "y", "turn",
+        "7", "board", "size", "strip", "stack", "place", "type", "x", "y", "turn",
     ],
+    &[],
+    &[],
+    &["10", "size", "W", "H", "cost"],
 ];
 
-/// The limits of a number by its name; n is the job's number of item types. The plate's width, height
-/// and stage on line 3 have none.
-fn limits(kind: usize, name: &str, types: usize) -> Option<[usize; 2]> {
+/// The limits of a number by its name, for a job of so many sizes and item types. The plate's width,
+/// height and stage on line 3 have none.
+fn limits(kind: usize, name: &str, [sizes, types]: [usize; 2]) -> Option<[usize; 2]> {
     Some(match name {
         "stages" => [2, 3],
         "exact" | "leave" | "turn" => [0, 1],
         "width" | "height" | "stage" if kind == 3 => return None,
         "W" | "H" | "width" | "height" => [1, 10_000],
+        "t" => [1, 6],
+        "cost" => [1, 999],
         "n" => [1, 40],
         "b" => [0, 20],
         "demand" | "count" | "board" | "strip" | "stack" | "place" => [1, 4_000],
@@ -37,6 +42,7 @@ fn limits(kind: usize, name: &str, types: usize) -> Option<[usize; 2]> {
         "x" | "y" => [0, 10_000],
         "item" => [1, types],
         "type" if kind == 7 => [1, types],
+        "size" if kind == 7 => [0, sizes.saturating_sub(1)],
         _ => return None,
     })
 }
@@ -148,7 +154,7 @@ pub fn value(sent: &Sent, line: usize) -> Option<Told> {
     let numbers = sent.numbers(line)?;
     let kind = *numbers.first()?;
     for (&name, &number) in KINDS.get(kind)?.iter().zip(&numbers).skip(1) {
-        let Some([least, most]) = limits(kind, name, sent.types()) else {
+        let Some([least, most]) = limits(kind, name, [sent.sizes(), sent.types()]) else {
             continue;
         };
         if !(least..=most).contains(&number) {

@@ -16,16 +16,18 @@ pub fn larger(sent: &Sent, item_type: usize) -> Option<Told> {
             false => "it has no leave to be turned",
         };
         let fault = format!(
-            "the item is {} by {}, the board {} by {}; {turned}",
-            item.width, item.height, job.width, job.height
+            "the item is {} by {} and fits no size ({}); {turned}",
+            item.width,
+            item.height,
+            job.sizes_words()
         );
         let leave = match item.leave {
             true => "",
             false => " (leave 1 if the item may be turned)",
         };
         let cure = format!(
-            "Correct line {}{leave}, or take a larger board",
-            item_type + 1
+            "Correct line {}{leave}, or add a larger board size",
+            job.line_of(item_type)
         );
         Told::new(format!("item type {item_type}"), fault, cure)
     })
@@ -45,8 +47,9 @@ pub fn demands(sent: &Sent) -> Option<Told> {
 
 /// Refusal 2, place 0, which no text meets: it is given for what the controller passes besides.
 pub fn passed() -> Told {
-    let fault = "one of the two lengths from which an offcut is usable, \
-                 or the board or the blade as the controller passed it, is outside its limits";
+    let fault = "one of the two lengths from which an offcut is usable is outside its limits, or, as the \
+                 controller passed them, stages, exact, the number of sizes or of item types, the blade, or \
+                 a size's sides or cost";
     let cure = "No text causes this: set both lengths from 1 to 10,000; \
                 if it stays, tell the controller's engineers";
     Told::new("place 0", fault, cure)
@@ -82,7 +85,7 @@ pub fn model(sent: &Sent, number: usize) -> Option<Told> {
         };
         let fault = format!("the job has more than {most}");
         let cure = "Take fewer item types in one job, or a two-stage or exact mode; \
-                    small items on a large board cost most";
+                    small items on large boards take most, and each size adds its own";
         Told::new("the whole job", fault, cure)
     })
 }

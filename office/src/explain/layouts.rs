@@ -3,12 +3,13 @@
 
 use super::sent::Sent;
 use super::Told;
-use crate::job::Job;
+use crate::job::{Job, Size};
 
 /// A line of kind 7.
 #[derive(Debug, Clone, Copy)]
 pub struct Row {
     pub line: usize,
+    pub size: usize,
     pub turn: [usize; 4],
     pub item: usize,
     pub turned: bool,
@@ -30,8 +31,9 @@ impl Row {
 /// The lines of kind 7.
 pub fn rows(sent: &Sent) -> Vec<Row> {
     let row = |line| match sent.numbers(line)?[..] {
-        [7, board, strip, stack, place, item, x, y, turn] => Some(Row {
+        [7, board, size, strip, stack, place, item, x, y, turn] => Some(Row {
             line,
+            size,
             turn: [board, strip, stack, place],
             item,
             turned: turn == 1,
@@ -111,14 +113,11 @@ fn below(rows: &[Row], job: &Job, board: usize, strip: usize) -> usize {
     before(job, lower)
 }
 
-/// Refusal 15.
+/// Refusal 15: the turn first, since the size is that of the line's board only where the line is in turn.
 pub fn not_next(sent: &Sent, line: usize) -> Option<Told> {
-    let (rows, _, row) = at(sent, line)?;
-    let before = rows
-        .iter()
-        .find(|before| before.line + 1 == line)
-        .map(|before| before.turn);
-    let next = match before {
+    let (rows, job, row) = at(sent, line)?;
+    let before = rows.iter().find(|before| before.line + 1 == line);
+    let next = match before.map(|before| before.turn) {
         None => vec![[1, 1, 1, 1]],
         Some([b, s, k, p]) => vec![
             [b, s, k, p + 1],
@@ -127,16 +126,43 @@ pub fn not_next(sent: &Sent, line: usize) -> Option<Told> {
             [b + 1, 1, 1, 1],
         ],
     };
-    (!next.contains(&row.turn)).then(|| {
-        let shown = |turn: &[usize; 4]| turn.map(|number| number.to_string()).join(" ");
+    if next.contains(&row.turn) {
+        return other_size(&rows, &job, &row);
+    }
+    let shown = |turn: &[usize; 4]| turn.map(|number| number.to_string()).join(" ");
+    let fault = format!(
+        "board, strip, stack, place are {}, not the next in turn",
+        shown(&row.turn)
+    );
+    let all: Vec<String> = next.iter().map(shown).collect();
+    let size = before.filter(|before| before.size != row.size);
+    let size = size.map_or(String::new(), |before| {
+        format!("; board {} has size {}", before.turn[0], before.size)
+    });
+    let cure = format!(
+        "Number them from 1 without gaps: there {} can stand{size}",
+        all.join(", or ")
+    );
+    Some(Told::new(format!("line {line}"), fault, cure))
+}
+
+/// Refusal 15 for the size: another one than that of the board's first line.
+fn other_size(rows: &[Row], job: &Job, row: &Row) -> Option<Told> {
+    let first = rows.iter().find(|first| first.turn[0] == row.turn[0])?;
+    (first.size != row.size).then(|| {
+        let sides = |size: usize| job.sizes.get(size).map_or(String::new(), Size::words);
+        let [board, line] = [row.turn[0], row.line];
         let fault = format!(
-            "board, strip, stack, place are {}, not the next in turn",
-            shown(&row.turn)
+            "it names size {} ({}), but board {board} has size {} ({}), from its first line, {}",
+            row.size,
+            sides(row.size),
+            first.size,
+            sides(first.size),
+            first.line
         );
-        let all: Vec<String> = next.iter().map(shown).collect();
         let cure = format!(
-            "Number them from 1 without gaps: there {} can stand",
-            all.join(", or ")
+            "Write size {} there, or number the boards so that each has one size",
+            first.size
         );
         Told::new(format!("line {line}"), fault, cure)
     })
@@ -188,16 +214,21 @@ pub fn past_board(sent: &Sent, line: usize) -> Option<Told> {
     let strip = Strip::of(&rows, board, number);
     let across = together(&job, strip.widths(&job).into_iter());
     let upwards = below(&rows, &job, board, number) + strip.height(&job);
-    let fault = match (across > job.width, upwards > job.height) {
+    let size = *job.sizes.get(row.size)?;
+    let fault = match (across > size.width, upwards > size.height) {
         (true, _) => format!(
             "its stacks are {across} wide together{}, the board {}",
             with_blade(&job),
-            job.width
+            size.width
         ),
-        (false, true) => format!("it reaches up to {upwards}, the board to {}", job.height),
+        (false, true) => format!("it reaches up to {upwards}, the board to {}", size.height),
         _ => return None,
     };
-    let cure = format!("Move items from strip {number} of board {board} to another strip or board");
+    let cure = format!(
+        "Move items from strip {number} of board {board}, which is of size {}, to another strip or \
+         board",
+        row.size
+    );
     Some(Told::new(format!("strip from line {line}"), fault, cure))
 }
 

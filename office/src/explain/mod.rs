@@ -66,4 +66,6 @@ pub fn explain(text: &[u8], number: usize, place: usize) -> Result<String, Strin
 }
 
 #[cfg(test)]
+mod sizes_tests;
+#[cfg(test)]
 mod tests;

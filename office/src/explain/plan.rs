@@ -39,7 +39,7 @@ fn why_no_cut(
     let Some(there) = listing.plates.get(plate) else {
         return format!(
             "there is no plate type {plate}; this job's run from 0 to {}",
-            listing.residual_types()
+            listing.plates.len() - 1
         );
     };
     let [width, height] = job.sides(item_type, turned);
@@ -62,13 +62,13 @@ pub fn turned(sent: &Sent, line: usize) -> Option<Told> {
     let job = sent.job()?;
     let (item_type, turn) = match sent.numbers(line)?[..] {
         [3, _, item, _, _, _, _, turn] => (item, turn),
-        [7, _, _, _, _, item, _, _, turn] => (item, turn),
+        [7, _, _, _, _, _, item, _, _, turn] => (item, turn),
         _ => return None,
     };
     let item = *job.items.get(item_type.checked_sub(1)?)?;
     (turn == 1 && !item.turns()).then(|| {
         let [width, height] = item.sides(false);
-        let of_type = item_type + 1;
+        let of_type = job.line_of(item_type);
         let (why, cure) = match width == height {
             true => (
                 "is square and has no turned cut".to_string(),
@@ -96,8 +96,7 @@ pub fn other_plate(sent: &Sent, line: usize) -> Option<Told> {
         "in the model plate type {plate} is {}; the line shows {other}",
         there.words()
     );
-    let is_shown = |plate: &Plate| [plate.width, plate.height, plate.stage] == shown;
-    let cure = match listing.plates.iter().position(is_shown) {
+    let cure = match meant(&listing, shown) {
         Some(meant) => format!(
             "Number plate types as docs/FORMAT.md says: what the line shows is plate type {meant} there"
         ),
@@ -106,6 +105,19 @@ pub fn other_plate(sent: &Sent, line: usize) -> Option<Told> {
             .to_string(),
     };
     Some(Told::new(format!("line {line}"), fault, cure))
+}
+
+/// The plate types of this width, height and stage, as "1 (a board) or 2"; there can be several, since a
+/// size may have the sides of another or of a residual.
+fn meant(listing: &Listing, shown: [usize; 3]) -> Option<String> {
+    let plates = listing.plates.iter().enumerate();
+    let alike = plates.filter(|(_, plate)| [plate.width, plate.height, plate.stage] == shown);
+    let named = |(number, _): (usize, &Plate)| match number < listing.sizes {
+        true => format!("{number} (a board)"),
+        false => number.to_string(),
+    };
+    let all: Vec<String> = alike.map(named).collect();
+    (!all.is_empty()).then(|| all.join(" or "))
 }
 
 /// Refusal 9.
@@ -179,7 +191,7 @@ pub fn short(sent: &Sent, item_type: usize) -> Option<Told> {
     (there < demand).then(|| {
         let fault = format!(
             "it {done} {there} times; {demand} are demanded on line {}",
-            item_type + 1
+            job.line_of(item_type)
         );
         Told::new(format!("item type {item_type}"), fault, cure)
     })
@@ -191,7 +203,7 @@ pub fn overdrawn(sent: &Sent, plate: usize) -> Option<Told> {
     let counts = sent.counts(&job, &listing)?;
     let there = listing.plates.get(plate)?;
     let [on, arises] = balance(&listing, &counts, plate);
-    (plate > 0 && on > arises).then(|| {
+    (plate >= listing.sizes && on > arises).then(|| {
         let fault = format!(
             "it is {}, is cut {on} times and arises {arises} times",
             there.words()

@@ -2,9 +2,10 @@
 
 use super::sent::Sent;
 use super::Told;
+use crate::job::Job;
 use crate::listing::{Cut, Listing};
 
-/// The price lines of a text: D, then the prices of items and of residuals, each from 1.
+/// The price lines of a text: D, then the prices of items from 1 and of residuals in their order.
 struct PriceLines {
     denominator: usize,
     items: Vec<usize>,
@@ -49,26 +50,26 @@ pub fn other_sizes(sent: &Sent) -> Option<Told> {
 
 /// Refusal 14.
 pub fn over_limit(sent: &Sent, number: usize) -> Option<Told> {
-    let (_, listing) = sent.listing()?;
+    let (job, listing) = sent.listing()?;
     let cut = *listing.cuts.get(number.checked_sub(1)?)?;
     let prices = price_lines(sent)?;
-    let residual = |plate: usize| prices.residuals.get(plate - 1).copied();
+    let residual = |plate: usize| prices.residuals.get(plate - listing.sizes).copied();
     let mut worth = *prices.items.get(cut.item - 1)?;
     for plate in cut.kept() {
         worth += residual(plate)?;
     }
-    let limit = match cut.plate {
-        0 => prices.denominator,
-        plate => residual(plate)?,
+    let limit = match job.sizes.get(cut.plate) {
+        Some(size) => prices.denominator * size.cost,
+        None => residual(cut.plate)?,
     };
     (worth > limit).then(|| {
         let fault = format!(
             "{} are worth {worth}, above {limit}, {}",
             parts(&cut),
-            limit_words(&listing, &cut)
+            limit_words(&job, &listing, &cut)
         );
         let cure = "Lower the prices of what the cut yields, or raise the price of the plate \
-                    that it cuts (D for plate type 0)";
+                    that it cuts (D for a size)";
         Told::new(format!("cut {number}"), fault, cure)
     })
 }
@@ -85,10 +86,14 @@ fn parts(cut: &Cut) -> String {
 }
 
 /// What a cut's worth is compared with, in words.
-fn limit_words(listing: &Listing, cut: &Cut) -> String {
-    match cut.plate {
-        0 => "the D of line 4".into(),
-        plate => format!(
+fn limit_words(job: &Job, listing: &Listing, cut: &Cut) -> String {
+    let plate = cut.plate;
+    match job.sizes.get(plate) {
+        Some(size) => format!(
+            "the D of line 4 times the cost of size {plate}, {}",
+            size.cost
+        ),
+        None => format!(
             "the price of plate type {plate} ({}), from which they are cut",
             listing.plates[plate].words()
         ),

@@ -53,16 +53,26 @@ impl<'a> Sent<'a> {
         group(self.line(number)?.get(..COLUMNS)?)
     }
 
+    /// A number of line 1, or 0 where it has none.
+    fn of_head(&self, place: usize) -> usize {
+        self.numbers(1)
+            .and_then(|numbers| numbers.get(place).copied())
+            .unwrap_or(0)
+    }
+
+    /// The number of board sizes that line 1 announces.
+    pub fn sizes(&self) -> usize {
+        self.of_head(3)
+    }
+
     /// The number of item types that line 1 announces.
     pub fn types(&self) -> usize {
-        self.numbers(1)
-            .and_then(|numbers| numbers.get(5).copied())
-            .unwrap_or(0)
+        self.of_head(4)
     }
 
     /// The first line after the job's.
     pub fn body(&self) -> usize {
-        self.types().saturating_add(2)
+        self.sizes().saturating_add(self.types()).saturating_add(2)
     }
 
     /// Whether this is a fold text: a line of kind 7 follows the job.
@@ -85,10 +95,11 @@ impl<'a> Sent<'a> {
             kinds: kinds.to_vec(),
             running: None,
         };
-        let [head, types] = [self.price_head().unwrap_or(usize::MAX), self.types()];
+        let [head, sizes] = [self.price_head().unwrap_or(usize::MAX), self.sizes()];
         match line {
             1 => any(&[1]),
-            _ if line <= types + 1 => one(2, line - 1),
+            _ if line - 2 < sizes => one(10, line - 2),
+            _ if line < self.body() => one(2, line - 1 - sizes),
             _ if self.is_fold() => any(&[7]),
             _ if line <= head => any(&[3, 4]),
             _ => {
@@ -97,7 +108,7 @@ impl<'a> Sent<'a> {
                     [2, 3].map(|place| announced.get(place).copied().unwrap_or(0));
                 match line - head {
                     after if after <= items => one(5, after),
-                    after if after <= items + plates => one(6, after - items),
+                    after if after <= items + plates => one(6, sizes + after - items - 1),
                     _ => any(&[]),
                 }
             }

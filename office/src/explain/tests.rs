@@ -28,7 +28,7 @@ fn told(text: &str) -> String {
 }
 
 /// Checks what is said of texts.
-fn check(texts: &[(String, &str)]) {
+pub fn check(texts: &[(String, &str)]) {
     for (text, expected) in texts {
         let told = told(text);
         assert!(told.contains(expected), "{told}\nof\n{text}");
@@ -40,36 +40,38 @@ fn lines_not_of_the_form() {
     let whole = text(&[&[3, 0, 1, 2, 9, 7, 1, 0]]);
     let line_2 = &line(&[2, 1, 5, 4, 2, 0]);
     check(&[
-        (String::new(), "Refusal 1, line 1: the text ends before it. Write there \"1, stages, exact, W, H, n, b\"."),
-        (line(&[1, 2, 0, 9, 7, 2, 0]), "line 2: the text ends before it. Write there \"2, 1, width"),
-        (line(&[1, 2, 0, 9, 7, 2]), "line 1: it has 54 columns; 7 numbers take 63. Write there \"1, stages, exact, W, H, n, b\"."),
+        (String::new(), "Refusal 1, line 1: the text ends before it. Write there \"1, stages, exact, t, n, b\"."),
+        (line(&[1, 2, 0, 1, 2, 0]), "line 2: the text ends before it. Write there \"10, 0, W, H, cost\"."),
+        (line(&[1, 2, 0, 1, 2, 0]) + &line(&[10, 0, 9, 7, 1]), "line 3: the text ends before it. Write there \"2, 1, width"),
+        (whole.replacen("       10        0", "       10        1", 1), "line 2: its running number must be 0, the next in order"),
+        (line(&[1, 2, 0, 9, 7, 2, 0]), "line 1: it has 63 columns; 6 numbers take 54. Write there \"1, stages, exact, t, n, b\"."),
         (whole.replace('\n', "\r\n"), "line 1: it ends with byte 13"),
         (whole.replacen("        3", "\t3", 1), "a tab stands in column 1"),
         (whole.replacen("        5", "      -5", 1), "\"-\" stands in column"),
-        (whole.replacen(line_2, &line(&[2, 2, 5, 4, 2, 0]), 1), "line 2: its running number must be 1"),
-        (whole.replacen(line_2, &line(&[2, 1, 5, 4, 2]), 1), "line 2: it has 45 columns; 6 numbers take 54"),
-        (whole.replacen("        9", "       09", 1), "columns 28 to 36 hold \"       09\""),
-        (whole.trim_end().to_string(), "line 4: it does not end with byte 10"),
+        (whole.replacen(line_2, &line(&[2, 2, 5, 4, 2, 0]), 1), "line 3: its running number must be 1"),
+        (whole.replacen(line_2, &line(&[2, 1, 5, 4, 2]), 1), "line 3: it has 45 columns; 6 numbers take 54"),
+        (whole.replacen("        9", "       09", 1), "columns 19 to 27 hold \"       09\""),
+        (whole.trim_end().to_string(), "line 5: it does not end with byte 10"),
         (text(&[&[8, 1, 0, 1, 0]]), "kind 8 does not belong there. Write there \"3, plate, item, count, width, height, stage, turn\" or \"4, D, n, m\""),
-        (text(&[&[3, 0, 1, 2, 0]]), "line 4: it has 45 columns; 8 numbers take 72. Write there \"3, plate, item, count, width, height, stage, turn\" or"),
-        (text(&[&[4, 1, 1, 0], &[6, 1, 1]]), "line 5: kind 6 does not belong there. Write there \"5, 1, price\""),
-        (text(&[&[4, 1, 1, 0], &[5, 1, 1], &[5, 2, 1]]), "line 6: kind 5 does not belong there. Write there nothing"),
-        (text(&[&[4, 1, 2, 5], &[5, 1, 1]]), "line 6: the text ends before it"),
-        (text(&[&[7, 1, 1, 1, 1, 1, 0, 0, 0], &[3, 0, 1, 1, 9, 7, 1, 0]]), "line 5: kind 3 does not belong there"),
-        (whole + "\n", "line 5: its first nine columns hold no kind"),
+        (text(&[&[3, 0, 1, 2, 0]]), "line 5: it has 45 columns; 8 numbers take 72. Write there \"3, plate, item, count, width, height, stage, turn\" or"),
+        (text(&[&[4, 1, 1, 0], &[6, 1, 1]]), "line 6: kind 6 does not belong there. Write there \"5, 1, price\""),
+        (text(&[&[4, 1, 1, 0], &[5, 1, 1], &[5, 2, 1]]), "line 7: kind 5 does not belong there. Write there nothing"),
+        (text(&[&[4, 1, 2, 5], &[5, 1, 1]]), "line 7: the text ends before it"),
+        (text(&[&[7, 1, 0, 1, 1, 1, 1, 0, 0, 0], &[3, 0, 1, 1, 9, 7, 1, 0]]), "line 6: kind 3 does not belong there"),
+        (whole + "\n", "line 6: its first nine columns hold no kind"),
     ]);
 }
 
 #[test]
 fn a_text_sent_to_the_other_program() {
     let plan = text(&[&[3, 0, 1, 2, 9, 7, 1, 0]]);
-    let layouts = text(&[&[7, 1, 1, 1, 1, 1, 0, 0, 0]]);
+    let layouts = text(&[&[7, 1, 0, 1, 1, 1, 1, 0, 0, 0]]);
     for (text, answer) in [
         (&plan, reference::fold_text(plan.as_bytes())),
         (&layouts, reference::saw_text(layouts.as_bytes())),
     ] {
-        assert_eq!(answer, line(&[9, 1, 4]).as_bytes());
-        let told = explain(text.as_bytes(), 1, 4).unwrap();
+        assert_eq!(answer, line(&[9, 1, 5]).as_bytes());
+        let told = explain(text.as_bytes(), 1, 5).unwrap();
         assert!(
             told.contains("the program that refused it does not read"),
             "{told}"
@@ -81,17 +83,28 @@ fn a_text_sent_to_the_other_program() {
 fn values_outside_their_limits() {
     check(&[
         (
-            line(&[1, 4, 0, 9, 7, 2, 0]),
+            line(&[1, 4, 0, 1, 2, 0]),
             "Refusal 2, line 1: stages is 4, outside its limits. Write stages from 2 to 3.",
         ),
-        (line(&[1, 2, 0, 9, 10_001, 2, 0]), "H is 10,001"),
         (
-            line(&[1, 2, 0, 9, 7, 2, 21]),
+            line(&[1, 2, 0, 7, 2, 0]),
+            "line 1: t is 7, outside its limits. Write t from 1 to 6.",
+        ),
+        (
+            line(&[1, 2, 0, 1, 2, 0]) + &line(&[10, 0, 9, 10_001, 1]),
+            "line 2: H is 10,001",
+        ),
+        (
+            line(&[1, 2, 0, 1, 2, 0]) + &line(&[10, 0, 9, 7, 1000]),
+            "cost is 1,000, outside its limits. Write cost from 1 to 999.",
+        ),
+        (
+            line(&[1, 2, 0, 1, 2, 21]),
             "Refusal 2, line 1: b is 21, outside its limits. Write b from 0 to 20.",
         ),
         (
             text(&[&[3, 0, 3, 1, 9, 7, 1, 0]]),
-            "line 4: item is 3, outside its limits. Write item from 1 to 2",
+            "line 5: item is 3, outside its limits. Write item from 1 to 2",
         ),
         (text(&[&[3, 0, 1, 4001, 9, 7, 1, 0]]), "count is 4,001"),
         // The plate's width, height and stage have no limits, and are no fault of limits beside one.
@@ -104,7 +117,7 @@ fn values_outside_their_limits() {
             "turn is 2, outside",
         ),
         (text(&[&[4, 10_000, 2, 5]]), "D is 10,000"),
-        (text(&[&[7, 1, 1, 1, 1, 3, 0, 0, 0]]), "type is 3"),
+        (text(&[&[7, 1, 0, 1, 1, 1, 3, 0, 0, 0]]), "type is 3"),
     ]);
 }
 
@@ -114,11 +127,11 @@ fn jobs_and_models() {
     check(&[
         (
             job("2N", [9, 7], &[[7, 9, 1]]).text(),
-            "Refusal 3, item type 1: the item is 7 by 9, the board 9 by 7; it has no leave",
+            "Refusal 3, item type 1: the item is 7 by 9 and fits no size (9 by 7); it has no leave to be turned. Correct line 3",
         ),
         (
             job_with_leave("2N", [9, 7], &[[5, 8, 1, 1], [8, 10, 1, 1]]).text(),
-            "Refusal 3, item type 2: the item is 8 by 10, the board 9 by 7; it does not fit turned",
+            "Refusal 3, item type 2: the item is 8 by 10 and fits no size (9 by 7); it does not fit turned",
         ),
         (
             job("2N", [9, 7], &[[5, 4, 4000], [3, 3, 1]]).text(),
@@ -140,6 +153,9 @@ fn jobs_and_models() {
         lengths.starts_with("Refusal 2, place 0: one of the two lengths"),
         "{lengths}"
     );
+    for of_job in ["stages", "exact", "sizes", "item types", "blade", "cost"] {
+        assert!(lengths.contains(of_job), "{of_job}: {lengths}");
+    }
 }
 
 #[test]
@@ -148,10 +164,10 @@ fn plans() {
     check(&[
         (text(&[&[3, 1, 1, 1, 9, 3, 1, 0]]), "item type 1 (5 by 4) cannot be cut from plate type 1 (9 by 3, stage 1): it does not fit"),
         (text(&[&[3, 9, 1, 1, 1, 1, 1, 0]]), "there is no plate type 9; this job's run from 0 to 5"),
-        (exact + &line(&[3, 2, 2, 1, 4, 4, 2, 0]), "Refusal 8, line 5: item type 2 (3 by 3) cannot be cut from plate type 2 (4 by 4, stage 2): it is not just as high"),
-        (text(&[&[3, 0, 2, 1, 9, 7, 1, 0], &[3, 0, 1, 1, 9, 7, 1, 0]]), "Refusal 9, line 5: it names cut 1 (plate type 0, item type 1, turn 0)"),
+        (exact + &line(&[3, 2, 2, 1, 4, 4, 2, 0]), "Refusal 8, line 6: item type 2 (3 by 3) cannot be cut from plate type 2 (4 by 4, stage 2): it is not just as high"),
+        (text(&[&[3, 0, 2, 1, 9, 7, 1, 0], &[3, 0, 1, 1, 9, 7, 1, 0]]), "Refusal 9, line 6: it names cut 1 (plate type 0, item type 1, turn 0)"),
         (text(&[&[3, 0, 1, 3000, 9, 7, 1, 0], &[3, 0, 2, 1001, 9, 7, 1, 0]]), "Refusal 10, the whole plan: there are 4,001 cuts"),
-        (text(&[]), "Refusal 11, item type 1: it is cut 0 times; 2 are demanded on line 2"),
+        (text(&[]), "Refusal 11, item type 1: it is cut 0 times; 2 are demanded on line 3"),
         (text(&[&[3, 0, 1, 2, 9, 7, 1, 0], &[3, 1, 2, 1, 9, 3, 1, 0], &[3, 2, 2, 3, 4, 4, 2, 0], &[3, 4, 2, 1, 6, 3, 2, 0]]), "Refusal 12, plate type 2: it is 4 by 4, stage 2, is cut 3 times and arises 2 times"),
     ]);
 }
@@ -160,18 +176,18 @@ fn plans() {
 fn plates_shown() {
     let whole = [3, 0, 1, 2, 9, 7, 1, 0];
     check(&[
-        (text(&[&[3, 0, 1, 2, 8, 7, 1, 0]]), "Refusal 20, line 4: in the model plate type 0 is 9 by 7, stage 1; the line shows width 8 for 9. Take width, height and stage from the listing"),
-        (text(&[&whole, &[3, 1, 2, 1, 9, 4, 1, 0]]), "Refusal 20, line 5: in the model plate type 1 is 9 by 3, stage 1; the line shows height 4 for 3. Number plate types as docs/FORMAT.md says: what the line shows is plate type 3 there."),
+        (text(&[&[3, 0, 1, 2, 8, 7, 1, 0]]), "Refusal 20, line 5: in the model plate type 0 is 9 by 7, stage 1; the line shows width 8 for 9. Take width, height and stage from the listing"),
+        (text(&[&whole, &[3, 1, 2, 1, 9, 4, 1, 0]]), "Refusal 20, line 6: in the model plate type 1 is 9 by 3, stage 1; the line shows height 4 for 3. Number plate types as docs/FORMAT.md says: what the line shows is plate type 3 there."),
         (text(&[&whole, &[3, 2, 2, 1, 4, 4, 3, 0]]), "the line shows stage 3 for 2. Take"),
         (text(&[&whole, &[3, 1, 2, 1, 4, 4, 2, 0]]), "the line shows width 4 for 9, height 4 for 3, stage 2 for 1. Number plate types as docs/FORMAT.md says: what the line shows is plate type 2 there."),
         (text(&[&[3, 0, 1, 2, 65_545, 7, 1, 0]]), "the line shows width 65,545 for 9. Take"),
         (text(&[&[3, 0, 1, 2, 9, 7, 999_999_999, 0]]), "the line shows stage 999,999,999 for 1"),
-        (text(&[&[3, 0, 1, 1, 9, 7, 1, 0], &[3, 0, 1, 1, 8, 7, 1, 0]]), "Refusal 20, line 5: in the model"),
-        (text(&[&[3, 1, 1, 1, 8, 8, 8, 0]]), "Refusal 8, line 4: item type 1"),
+        (text(&[&[3, 0, 1, 1, 9, 7, 1, 0], &[3, 0, 1, 1, 8, 7, 1, 0]]), "Refusal 20, line 6: in the model"),
+        (text(&[&[3, 1, 1, 1, 8, 8, 8, 0]]), "Refusal 8, line 5: item type 1"),
     ]);
     // A line that shows its plate is none of refusal 20, nor one that names no cut.
     for line in [&whole, &[3, 1, 1, 1, 8, 8, 8, 0]] {
-        assert!(explain(text(&[line]).as_bytes(), 20, 4).is_err());
+        assert!(explain(text(&[line]).as_bytes(), 20, 5).is_err());
     }
 }
 
@@ -180,13 +196,13 @@ fn turns() {
     let turning = job_with_leave("2N", [9, 7], &[[5, 4, 2, 1], [3, 3, 3, 1]]).text();
     let flat = job_with_leave("2N", [5, 3], &[[3, 5, 1, 1]]).text();
     check(&[
-        (text(&[&[3, 0, 1, 2, 9, 7, 1, 1]]), "Refusal 19, line 4: the turn is 1, but item type 1 (5 by 4) has no leave to be turned on line 2"),
-        (text(&[&[7, 1, 1, 1, 1, 1, 0, 0, 1]]), "Refusal 19, line 4: the turn is 1, but item type 1 (5 by 4) has no leave"),
-        (turning.clone() + &line(&[3, 0, 2, 1, 9, 7, 1, 1]), "Refusal 19, line 4: the turn is 1, but item type 2 (3 by 3) is square"),
-        (turning.clone() + &line(&[3, 0, 2, 1, 9, 7, 1, 2]), "Refusal 2, line 4: turn is 2"),
+        (text(&[&[3, 0, 1, 2, 9, 7, 1, 1]]), "Refusal 19, line 5: the turn is 1, but item type 1 (5 by 4) has no leave to be turned on line 3"),
+        (text(&[&[7, 1, 0, 1, 1, 1, 1, 0, 0, 1]]), "Refusal 19, line 5: the turn is 1, but item type 1 (5 by 4) has no leave"),
+        (turning.clone() + &line(&[3, 0, 2, 1, 9, 7, 1, 1]), "Refusal 19, line 5: the turn is 1, but item type 2 (3 by 3) is square"),
+        (turning.clone() + &line(&[3, 0, 2, 1, 9, 7, 1, 2]), "Refusal 2, line 5: turn is 2"),
         (turning + &line(&[3, 1, 1, 1, 9, 3, 1, 1]), "item type 1 turned (4 by 5) cannot be cut from plate type 1 (9 by 3, stage 1): it does not fit"),
-        (flat.clone() + &line(&[3, 0, 1, 1, 5, 3, 1, 0]), "Refusal 8, line 3: item type 1 (3 by 5) cannot be cut from plate type 0"),
-        (flat + &line(&[7, 1, 1, 1, 1, 1, 0, 0, 0]), "Refusal 17, strip from line 3: it reaches up to 5, the board to 3"),
+        (flat.clone() + &line(&[3, 0, 1, 1, 5, 3, 1, 0]), "Refusal 8, line 4: item type 1 (3 by 5) cannot be cut from plate type 0"),
+        (flat + &line(&[7, 1, 0, 1, 1, 1, 1, 0, 0, 0]), "Refusal 17, strip from line 4: it reaches up to 5, the board to 3"),
     ]);
 }
 
@@ -210,36 +226,43 @@ fn prices() {
         &[6, 5, 0],
     ];
     check(&[
-        (text(&[&plan[..], &few].concat()), "Refusal 13, the whole price list: line 8 gives n 1 and m 0; this job has 2 item types and 5"),
+        (text(&[&plan[..], &few].concat()), "Refusal 13, the whole price list: line 9 gives n 1 and m 0; this job has 2 item types and 5"),
         (text(&[&plan[..], &low].concat()), "Refusal 14, cut 5: item type 1 and plate type 2 are worth 1, above 0, the price of plate type 3"),
     ]);
 }
 
 /// A fold text of a job and these lines of kind 7.
-fn fold(job: crate::job::Job, lines: &[[usize; 8]]) -> String {
+pub fn fold(job: crate::job::Job, lines: &[[usize; 9]]) -> String {
     lines.iter().fold(job.text(), |text, numbers| {
         text + &line(&[&[7], &numbers[..]].concat())
     })
 }
 
-const FIRST: [usize; 8] = [1, 1, 1, 1, 1, 0, 0, 0];
+const FIRST: [usize; 9] = [1, 0, 1, 1, 1, 1, 0, 0, 0];
 
 #[test]
 fn stage_rules() {
     let two = job("2E", [9, 7], &[[5, 4, 2], [3, 3, 3]]);
     let three = job("3N", [5, 5], &[[3, 5, 1], [2, 2, 2]]);
     let exact = job("3E", [5, 5], &[[3, 5, 1], [2, 2, 2], [1, 2, 1]]);
-    let single = fold(job_a(), &[FIRST, [1, 1, 1, 2, 2, 0, 4, 0]]);
-    let heights = fold(two, &[FIRST, [1, 1, 2, 1, 2, 5, 0, 0]]);
-    let full = fold(three, &[[1, 1, 1, 1, 2, 0, 0, 0], [1, 1, 1, 2, 2, 0, 2, 0]]);
+    let single = fold(job_a(), &[FIRST, [1, 0, 1, 1, 2, 2, 0, 4, 0]]);
+    let heights = fold(two, &[FIRST, [1, 0, 1, 2, 1, 2, 5, 0, 0]]);
+    let full = fold(
+        three,
+        &[[1, 0, 1, 1, 1, 2, 0, 0, 0], [1, 0, 1, 1, 2, 2, 0, 2, 0]],
+    );
     let widths = fold(
         exact,
-        &[FIRST, [1, 1, 2, 1, 2, 3, 0, 0], [1, 1, 2, 2, 3, 3, 2, 0]],
+        &[
+            FIRST,
+            [1, 0, 1, 2, 1, 2, 3, 0, 0],
+            [1, 0, 1, 2, 2, 3, 3, 2, 0],
+        ],
     );
     check(&[
         (
             single,
-            "Refusal 16, strip from line 4: in two stages each stack is one item",
+            "Refusal 16, strip from line 5: in two stages each stack is one item",
         ),
         (heights, "equally high"),
         (
@@ -252,54 +275,62 @@ fn stage_rules() {
 
 #[test]
 fn layouts() {
-    let turn = fold(job_a(), &[[1, 1, 2, 1, 1, 0, 0, 0]]);
-    let across = fold(job_a(), &[FIRST, [1, 1, 2, 1, 1, 5, 0, 0]]);
-    let upwards = fold(job_a(), &[FIRST, [1, 2, 1, 1, 1, 0, 4, 0]]);
-    let position = fold(job_a(), &[FIRST, [1, 1, 2, 1, 2, 5, 1, 0]]);
-    let many: Vec<[usize; 8]> = (1..=4001)
-        .map(|board| [board, 1, 1, 1, 1, 0, 0, 0])
+    let turn = fold(job_a(), &[[1, 0, 1, 2, 1, 1, 0, 0, 0]]);
+    let across = fold(job_a(), &[FIRST, [1, 0, 1, 2, 1, 1, 5, 0, 0]]);
+    let upwards = fold(job_a(), &[FIRST, [1, 0, 2, 1, 1, 1, 0, 4, 0]]);
+    let position = fold(job_a(), &[FIRST, [1, 0, 1, 2, 1, 2, 5, 1, 0]]);
+    let many: Vec<[usize; 9]> = (1..=4001)
+        .map(|board| [board, 0, 1, 1, 1, 1, 0, 0, 0])
         .collect();
     check(&[
         (
             turn,
-            "Refusal 15, line 4: board, strip, stack, place are 1 1 2 1",
+            "Refusal 15, line 5: board, strip, stack, place are 1 1 2 1",
         ),
         (
             across,
-            "Refusal 17, strip from line 4: its stacks are 10 wide",
+            "Refusal 17, strip from line 5: its stacks are 10 wide",
         ),
         (
             upwards,
-            "Refusal 17, strip from line 5: it reaches up to 8, the board to 7",
+            "Refusal 17, strip from line 6: it reaches up to 8, the board to 7",
         ),
         (
             position,
-            "Refusal 18, line 5: x and y are 5 and 1, the item's position is 5 and 0",
+            "Refusal 18, line 6: x and y are 5 and 1, the item's position is 5 and 0",
         ),
         (
             fold(job_a(), &[FIRST]),
             "Refusal 11, item type 1: it lies on the boards 1 times",
         ),
-        (fold(job_a(), &many), "Refusal 2, line 4004: board is 4,001"),
+        (fold(job_a(), &many), "Refusal 2, line 4005: board is 4,001"),
     ]);
 }
 
 #[test]
 fn layouts_with_a_blade() {
     let blade = |board| job_with_blade("2N", board, 2, &[[5, 4, 2], [3, 3, 3]]);
-    let beside = [1, 1, 2, 1, 1, 7, 0, 0];
+    let beside = [1, 0, 1, 2, 1, 1, 7, 0, 0];
     let across = fold(blade([11, 7]), &[FIRST, beside]);
-    let upwards = fold(blade([12, 9]), &[FIRST, [1, 2, 1, 1, 1, 0, 6, 0]]);
-    let near = fold(blade([12, 10]), &[FIRST, [1, 1, 2, 1, 1, 6, 0, 0]]);
+    let upwards = fold(blade([12, 9]), &[FIRST, [1, 0, 2, 1, 1, 1, 0, 6, 0]]);
+    let near = fold(blade([12, 10]), &[FIRST, [1, 0, 1, 2, 1, 1, 6, 0, 0]]);
     let three = job_with_blade("3N", [20, 20], 2, &[[4, 8, 1], [4, 4, 2]]);
     let stack = fold(
         three,
-        &[FIRST, [1, 1, 2, 1, 2, 6, 0, 0], [1, 1, 2, 2, 2, 6, 6, 0]],
+        &[
+            FIRST,
+            [1, 0, 1, 2, 1, 2, 6, 0, 0],
+            [1, 0, 1, 2, 2, 2, 6, 6, 0],
+        ],
     );
     let post = job_with_blade("3N", [20, 20], 2, &[[4, 12, 1], [4, 4, 2]]);
     let high = fold(
         post,
-        &[FIRST, [1, 1, 2, 1, 2, 6, 0, 0], [1, 1, 2, 2, 2, 6, 5, 0]],
+        &[
+            FIRST,
+            [1, 0, 1, 2, 1, 2, 6, 0, 0],
+            [1, 0, 1, 2, 2, 2, 6, 5, 0],
+        ],
     );
     check(&[
         (
@@ -308,7 +339,7 @@ fn layouts_with_a_blade() {
         ),
         (
             upwards,
-            "Refusal 17, strip from line 5: it reaches up to 10, the board to 9",
+            "Refusal 17, strip from line 6: it reaches up to 10, the board to 9",
         ),
         (
             near,

@@ -94,15 +94,26 @@ impl Solution {
             (Some(Kind::Row), Some(dual)) => {
                 self.duals.insert(name.into(), dual);
             }
-            (None, _) if name.starts_with("x_") => {
-                return Err(format!(
-                    "the solution has a column {name}, and this job has no such cut: \
-                     was it made from this job's model?"
-                ));
+            (None, _) => {
+                if let Some(thing) = foreign(name) {
+                    return Err(format!(
+                        "the solution has a column {name}, and this job has no such {thing}: \
+                         was it made from this job's model?"
+                    ));
+                }
             }
             _ => {}
         }
         Ok(())
+    }
+}
+
+/// What a column of another model stands for, if the name is one.
+fn foreign(name: &str) -> Option<&'static str> {
+    match name {
+        _ if name.starts_with(model::CUT) => Some("cut"),
+        _ if name.starts_with(model::SIZE) => Some("size"),
+        _ => None,
     }
 }
 

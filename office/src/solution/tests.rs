@@ -1,4 +1,4 @@
-//! Solutions of job A in every form, as the solvers wrote them.
+//! Solutions of job A in every form that the solvers write.
 
 use super::*;
 use crate::job::tests::job_a;
@@ -11,7 +11,7 @@ fn read(text: &str) -> Solution {
     Solution::read(text, &names()).unwrap()
 }
 
-/// The value of a column that is not 0, and the number of such columns.
+/// The value of a column that is not 0, and the number of such columns, those of sizes among them.
 fn nonzero(solution: &Solution, name: &str) -> (f64, usize) {
     let others = solution
         .values
@@ -22,23 +22,25 @@ fn nonzero(solution: &Solution, name: &str) -> (f64, usize) {
 }
 
 const PRINTED: &str = "Problem:    
-Rows:       8
-Columns:    8 (8 integer, 0 binary)
-Non-zeros:  30
+Rows:       9
+Columns:    9 (9 integer, 0 binary)
+Non-zeros:  33
 Status:     INTEGER OPTIMAL
-Objective:  boards = 2 (MINimum)
+Objective:  cost = 2 (MINimum)
 
    No.   Row name        Activity     Lower bound   Upper bound
 ------ ------------    ------------- ------------- -------------
      1 item_1                      2             2               
-     8 pieces                      5                        4000 
+     3 boards_0                    0             0             = 
+     9 pieces                      5                        4000 
 
    No. Column name       Activity     Lower bound   Upper bound
 ------ ------------    ------------- ------------- -------------
-     1 x_0_1_0      *              2             0               
-     2 x_0_2_0      *              0             0               
-     3 x_1_2_0      *              2             0               
-     4 x_2_2_0      *              1             0               
+     1 size_0       *              2             0               
+     2 x_0_1_0      *              2             0               
+     3 x_0_2_0      *              0             0               
+     4 x_1_2_0      *              2             0               
+     5 x_2_2_0      *              1             0               
 
 Integer feasibility conditions:
 
@@ -52,12 +54,14 @@ Status:     OPTIMAL
 ------ ------------ -- ------------- ------------- ------------- -------------
      1 item_1       NL             2             2                           1 
      2 item_2       NL             3             3                       < eps
-     4 plate_2      B              1             0               
+     3 boards_0     NS             0             0             =            -1 
+     5 plate_2      B              1             0               
 
    No. Column name  St   Activity     Lower bound   Upper bound    Marginal
 ------ ------------ -- ------------- ------------- ------------- -------------
-     1 x_0_1_0      B              2             0               
-     6 x_3_2_0      NL             0             0                           1 
+     1 size_0       B              2             0               
+     2 x_0_1_0      B              2             0               
+     7 x_3_2_0      NL             0             0                           1 
 
 Karush-Kuhn-Tucker optimality conditions:
 ";
@@ -65,24 +69,31 @@ Karush-Kuhn-Tucker optimality conditions:
 #[test]
 fn glpk_printed() {
     let solution = read(PRINTED);
-    assert_eq!(nonzero(&solution, "x_1_2_0"), (2.0, 3));
+    assert_eq!(nonzero(&solution, "x_1_2_0"), (2.0, 4));
+    assert_eq!(solution.values["size_0"], 2.0);
     assert!(solution.duals.is_empty());
     let solution = read(PRINTED_DUALS);
-    assert_eq!(nonzero(&solution, "x_0_1_0"), (2.0, 1));
+    assert_eq!(nonzero(&solution, "x_0_1_0"), (2.0, 2));
     assert_eq!(solution.duals["item_1"], 1.0);
     assert_eq!(solution.duals["item_2"], 0.0);
+    assert_eq!(solution.duals["boards_0"], -1.0);
     assert_eq!(solution.duals["plate_2"], 0.0);
 }
 
 #[test]
 fn glpk_plain() {
-    let solution = read("c Status\ns mip 8 8 o 2\ni 1 2\nj 1 2\nj 3 2\nj 4 1\nj 5 0\ne o f\n");
-    assert_eq!(nonzero(&solution, "x_2_2_0"), (1.0, 3));
+    let solution =
+        read("c Status\ns mip 9 9 o 2\ni 1 2\nj 1 2\nj 2 2\nj 4 2\nj 5 1\nj 6 0\ne o f\n");
+    assert_eq!(nonzero(&solution, "x_2_2_0"), (1.0, 4));
+    assert_eq!(solution.values["size_0"], 2.0);
     assert!(solution.duals.is_empty());
-    let solution = read("s bas 8 8 f f 2\ni 1 l 2 1\ni 4 b 1 0\nj 1 b 2 0\nj 6 l 0 1\ne o f\n");
-    assert_eq!(nonzero(&solution, "x_0_1_0"), (2.0, 1));
+    let solution = read(
+        "s bas 9 9 f f 2\ni 1 l 2 1\ni 3 s 0 -1\ni 5 b 1 0\nj 1 b 2 0\nj 2 b 2 0\nj 7 l 0 1\ne o f\n",
+    );
+    assert_eq!(nonzero(&solution, "x_0_1_0"), (2.0, 2));
     assert_eq!(solution.duals["item_1"], 1.0);
-    let solution = read("s ipt 8 8 o 2.5\ni 1 2.0 0.9999\nj 1 1.0903 5.9e-10\ne o f\n");
+    assert_eq!(solution.duals["boards_0"], -1.0);
+    let solution = read("s ipt 9 9 o 2.5\ni 1 2.0 0.9999\nj 2 1.0903 5.9e-10\ne o f\n");
     assert_eq!(solution.duals["item_1"], 0.9999);
 }
 
@@ -90,11 +101,11 @@ fn glpk_plain() {
 fn cbc() {
     let head = "Optimal - objective value 2.00000000\n";
     let solution = read(&format!(
-        "{head}      0 x_0_1_0      0      1\n      1 x_0_2_0      2      1\n**    4 x_3_1_0      2      0\n"
+        "{head}      0 size_0      2      1\n      1 x_0_1_0      0      0\n      2 x_0_2_0      2      0\n**    5 x_3_1_0      2      0\n"
     ));
-    assert_eq!(nonzero(&solution, "x_3_1_0"), (2.0, 2));
+    assert_eq!(nonzero(&solution, "x_3_1_0"), (2.0, 3));
     let solution = read(&format!(
-        "{head}      0 item_1      2     1\n      0 x_0_1_0      0     0\n"
+        "{head}      0 item_1      2     1\n      2 boards_0      0     -1\n      1 x_0_1_0      0     0\n"
     ));
     assert_eq!(solution.duals["item_1"], 1.0);
 }
@@ -102,11 +113,11 @@ fn cbc() {
 #[test]
 fn names_and_values() {
     let solution = read(
-        "solution status: optimal\nobjective value: 2\nx_0_1_0   2 \t(obj:1)\nx_2_2_0  1 (obj:0)\n",
+        "solution status: optimal\nobjective value: 2\nsize_0   2 \t(obj:1)\nx_0_1_0   2 \t(obj:0)\nx_2_2_0  1 (obj:0)\n",
     );
-    assert_eq!(nonzero(&solution, "x_2_2_0"), (1.0, 2));
-    let solution = read("# Columns 2\nx_0_1_0 2\nx_1_2_0 0\n# Rows 1\nitem_1 2\n# Dual solution values\nitem_1 1\nx_0_1_0 7\n");
-    assert_eq!(nonzero(&solution, "x_0_1_0"), (2.0, 1));
+    assert_eq!(nonzero(&solution, "x_2_2_0"), (1.0, 3));
+    let solution = read("# Columns 3\nsize_0 2\nx_0_1_0 2\nx_1_2_0 0\n# Rows 2\nitem_1 2\nboards_0 0\n# Dual solution values\nitem_1 1\nboards_0 -1\nx_0_1_0 7\n");
+    assert_eq!(nonzero(&solution, "x_0_1_0"), (2.0, 2));
     assert_eq!(solution.duals["item_1"], 1.0);
 }
 
@@ -115,10 +126,11 @@ fn cplex() {
     let head = "<?xml version = \"1.0\"?>\n<CPLEXSolution version=\"1.2\">\n <header problemName=\"a\"/>\n";
     let solution = read(&format!(
         "{head} <linearConstraints>\n  <constraint name=\"item_1\" index=\"0\" slack=\"0\" dual=\"1\"/>\n \
-         </linearConstraints>\n <variables>\n  <variable name=\"x_0_1_0\" index=\"0\" value=\"2\"/>\n  \
-         <variable name=\"x_0_2_0\" index=\"1\" value=\"0\"/>\n </variables>\n</CPLEXSolution>\n"
+         </linearConstraints>\n <variables>\n  <variable name=\"size_0\" index=\"0\" value=\"2\"/>\n  \
+         <variable name=\"x_0_1_0\" index=\"1\" value=\"2\"/>\n  \
+         <variable name=\"x_0_2_0\" index=\"2\" value=\"0\"/>\n </variables>\n</CPLEXSolution>\n"
     ));
-    assert_eq!(nonzero(&solution, "x_0_1_0"), (2.0, 1));
+    assert_eq!(nonzero(&solution, "x_0_1_0"), (2.0, 2));
     assert_eq!(solution.duals["item_1"], 1.0);
 }
 
@@ -127,13 +139,17 @@ fn every_fault_is_told() {
     for (text, told) in [
         ("", "empty"),
         ("Problem:\nStatus:     INTEGER UNDEFINED\n", "no solution"),
-        ("s mip 8 8 u 0\n", "no solution"),
-        ("s mip 7 8 o 0\n", "7 rows and 8 columns"),
-        ("s mip 8 8 o 0\nj 9 1\n", "not the model's"),
+        ("s mip 9 9 u 0\n", "no solution"),
+        ("s mip 8 9 o 0\n", "8 rows and 9 columns"),
+        ("s mip 9 9 o 0\nj 10 1\n", "not the model's"),
         ("Infeasible - objective value 0\n", "no solution"),
         (
             "Optimal - objective value 2\n 0 x_9_9_0 1 0\n",
             "no such cut",
+        ),
+        (
+            "Optimal - objective value 2\n 0 size_1 1 0\n",
+            "a column size_1, and this job has no such size",
         ),
         ("Optimal - objective value 2\n 0 x_0_1_0\n", "not CBC's"),
         ("hello\n", "no column of the job's model"),

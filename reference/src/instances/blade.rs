@@ -4,7 +4,7 @@
 use super::read::Instance;
 use super::{areas, job_words_with, Source};
 use crate::greedy;
-use crate::job::{Job, HEAD_NUMBERS, ITEM_NUMBERS};
+use crate::job::{items_at, Job, ITEM_NUMBERS};
 use crate::listing::{Listing, FULL};
 use crate::mode::Mode;
 use crate::refusal::Refusal;
@@ -122,7 +122,7 @@ impl Change {
 fn words(instance: &Instance, board: [u16; 2], mode: Mode, times: u16, blade: u16) -> Vec<u16> {
     let board = board.map(|side| times * side);
     let mut words = job_words_with(instance, board, mode, 0, blade);
-    for item in words[HEAD_NUMBERS..].chunks_mut(ITEM_NUMBERS) {
+    for item in words[items_at(1)..].chunks_mut(ITEM_NUMBERS) {
         item[..2].iter_mut().for_each(|side| *side *= times);
     }
     words

@@ -6,10 +6,11 @@ use crate::folding;
 use crate::greedy;
 use crate::job::Job;
 use crate::layout::{placements, Board, Placement};
-use crate::limits::DENOMINATOR;
+use crate::limits::{DENOMINATOR, PRICE};
 use crate::listing::{Listing, FULL};
 use crate::prices::Prices;
 use crate::refusal::Refusal;
+use crate::size::Size;
 
 /// Words that the calls take beside the job.
 #[derive(Debug, Clone, PartialEq, Eq)]
@@ -49,25 +50,38 @@ impl Inputs {
     }
 }
 
-/// Prices by area, each side taken with the blade: the board's area is D, or 9,999 if it is larger,
-/// and each area is measured by that and rounded down. Sides with the blade cut from a side with the
-/// blade add up to at most that, so areas cut from a plate to at most the plate's, and rounded-down
-/// parts to at most the rounded-down whole: the list is accepted.
+/// Prices by area, each side taken with the blade: of the sizes that are cut the one that gives most
+/// area for its cost has D times its cost as its price, and each other area has its share of that,
+/// rounded down. Sides with the blade cut from a side with the blade add up to at most that, so areas
+/// cut from a plate to at most the plate's, and rounded-down parts to at most the rounded-down whole;
+/// no size gives more area for its cost. So the list is accepted. D is the area of that size, or
+/// less, so that neither it nor a price is above its limit.
 pub fn area_prices(job: &Job, listing: &Listing) -> Prices {
     let area = |width: u16, height: u16| {
         let [width, height] = [width, height].map(|side| u64::from(side + job.blade));
         width * height
     };
-    let board = area(job.width, job.height);
-    let denominator = board.min(u64::from(*DENOMINATOR.end()));
-    let price = |width: u16, height: u16| (area(width, height) * denominator / board) as u16;
-    let residuals = listing.plates[1..].iter();
+    let of_size = |size: &Size| area(size.width, size.height);
+    let cut = (0..).zip(&job.sizes);
+    let cut = cut.filter(|&(number, _)| !listing.cuts_on(number).is_empty());
+    let sizes: Vec<&Size> = cut.map(|(_, size)| size).collect();
+    let mut best = sizes[0];
+    for size in &sizes {
+        if of_size(size) * u64::from(best.cost) > of_size(best) * u64::from(size.cost) {
+            best = size;
+        }
+    }
+    let largest = sizes.iter().map(|size| of_size(size)).max().unwrap_or(1);
+    let [whole, cost] = [of_size(best), u64::from(best.cost)];
+    let within_price = u64::from(*PRICE.end()) * whole / (cost * largest);
+    let denominator = whole.min(u64::from(*DENOMINATOR.end())).min(within_price);
+    let price = |width: u16, height: u16| (area(width, height) * denominator * cost / whole) as u16;
     Prices {
         denominator: denominator as u16,
         items: (job.items.iter())
             .map(|item| price(item.width, item.height))
             .collect(),
-        residuals: residuals
+        residuals: (listing.residuals().iter())
             .map(|plate| price(plate.width, plate.height))
             .collect(),
     }

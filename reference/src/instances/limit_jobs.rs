@@ -1,8 +1,8 @@
-//! Jobs at the limits of document 01 and of the blade, and one past them, as they lie in
+//! Jobs at the limits of document 01, of the blade and of board sizes, and one past them, as they lie in
 //! `data/limits/`, with the answers expected.
 
 use super::read::{lines, numbers, Instance};
-use super::{job_words_with, NamedJob};
+use super::{job_words_on, NamedJob};
 use crate::calls::Listed;
 use crate::listing::Limits;
 use crate::mode::Mode;
@@ -26,13 +26,14 @@ pub const NONE: Limits = Limits {
     cuts: 60_000,
 };
 
-const TEXTS: [&str; 6] = [
+const TEXTS: [&str; 7] = [
     include_str!("../../../data/limits/plate-types.txt"),
     include_str!("../../../data/limits/cuts.txt"),
     include_str!("../../../data/limits/both.txt"),
     include_str!("../../../data/limits/first-met.txt"),
     include_str!("../../../data/limits/numbers.txt"),
     include_str!("../../../data/limits/blade.txt"),
+    include_str!("../../../data/limits/sizes.txt"),
 ];
 
 /// All jobs at the limits and past them.
@@ -44,6 +45,8 @@ pub fn limit_jobs() -> Vec<LimitJob> {
 #[derive(Default)]
 struct Lines {
     instance: Instance,
+    /// Width, height and cost of each size.
+    sizes: Vec<[u16; 3]>,
     mode: Option<Mode>,
     blade: u16,
     listing: Option<[u32; 2]>,
@@ -64,7 +67,11 @@ fn read(text: &str) -> Vec<LimitJob> {
             "job" => last.instance.name = rest.to_string(),
             "mode" => last.mode = Mode::ALL.into_iter().find(|mode| mode.name() == rest),
             "blade" => [last.blade] = numbers(rest),
-            "board" => last.instance.objects.push(numbers(rest)),
+            "board" => {
+                let [width, height, _] = numbers(rest);
+                last.sizes.push([width, height, 1]);
+            }
+            "size" => last.sizes.push(numbers(rest)),
             "item" => last.instance.items.push(numbers(rest)),
             "listing" => last.listing = Some(numbers(rest)),
             "plan" => last.plan = Some(numbers(rest)),
@@ -80,11 +87,10 @@ impl Lines {
     fn job(self) -> LimitJob {
         let listed = |[residuals, cuts]: [u32; 2]| Listed { residuals, cuts };
         let [number, place] = self.refusal.unwrap_or_default();
-        let board = self.instance.boards().next().expect("a job has a board");
         let mode = self.mode.expect("a job has a mode");
         LimitJob {
             job: NamedJob {
-                words: job_words_with(&self.instance, board, mode, 0, self.blade),
+                words: job_words_on(&self.instance, &self.sizes, mode, 0, self.blade),
                 name: format!("limits {}", self.instance.name),
             },
             listed: self.listing.map(listed).ok_or(Refusal { number, place }),

@@ -1,5 +1,6 @@
-//! Published instances: the tables transcribed in `data/`, each object size as a board, as jobs
-//! with names; and what the five calls need to be run on each of them.
+//! Published instances: the tables transcribed in `data/`, each object size as a board, and all
+//! object sizes of an instance as the sizes of one job, as jobs with names; and what the five calls
+//! need to be run on each of them.
 
 pub mod areas;
 pub mod blade;
@@ -9,6 +10,7 @@ pub mod limit_jobs;
 pub mod outcome;
 pub mod periods;
 pub mod read;
+pub mod stock;
 pub mod tables;
 pub mod texts;
 
@@ -88,7 +90,7 @@ pub fn sources() -> Vec<Source> {
     all
 }
 
-/// The job of an instance on one of its boards in a mode. The tables have no leave to turn and no
+/// The job of an instance on one of its boards, at a cost of 1, in a mode. The tables have no leave to turn and no
 /// blade, so that no type has leave and the blade has no width.
 pub fn job_words(instance: &Instance, board: [u16; 2], mode: Mode) -> Vec<u16> {
     job_words_with(instance, board, mode, 0, 0)
@@ -102,9 +104,21 @@ pub fn job_words_with(
     leave: u16,
     blade: u16,
 ) -> Vec<u16> {
+    job_words_on(instance, &[[width, height, 1]], mode, leave, blade)
+}
+
+/// The same on boards of several sizes, each with width, height and cost.
+pub fn job_words_on(
+    instance: &Instance,
+    sizes: &[[u16; 3]],
+    mode: Mode,
+    leave: u16,
+    blade: u16,
+) -> Vec<u16> {
     let [stages, exact] = mode.numbers();
-    let types = instance.items.len() as u16;
-    let mut words = vec![stages, exact, width, height, types, blade];
+    let [many, types] = [sizes.len(), instance.items.len()].map(|many| many as u16);
+    let mut words = vec![stages, exact, many, types, blade];
+    words.extend(sizes.iter().flatten());
     for &[width, height, demand] in &instance.items {
         words.extend([width, height, demand, leave]);
     }
@@ -134,10 +148,34 @@ pub fn jobs() -> Vec<NamedJob> {
     all
 }
 
-/// Every job of `data/`: the published instances, and the jobs at the limits and past them.
+/// Every published instance that has several object sizes as one job in each mode, named by table,
+/// instance, number of sizes and mode.
+pub fn stock_jobs() -> Vec<NamedJob> {
+    let mut all = Vec::new();
+    for source in stock::sources() {
+        for instance in &source.instances {
+            let sizes = stock::sizes(instance);
+            all.extend(Mode::ALL.map(|mode| NamedJob {
+                name: format!(
+                    "{} {} on {} sizes {}",
+                    source.name,
+                    instance.name,
+                    sizes.len(),
+                    mode.name()
+                ),
+                words: job_words_on(instance, &sizes, mode, 0, 0),
+            }));
+        }
+    }
+    all
+}
+
+/// Every job of `data/`: the published instances on each of their boards and on all of them, and the
+/// jobs at the limits and past them.
 pub fn all_jobs() -> Vec<NamedJob> {
     let limits = limit_jobs::limit_jobs().into_iter();
     let mut all = jobs();
+    all.extend(stock_jobs());
     all.extend(limits.map(|limit| limit.job));
     all
 }

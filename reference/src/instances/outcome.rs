@@ -5,6 +5,7 @@ use crate::buffers::{COUNTS, CUTS, OFFCUTS, PLACEMENTS, PLATES};
 use crate::calls::{fold, list, test_plan, test_prices, unfold, Listed, Unfolded};
 use crate::layout::PLACEMENT_NUMBERS;
 use crate::offcut::OFFCUT_NUMBERS;
+use crate::plan::Outlay;
 use crate::prices::Bound;
 use crate::refusal::Refusal;
 
@@ -12,15 +13,15 @@ use crate::refusal::Refusal;
 #[derive(Debug, Clone, PartialEq, Eq)]
 pub struct Outcome {
     pub listed: Listed,
-    /// The boards that the plan test counts.
-    pub boards: u32,
+    /// The boards that the plan test counts, and their cost.
+    pub outlay: Outlay,
     pub bound: Bound,
     pub unfolded: Unfolded,
     /// The placements and the offcuts that unfolding wrote.
     pub placements: Vec<u16>,
     pub offcuts: Vec<u16>,
-    /// The boards of the unfolded plan, and the counts that folding it gives.
-    pub folded: u32,
+    /// The boards of the unfolded plan and their cost, and the counts that folding it gives.
+    pub folded: Outlay,
     pub counts: Vec<u16>,
 }
 
@@ -33,7 +34,7 @@ pub fn of(job: &[u16], inputs: &Inputs) -> Result<Outcome, Refusal> {
     let [mut plates, mut cuts, mut counts, mut placements, mut offcuts] =
         [PLATES, CUTS, COUNTS, PLACEMENTS, OFFCUTS].map(|kind| vec![0; kind.full_size]);
     let listed = list(job, &mut plates, &mut cuts)?;
-    let boards = test_plan(job, &inputs.counts, &mut plates, &mut cuts)?;
+    let outlay = test_plan(job, &inputs.counts, &mut plates, &mut cuts)?;
     let bound = test_prices(job, &inputs.prices, &mut plates, &mut cuts)?;
     let unfolded = unfold(
         job,
@@ -49,7 +50,7 @@ pub fn of(job: &[u16], inputs: &Inputs) -> Result<Outcome, Refusal> {
     let folded = fold(job, &placements, &mut plates, &mut cuts, &mut counts)?;
     Ok(Outcome {
         listed,
-        boards,
+        outlay,
         bound,
         unfolded,
         placements,

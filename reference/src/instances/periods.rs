@@ -6,6 +6,16 @@ use super::read::Instance;
 /// items of all its periods, equal sizes as one type in the order of their first appearance, on
 /// its object of the largest area, the first of them.
 pub fn together(periods: &[Instance]) -> Vec<Instance> {
+    let mut all = united(periods);
+    for instance in &mut all {
+        let objects = std::mem::take(&mut instance.objects);
+        instance.objects.extend(largest(&objects));
+    }
+    all
+}
+
+/// The same on the objects of all its periods, each size once, at the cost that it has first.
+pub fn united(periods: &[Instance]) -> Vec<Instance> {
     let mut all: Vec<Instance> = Vec::new();
     for period in periods {
         let name = period.name.split('.').next().unwrap_or_default();
@@ -16,14 +26,18 @@ pub fn together(periods: &[Instance]) -> Vec<Instance> {
             });
         }
         let instance = all.last_mut().expect("an instance was begun");
-        instance.objects.extend(&period.objects);
+        for object in &period.objects {
+            if instance.boards().all(|board| board != object[..2]) {
+                instance.objects.push(*object);
+                let costs = period.costs.iter();
+                instance
+                    .costs
+                    .extend(costs.filter(|cost| cost[..2] == object[..2]));
+            }
+        }
         for &item in &period.items {
             add(&mut instance.items, item);
         }
-    }
-    for instance in &mut all {
-        let objects = std::mem::take(&mut instance.objects);
-        instance.objects.extend(largest(&objects));
     }
     all
 }

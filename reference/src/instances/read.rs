@@ -8,6 +8,9 @@ pub struct Instance {
     pub totals: Option<[u32; 2]>,
     /// Width, height and stock of each object size.
     pub objects: Vec<[u16; 3]>,
+    /// Width, height and cost per unit of area of those object sizes of which the table gives a
+    /// cost.
+    pub costs: Vec<[u16; 3]>,
     /// Width, height and demand of each item type.
     pub items: Vec<[u16; 3]>,
 }
@@ -36,6 +39,7 @@ pub fn instances(text: &str) -> Vec<Instance> {
         match keyword {
             "totals" => instance.totals = Some(numbers(rest)),
             "board" => instance.objects.push(numbers(rest)),
+            "cost" => instance.costs.push(numbers(rest)),
             "item" => instance.items.push(numbers(rest)),
             _ => panic!("a line begins with {keyword}"),
         }

@@ -8,10 +8,13 @@ use super::leave;
 use super::limit_jobs::limit_jobs;
 use super::outcome::{self, Outcome};
 use super::read::Instance;
+use super::stock;
 use super::{job_words, sources, Source};
 use crate::calls::Listed;
+use crate::job::{items_at, HEAD_NUMBERS};
 use crate::mode::Mode;
 use crate::refusal::Refusal;
+use crate::size::SIZE_NUMBERS;
 use std::fmt::Write;
 
 /// The documents that are written: name within `docs/`, and text.
@@ -52,7 +55,9 @@ pub fn documents() -> [Document; 2] {
     first.push_str(&areas::section(&sources));
     first.push_str(&leave::section(&sources));
     first.push_str(&blade::section(&sources));
+    first.push_str(&stock::section());
     first.push_str(&limits());
+    second.push_str(&stock::section_of_periods());
     [("INSTANCES.md", first), ("INSTANCES-004.md", second)]
         .map(|(name, text)| Document { name, text })
 }
@@ -138,7 +143,7 @@ fn limits() -> String {
 
 From [data/limits](../data/limits/README.md). Listing: residual types and cuts; for a refusal, what the walk would reach without limits.
 
-| job | board | types | b | listing | boards, pieces of a plan |
+| job | sizes | types | b | listing | boards, pieces of a plan |
 |---|---|--:|--:|---|---|
 "
     .to_string();
@@ -155,16 +160,26 @@ From [data/limits](../data/limits/README.md). Listing: residual types and cuts; 
         });
         writeln!(
             text,
-            "| {} | {} by {} | {} | {} | {listing} | {plan} |",
+            "| {} | {} | {} | {} | {listing} | {plan} |",
             limit.job.name.trim_start_matches("limits "),
-            words[2],
+            sizes_of(words),
             words[3],
             words[4],
-            words[5],
         )
         .expect("a string takes all text");
     }
     text
+}
+
+/// The sizes of a job's words: width by height, and the cost where it is not 1.
+fn sizes_of(words: &[u16]) -> String {
+    let sizes = &words[HEAD_NUMBERS..items_at(usize::from(words[2]))];
+    let size = |size: &[u16]| match size[2] {
+        1 => format!("{} by {}", size[0], size[1]),
+        cost => format!("{} by {} at {cost}", size[0], size[1]),
+    };
+    let sizes: Vec<String> = sizes.chunks(SIZE_NUMBERS).map(size).collect();
+    sizes.join(", ")
 }
 
 /// The boards that the area asks for, where some mode is listed.
@@ -182,13 +197,13 @@ fn cell(outcome: &Result<Outcome, Refusal>) -> String {
     match outcome {
         Err(refusal) => format!("refused {}", refusal.number),
         Ok(found) => {
-            let mark = if found.bound.is_fewest(found.boards) {
+            let mark = if found.bound.is_cheapest(found.outlay.cost) {
                 "**"
             } else {
                 ""
             };
             let listed = found.listed;
-            let boards = found.boards;
+            let boards = found.outlay.boards;
             format!(
                 "{}, {}, {mark}{boards}{mark}",
                 listed.residuals, listed.cuts

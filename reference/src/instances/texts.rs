@@ -2,22 +2,23 @@
 
 use super::inputs::Inputs;
 use crate::columns::write_line;
-use crate::job::{Job, HEAD_NUMBERS, ITEM_NUMBERS};
+use crate::job::{items_at, Job, HEAD_NUMBERS, ITEM_NUMBERS};
 use crate::layout::PLACEMENT_NUMBERS;
 use crate::listing::{Listing, FULL};
 use crate::plan_lines;
 use crate::refusal::Refusal;
+use crate::size::SIZE_NUMBERS;
 
 /// The saw text: the job, the plan and the prices.
 pub fn saw_text(job: &[u16], inputs: &Inputs) -> Result<Vec<u8>, Refusal> {
     let mut text = job_lines(job);
     text.extend(plan_lines(job, &inputs.counts)?);
-    let types = usize::from(job[4]);
-    let (items, residuals) = inputs.prices[1..].split_at(types);
-    let head = [inputs.prices[0], job[4], residuals.len() as u16];
+    let [sizes, types] = [job[2], job[3]];
+    let (items, residuals) = inputs.prices[1..].split_at(usize::from(types));
+    let head = [inputs.prices[0], types, residuals.len() as u16];
     write_words(&mut text, 4, &head);
-    for (kind, prices) in [(5, items), (6, residuals)] {
-        for (number, &price) in (1..).zip(prices) {
+    for (kind, first, prices) in [(5, 1, items), (6, sizes, residuals)] {
+        for (number, &price) in (first..).zip(prices) {
             write_words(&mut text, kind, &[number, price]);
         }
     }
@@ -31,11 +32,15 @@ pub fn fold_text(job: &[u16], inputs: &Inputs) -> Vec<u8> {
     text
 }
 
-/// Lines of kinds 1 and 2.
-fn job_lines(job: &[u16]) -> Vec<u8> {
-    let (head, items) = job.split_at(HEAD_NUMBERS);
+/// Lines of kinds 1, 10 and 2.
+pub fn job_lines(job: &[u16]) -> Vec<u8> {
+    let (board, items) = job.split_at(items_at(usize::from(job[2])));
+    let (head, sizes) = board.split_at(HEAD_NUMBERS);
     let mut text = Vec::new();
     write_words(&mut text, 1, head);
+    for (number, size) in (0..).zip(sizes.chunks(SIZE_NUMBERS)) {
+        write_words(&mut text, 10, &[&[number], size].concat());
+    }
     for (number, item) in (1..).zip(items.chunks(ITEM_NUMBERS)) {
         write_words(&mut text, 2, &[&[number], item].concat());
     }

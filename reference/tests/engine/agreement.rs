@@ -11,26 +11,31 @@ use crate::common::random::Random;
 use crate::common::refused;
 use crate::common::sets::random_set;
 use crate::common::texts::{
-    assert_text, job_text, layout_text, line, plan_text_of, price_text, refusal,
+    assert_text, job_text, layout_text, line, plan_text_of, price_text_on, refusal,
 };
 use reference::listing::FULL;
 use reference::{fold_text, saw_text, Job, Listing, Refusal};
 use std::collections::BTreeMap;
 
-/// A random job, and the same with a board or demands that the job row refuses, or with a type's
+/// A random job, and the same with a size or demands that the job row refuses, or with a type's
 /// leave or the blade changed, now and then.
 fn random_faulty_job(random: &mut Random) -> (Job, Job) {
     let good = random_job(random);
     let mut faulty = good.clone();
     if random.once_in(6) {
-        faulty.width = random.between(1, good.width);
-        faulty.height = random.between(1, good.height);
+        let which = random.below(good.sizes.len());
+        let size = &mut faulty.sizes[which];
+        size.width = random.between(1, size.width);
+        size.height = random.between(1, size.height);
     }
     if random.once_in(12) {
         faulty.items[0].demand = 4_000;
     }
     if random.once_in(6) {
         faulty.items[0].leave ^= true;
+    }
+    if random.once_in(8) {
+        faulty.sizes[0].cost = random.between(1, 4);
     }
     if random.once_in(8) {
         faulty.blade = random.between(0, 4);
@@ -138,9 +143,9 @@ fn saw_answer(
     lines: &[CountLine],
     prices: Option<&[u16]>,
 ) -> Result<Vec<u8>, Refusal> {
-    let first = u32::from(words[4]) + 2;
+    let first = u32::from(words[2] + words[3]) + 2;
     let without_leave = lines.iter().position(|line| {
-        let item = &words[4 * usize::from(line.item / 2) + 2..][..4];
+        let item = &plain::items(words)[4 * (usize::from(line.item / 2) - 1)..][..4];
         line.item % 2 == 1 && (item[3] == 0 || item[0] == item[1])
     });
     if let Some(index) = without_leave {
@@ -148,14 +153,16 @@ fn saw_answer(
     }
     lent.list(words)?;
     let counts = counts_of(words, lines, first)?;
-    let boards = lent.unfold(words, &counts)?.boards;
+    let cost = lent.test_plan(words, &counts)?.cost;
+    lent.unfold(words, &counts)?;
     let mut output = layout_text(&lent.lines());
     let last = match prices {
-        None => [8, boards, 0, 1, 0],
+        None => [8, cost, 0, 1, 0],
         Some(prices) => {
             let bound = lent.test_prices(words, prices)?;
-            let fewest = u32::from((boards - 1) * bound.d < bound.sum);
-            [8, boards, bound.sum, bound.d, fewest]
+            let less = u64::from(cost - 1) * u64::from(bound.d);
+            let cheapest = u32::from(less < u64::from(bound.sum));
+            [8, cost, bound.sum, bound.d, cheapest]
         }
     };
     output.extend(line(&last));
@@ -179,7 +186,7 @@ fn saw_texts_and_calls() {
         }
         let mut prices = area_prices(&good, &listing, 100);
         if random.once_in(4) {
-            prices.items[0] += random.between(0, 30);
+            prices.items[0] = (prices.items[0] + random.between(0, 30)).min(9_999);
         }
         if random.once_in(8) {
             prices.residuals.push(0);
@@ -189,7 +196,7 @@ fn saw_texts_and_calls() {
         let list = price_words(&prices);
         let priced = random.once_in(2);
         if priced {
-            text.extend(price_text(&prices));
+            text.extend(price_text_on(faulty.sizes.len(), &prices));
         }
         let answer = saw_answer(&mut lent, &words, &lines, priced.then_some(&list[..]));
         let number = answer.as_ref().err().map_or(0, |refused| refused.number);
@@ -205,11 +212,11 @@ fn saw_texts_and_calls() {
 }
 
 /// The answer that the calls give to the numbers of a fold text.
-fn fold_answer(lent: &mut Lent, words: &[u16], lines: &[[u16; 8]]) -> Vec<u8> {
+fn fold_answer(lent: &mut Lent, words: &[u16], lines: &[[u16; 9]]) -> Vec<u8> {
     match lent.fold(words, lines) {
         Ok(_) => plan_text_of(words, &lent.counts),
         Err(refused) if refused.number >= 15 => {
-            let before = u32::from(words[4]) + 1;
+            let before = u32::from(words[2] + words[3]) + 1;
             refusal(refused.number, refused.place + before)
         }
         Err(refused) => refusal(refused.number, refused.place),
@@ -226,12 +233,13 @@ fn fold_texts_and_calls() {
         let mut lines = check::lines(&good, &random_set(&mut random, &good));
         while random.once_in(2) && !lines.is_empty() {
             let index = random.below(lines.len());
-            match random.below(5) {
+            match random.below(6) {
                 0 => drop(lines.remove(index)),
-                1 => lines[index][4] = random.between(1, words[4]),
-                2 => lines[index][random.pick(&[5, 6])] = random.between(0, 9),
-                3 => lines[index][7] ^= 1,
-                _ => lines[index][random.below(4)] = random.between(1, 3),
+                1 => lines[index][5] = random.between(1, words[3]),
+                2 => lines[index][random.pick(&[6, 7])] = random.between(0, 9),
+                3 => lines[index][8] ^= 1,
+                4 => lines[index][1] = random.between(0, words[2] - 1),
+                _ => lines[index][random.pick(&[0, 2, 3, 4])] = random.between(1, 3),
             }
         }
         let mut text = job_text(&words);

@@ -1,5 +1,6 @@
 //! The area balance on random jobs: of every accepted plan the items, offcuts, waste and swath of
-//! each board make the board; where offcuts lie, and how many there are (document 02, Two and Four).
+//! each board make the board; where offcuts lie, and how many there are (document 02, Two, Four and
+//! Six).
 
 use crate::common::jobs::{random_blade_job_in, random_job_in, random_large_job, words_of};
 use crate::common::lent::Lent;
@@ -14,7 +15,8 @@ use reference::{Balance, Job, Lengths, Listing, Mode, Unfolded};
 
 /// Two lengths within their limits; most are reached by some offcuts and not by others.
 fn random_lengths(random: &mut Random, job: &Job) -> [u16; 2] {
-    [job.width, job.height].map(|side| random.between(1, side))
+    let size = job.sizes[0];
+    [size.width, size.height].map(|side| random.between(1, side))
 }
 
 /// The offcuts that the call wrote are those of the structured unfolding, have the sides of their
@@ -41,7 +43,7 @@ fn assert_records(job: &Job, listing: &Listing, counts: &[u16], lengths: [u16; 2
     unfolding.cuts
 }
 
-/// Of each plate type as many pieces are left over as arise and are not cut, and no board; all
+/// Of each plate type as many pieces are left over as arise and are not cut, and no size; all
 /// together as many as boards and kept residuals less the cuts.
 fn assert_numbers(job: &Job, listing: &Listing, counts: &[u16]) {
     let unfolding = unfold(job, listing, counts);
@@ -50,7 +52,9 @@ fn assert_numbers(job: &Job, listing: &Listing, counts: &[u16]) {
         over[usize::from(offcut.plate)] += 1;
     }
     let mut expected = vec![0; listing.plates.len()];
-    expected[0] = i32::from(unfolding.boards);
+    for &size in &unfolding.sizes {
+        expected[usize::from(size)] += 1;
+    }
     let [mut kept, mut cuts] = [0, 0];
     let (_, records) = plain::listing(&words_of(job));
     for ([plate, _, top, right], &count) in records.into_iter().zip(counts) {
@@ -62,9 +66,9 @@ fn assert_numbers(job: &Job, listing: &Listing, counts: &[u16]) {
         }
     }
     assert_eq!(over, expected);
-    assert_eq!(over[0], 0);
+    assert!(over[..job.sizes.len()].iter().all(|&many| many == 0));
     let left_over = unfolding.offcuts.len() as u32;
-    assert_eq!(left_over, u32::from(unfolding.boards) + kept - cuts);
+    assert_eq!(left_over, unfolding.sizes.len() as u32 + kept - cuts);
     assert!(left_over <= 8_000);
 }
 
@@ -72,11 +76,12 @@ fn assert_numbers(job: &Job, listing: &Listing, counts: &[u16]) {
 type Areas = [u64; 4];
 
 /// Items, offcuts, waste and swath of each board, in the structured balance and in plain sums, make
-/// the board. Gives the areas of all boards together.
-fn assert_balance(job: &Job, balances: &[Balance], parts: [&[Part]; 4]) -> Areas {
-    let whole = u64::from(job.width) * u64::from(job.height);
+/// the board's own W times H. Gives the areas of all boards together.
+fn assert_balance(job: &Job, sizes: &[u16], balances: &[Balance], parts: [&[Part]; 4]) -> Areas {
     let mut together = [0; 4];
-    for (board, balance) in (1..).zip(balances) {
+    for ((board, balance), &size) in (1..).zip(balances).zip(sizes) {
+        let size = job.sizes[usize::from(size)];
+        let whole = u64::from(size.width) * u64::from(size.height);
         let sums = parts.map(|parts| parts::area_on(board, parts));
         let [items, offcuts, waste, swath] = sums;
         assert_eq!([balance.items, balance.offcuts], [items, offcuts]);
@@ -103,17 +108,19 @@ fn assert_parts(job: &Job, counts: &[u16], lengths: [u16; 2], small: bool) -> Ar
     let mut lent = Lent::new();
     let unfolded = lent.unfold_with(&words, counts, lengths).unwrap();
     let items = parts::items(&words, &lent.lines());
+    let sizes = parts::sizes_of_boards(&lent.lines());
+    assert_eq!(sizes.len(), unfolded.boards as usize);
     let offcuts = parts::offcuts(&lent.left_over());
     let waste = parts::waste(&words, &items, &cuts);
     let swath = parts::swath(&words, &items, &cuts);
-    parts::assert_apart(&words, &[&items[..], &offcuts].concat());
+    parts::assert_apart(&words, &sizes, &[&items[..], &offcuts].concat());
     if small {
         let all = [&items[..], &offcuts, &waste, &swath].concat();
-        parts::assert_partition(&words, unfolded.boards, &all);
+        parts::assert_partition(&words, &sizes, &all);
     }
     let balances = of_boards(job, &listing, &unfold(job, &listing, counts));
     assert_eq!(balances.len(), unfolded.boards as usize);
-    assert_balance(job, &balances, [&items, &offcuts, &waste, &swath])
+    assert_balance(job, &sizes, &balances, [&items, &offcuts, &waste, &swath])
 }
 
 /// Random jobs in one mode, every other one with a blade of any width, each with a random plan;

@@ -1,6 +1,7 @@
 //! The blade has a width (document 02, Four): the worked cases, and wrong readings that they shut
 //! out.
 
+use crate::common::boards;
 use crate::common::jobs::{job, job_a, job_of, job_with_blade, PLAN_A};
 use crate::common::lent::{full_counts, Lent, LEAST};
 use crate::common::texts::{assert_text, job_text, layout_text, line, plan_text, refusal};
@@ -24,13 +25,13 @@ fn listed(residuals: u32, cuts: u32) -> Result<Listed, Refusal> {
 fn plates(words: &[u16]) -> Vec<[u16; 3]> {
     let mut lent = Lent::new();
     let listed = lent.list(words).unwrap();
-    let records = lent.plates.chunks_exact(3);
+    let records = lent.plates.chunks_exact(4);
     let plates = records.take(listed.residuals as usize + 1);
-    plates.map(|plate| plate.try_into().unwrap()).collect()
+    plates.map(|plate| plate[..3].try_into().unwrap()).collect()
 }
 
 /// The balance of each board of the plan that lines of a job fold into.
-fn balances(words: &[u16], lines: &[[u16; 8]]) -> Vec<Balance> {
+fn balances(words: &[u16], lines: &[[u16; 9]]) -> Vec<Balance> {
     let mut lent = Lent::new();
     lent.fold(words, lines).unwrap();
     let job = Job::from_words(words).unwrap();
@@ -77,9 +78,9 @@ fn the_blade_is_20_at_most_in_every_call_and_text() {
     }
     // The blade stands before every type, and every type before the lengths of unfolding.
     let mut words = job_a_with(21);
-    words[6] = 0;
+    words[8] = 0;
     assert_eq!(lent.unfold_with(&words, &PLAN_A, [0, 0]), refused(2, 0));
-    words[5] = 20;
+    words[4] = 20;
     assert_eq!(lent.unfold_with(&words, &PLAN_A, [0, 0]), refused(2, 1));
 }
 
@@ -91,11 +92,11 @@ fn two_items_and_the_blade_between_them_fill_a_strip() {
     let unfolded = lent.unfold(&words(11), &[1, 1]).unwrap();
     let found = (unfolded.boards, unfolded.pieces, unfolded.offcuts);
     assert_eq!(found, (1, 2, 0));
-    let second = [1, 1, 2, 1, 1, 6, 0, 0];
-    assert_eq!(lent.lines(), [[1, 1, 1, 1, 1, 0, 0, 0], second]);
+    let second = [1, 0, 1, 2, 1, 1, 6, 0, 0];
+    assert_eq!(lent.lines(), [[1, 0, 1, 1, 1, 1, 0, 0, 0], second]);
     // On a board of 10 the second does not fit, whichever way it is laid.
     assert_eq!(lent.list(&words(10)), listed(0, 1));
-    let first = [1, 1, 1, 1, 1, 0, 0, 0];
+    let first = [1, 0, 1, 1, 1, 1, 0, 0, 0];
     assert_eq!(lent.fold(&words(10), &[first, second]), refused(17, 1));
     // There is no blade at the edges: on a board of 12 nothing more fits either.
     assert_eq!(lent.list(&words(12)), listed(1, 2));
@@ -106,16 +107,16 @@ fn a_stack_with_the_blade_is_as_high_as_its_strip() {
     let words = job_with_blade(Mode::ThreeNonExact, [10, 10], 2, &[[4, 10, 1], [4, 4, 2]]);
     let layouts = |y| {
         [
-            [1, 1, 1, 1, 1, 0, 0, 0],
-            [1, 1, 2, 1, 2, 6, 0, 0],
-            [1, 1, 2, 2, 2, 6, y, 0],
+            [1, 0, 1, 1, 1, 1, 0, 0, 0],
+            [1, 0, 1, 2, 1, 2, 6, 0, 0],
+            [1, 0, 1, 2, 2, 2, 6, y, 0],
         ]
     };
     let mut lent = Lent::new();
-    assert_eq!(lent.fold(&words, &layouts(6)), Ok(1));
+    assert_eq!(lent.fold(&words, &layouts(6)), boards(1));
     assert_eq!(lent.counts[..7], [1, 0, 0, 1, 0, 0, 1]);
     let counts = lent.counts.clone();
-    assert_eq!(lent.test_plan(&words, &counts), Ok(1));
+    assert_eq!(lent.test_plan(&words, &counts), boards(1));
     lent.unfold(&words, &counts).unwrap();
     assert_eq!(lent.lines(), layouts(6));
     // A wider gap and a narrower one are no slack.
@@ -128,16 +129,16 @@ fn a_stack_with_the_blade_is_as_high_as_its_strip() {
 fn every_gap_is_as_wide_as_the_blade() {
     let words = job_with_blade(Mode::ThreeNonExact, [30, 30], 3, &[[4, 9, 1], [5, 3, 1]]);
     let layouts = [
-        [1, 1, 1, 1, 1, 0, 0, 0],
-        [1, 1, 2, 1, 2, 7, 0, 0],
-        [1, 1, 2, 2, 2, 7, 6, 0],
-        [1, 1, 3, 1, 1, 15, 0, 0],
-        [1, 2, 1, 1, 2, 0, 12, 0],
+        [1, 0, 1, 1, 1, 1, 0, 0, 0],
+        [1, 0, 1, 2, 1, 2, 7, 0, 0],
+        [1, 0, 1, 2, 2, 2, 7, 6, 0],
+        [1, 0, 1, 3, 1, 1, 15, 0, 0],
+        [1, 0, 2, 1, 1, 2, 0, 12, 0],
     ];
     let mut lent = Lent::new();
-    assert_eq!(lent.fold(&words, &layouts), Ok(1));
+    assert_eq!(lent.fold(&words, &layouts), boards(1));
     for index in 0..layouts.len() {
-        for column in [5, 6] {
+        for column in [6, 7] {
             for by in [1, 2, 3, 4] {
                 let mut wider = layouts;
                 wider[index][column] += by;
@@ -160,9 +161,9 @@ fn gaps_count_in_the_strips_height_that_a_single_item_has() {
         let items = [[4, lead, 1], [4, 4, 2]];
         let words = job_with_blade(Mode::ThreeNonExact, [20, 20], 2, &items);
         let layouts = [
-            [1, 1, 1, 1, 1, 0, 0, 0],
-            [1, 1, 2, 1, 2, 6, 0, 0],
-            [1, 1, 2, 2, 2, 6, 6, 0],
+            [1, 0, 1, 1, 1, 1, 0, 0, 0],
+            [1, 0, 1, 2, 1, 2, 6, 0, 0],
+            [1, 0, 1, 2, 2, 2, 6, 6, 0],
         ];
         let answer = Lent::new().fold(&words, &layouts);
         let found = answer.map_or_else(|refusal| refusal.number, |_| 0);
@@ -170,26 +171,26 @@ fn gaps_count_in_the_strips_height_that_a_single_item_has() {
     }
     // Two stages: in 2E the strip is as high as its items, whatever the blade.
     let words = job_with_blade(Mode::TwoExact, [20, 20], 7, &[[4, 3, 2]]);
-    let layouts = [[1, 1, 1, 1, 1, 0, 0, 0], [1, 1, 2, 1, 1, 11, 0, 0]];
-    assert_eq!(Lent::new().fold(&words, &layouts), Ok(1));
+    let layouts = [[1, 0, 1, 1, 1, 1, 0, 0, 0], [1, 0, 1, 2, 1, 1, 11, 0, 0]];
+    assert_eq!(Lent::new().fold(&words, &layouts), boards(1));
 }
 
 #[test]
 fn gaps_count_against_both_sides_of_the_board() {
-    let fold = |board, blade, layouts: &[[u16; 8]]| {
+    let fold = |board, blade, layouts: &[[u16; 9]]| {
         let words = job_with_blade(Mode::TwoNonExact, board, blade, &[[3, 3, 3]]);
         Lent::new().fold(&words, layouts)
     };
-    let across = |step| [0, 1, 2].map(|k| [1, 1, k + 1, 1, 1, step * k, 0, 0]);
-    assert_eq!(fold([13, 3], 2, &across(5)), Ok(1));
+    let across = |step| [0, 1, 2].map(|k| [1, 0, 1, k + 1, 1, 1, step * k, 0, 0]);
+    assert_eq!(fold([13, 3], 2, &across(5)), boards(1));
     assert_eq!(fold([12, 3], 2, &across(5)), refused(17, 1));
-    let upwards = |step| [0, 1, 2].map(|k| [1, k + 1, 1, 1, 1, 0, step * k, 0]);
-    assert_eq!(fold([3, 13], 2, &upwards(5)), Ok(1));
+    let upwards = |step| [0, 1, 2].map(|k| [1, 0, k + 1, 1, 1, 1, 0, step * k, 0]);
+    assert_eq!(fold([3, 13], 2, &upwards(5)), boards(1));
     // Of the strips the third is the first whose own top edge is too high.
     assert_eq!(fold([3, 12], 2, &upwards(5)), refused(17, 3));
     assert_eq!(fold([3, 7], 2, &upwards(5)), refused(17, 2));
     // A gap is added after the strips below alone: 3 + 20 + 3 is 26.
-    let two = |step: u16| [[1, 1, 1, 1, 1, 0, 0, 0], [1, 2, 1, 1, 1, 0, step, 0]];
+    let two = |step: u16| [[1, 0, 1, 1, 1, 1, 0, 0, 0], [1, 0, 2, 1, 1, 1, 0, step, 0]];
     assert_eq!(fold([3, 26], 20, &two(23)), refused(11, 1));
     assert_eq!(fold([3, 25], 20, &two(23)), refused(17, 2));
 }
@@ -214,12 +215,12 @@ fn the_blade_is_no_part_of_a_stacks_width() {
     // Stacks of 3 and 4, the second of two widths, with the blade between them: 9 across.
     let items = [[3, 8, 1], [4, 3, 1], [2, 3, 1]];
     let layouts = [
-        [1, 1, 1, 1, 1, 0, 0, 0],
-        [1, 1, 2, 1, 2, 5, 0, 0],
-        [1, 1, 2, 2, 3, 5, 5, 0],
+        [1, 0, 1, 1, 1, 1, 0, 0, 0],
+        [1, 0, 1, 2, 1, 2, 5, 0, 0],
+        [1, 0, 1, 2, 2, 3, 5, 5, 0],
     ];
     let words = |width| job_with_blade(Mode::ThreeNonExact, [width, 8], 2, &items);
-    assert_eq!(Lent::new().fold(&words(9), &layouts), Ok(1));
+    assert_eq!(Lent::new().fold(&words(9), &layouts), boards(1));
     assert_eq!(Lent::new().fold(&words(8), &layouts), refused(17, 1));
 }
 
@@ -227,19 +228,19 @@ fn the_blade_is_no_part_of_a_stacks_width() {
 fn a_trim_needs_no_blade() {
     // In 2N the second item is lower by 1 than its strip, in 3N narrower by 1 than its stack.
     let words = job_with_blade(Mode::TwoNonExact, [18, 9], 2, &[[8, 9, 1], [8, 8, 1]]);
-    let layouts = [[1, 1, 1, 1, 1, 0, 0, 0], [1, 1, 2, 1, 2, 10, 0, 0]];
-    assert_eq!(Lent::new().fold(&words, &layouts), Ok(1));
+    let layouts = [[1, 0, 1, 1, 1, 1, 0, 0, 0], [1, 0, 1, 2, 1, 2, 10, 0, 0]];
+    assert_eq!(Lent::new().fold(&words, &layouts), boards(1));
     let items = [[4, 10, 1], [4, 4, 1], [3, 4, 1]];
     let words = job_with_blade(Mode::ThreeNonExact, [10, 10], 2, &items);
     let layouts = [
-        [1, 1, 1, 1, 1, 0, 0, 0],
-        [1, 1, 2, 1, 2, 6, 0, 0],
-        [1, 1, 2, 2, 3, 6, 6, 0],
+        [1, 0, 1, 1, 1, 1, 0, 0, 0],
+        [1, 0, 1, 2, 1, 2, 6, 0, 0],
+        [1, 0, 1, 2, 2, 3, 6, 6, 0],
     ];
     let mut lent = Lent::new();
-    assert_eq!(lent.fold(&words, &layouts), Ok(1));
+    assert_eq!(lent.fold(&words, &layouts), boards(1));
     let counts = lent.counts.clone();
-    assert_eq!(lent.test_plan(&words, &counts), Ok(1));
+    assert_eq!(lent.test_plan(&words, &counts), boards(1));
 }
 
 #[test]
@@ -297,8 +298,8 @@ fn a_blade_above_every_side_leaves_one_item_to_a_board() {
         let mut lent = Lent::new();
         assert_eq!(lent.list(&words), listed(0, 3));
         assert_eq!(lent.unfold(&words, &[1, 1, 1]).unwrap().boards, 3);
-        let first = [1, 1, 1, 1, 1, 0, 0, 0];
-        for second in [[1, 1, 2, 1, 1, 23, 0, 0], [1, 2, 1, 1, 1, 0, 22, 0]] {
+        let first = [1, 0, 1, 1, 1, 1, 0, 0, 0];
+        for second in [[1, 0, 1, 2, 1, 1, 23, 0, 0], [1, 0, 2, 1, 1, 1, 0, 22, 0]] {
             let refusal = lent.fold(&words, &[first, second]).unwrap_err();
             assert_eq!(refusal.number, 17);
         }
@@ -318,7 +319,7 @@ fn what_remains_less_the_blade_does_not_wrap() {
 fn an_item_that_leaves_less_than_the_blade_has_swath_alone() {
     for mode in Mode::ALL {
         let words = job_with_blade(mode, [10, 10], 3, &[[8, 9, 1]]);
-        let found = balances(&words, &[[1, 1, 1, 1, 1, 0, 0, 0]]);
+        let found = balances(&words, &[[1, 0, 1, 1, 1, 1, 0, 0, 0]]);
         assert_eq!(found, [balance([72, 0, 0, 10 + 2 * 9])]);
     }
 }
@@ -326,16 +327,16 @@ fn an_item_that_leaves_less_than_the_blade_has_swath_alone() {
 #[test]
 fn the_swath_stops_at_a_trim() {
     let words = job_with_blade(Mode::TwoNonExact, [20, 10], 2, &[[8, 9, 1], [8, 6, 1]]);
-    let layouts = [[1, 1, 1, 1, 1, 0, 0, 0], [1, 1, 2, 1, 2, 10, 0, 0]];
+    let layouts = [[1, 0, 1, 1, 1, 1, 0, 0, 0], [1, 0, 1, 2, 1, 2, 10, 0, 0]];
     let found = balances(&words, &layouts);
     assert_eq!(found, [balance([72 + 48, 0, 10 * 3, 20 + 2 * 9 + 2 * 6])]);
     // At stage 3: a post of 3 by 20, then 8 by 7 and 5 by 7 in one stack, on 15 by 20.
     let items = [[3, 20, 1], [8, 7, 1], [5, 7, 1]];
     let words = job_with_blade(Mode::ThreeNonExact, [15, 20], 2, &items);
     let layouts = [
-        [1, 1, 1, 1, 1, 0, 0, 0],
-        [1, 1, 2, 1, 2, 5, 0, 0],
-        [1, 1, 2, 2, 3, 5, 9, 0],
+        [1, 0, 1, 1, 1, 1, 0, 0, 0],
+        [1, 0, 1, 2, 1, 2, 5, 0, 0],
+        [1, 0, 1, 2, 2, 3, 5, 9, 0],
     ];
     let found = balances(&words, &layouts);
     // Beside the post 2 by 20, beside the stack 2 by 20, above 8 by 2, above 5 by 2. What remains
@@ -364,15 +365,15 @@ fn offcuts_begin_beyond_the_blade() {
 fn texts_with_a_blade() {
     let words = job_with_blade(Mode::TwoNonExact, [11, 9], 1, &[[5, 4, 3]]);
     let head = job_text(&words);
-    assert_eq!(head.len(), 64 + 55);
-    assert_eq!(&head[54..64], b"        1\n");
+    assert_eq!(head.len(), 55 + 46 + 55);
+    assert_eq!(&head[45..55], b"        1\n");
     let plates = [[11, 9, 1], [11, 4, 1], [5, 4, 2]];
     let cuts = [[0, 2, 1, 2], [1, 2, 0, 2], [2, 2, 0, 0]];
     let plan = plan_text(&plates, &cuts, &[1, 1, 1]);
     let placed = layout_text(&[
-        [1, 1, 1, 1, 1, 0, 0, 0],
-        [1, 1, 2, 1, 1, 6, 0, 0],
-        [1, 2, 1, 1, 1, 0, 5, 0],
+        [1, 0, 1, 1, 1, 1, 0, 0, 0],
+        [1, 0, 1, 2, 1, 1, 6, 0, 0],
+        [1, 0, 2, 1, 1, 1, 0, 5, 0],
     ]);
     let last = line(&[8, 1, 0, 1, 0]);
     let saw = [head.clone(), plan.clone()].concat();
@@ -381,14 +382,14 @@ fn texts_with_a_blade() {
     assert_text(&fold_text(&fold), &plan);
     // The same layouts under a line 1 with another blade.
     let mut other = fold;
-    other[62] = b'2';
-    assert_text(&fold_text(&other), &refusal(17, 3));
+    other[53] = b'2';
+    assert_text(&fold_text(&other), &refusal(17, 4));
 }
 
 #[test]
 fn without_a_blade_job_a_is_that_of_document_01() {
     assert_eq!(job_a_with(0), job_a());
-    assert_eq!(Lent::new().test_plan(&job_a_with(0), &PLAN_A), Ok(2));
+    assert_eq!(Lent::new().test_plan(&job_a_with(0), &PLAN_A), boards(2));
     // With a blade the plan's counts name other cuts, and more of them.
     let past = full_counts(&PLAN_A);
     assert_eq!(Lent::new().test_plan(&job_a_with(1), &past), refused(8, 7));

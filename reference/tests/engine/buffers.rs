@@ -9,12 +9,12 @@ use crate::common::plain;
 use crate::common::refused;
 use reference::{Mode, Refusal};
 
-const LINES: [[u16; 8]; 5] = [
-    [1, 1, 1, 1, 1, 0, 0, 0],
-    [1, 1, 2, 1, 2, 5, 0, 0],
-    [1, 2, 1, 1, 2, 0, 4, 0],
-    [1, 2, 2, 1, 2, 3, 4, 0],
-    [2, 1, 1, 1, 1, 0, 0, 0],
+const LINES: [[u16; 9]; 5] = [
+    [1, 0, 1, 1, 1, 1, 0, 0, 0],
+    [1, 0, 1, 2, 1, 2, 5, 0, 0],
+    [1, 0, 2, 1, 1, 2, 0, 4, 0],
+    [1, 0, 2, 2, 1, 2, 3, 4, 0],
+    [2, 0, 1, 1, 1, 1, 0, 0, 0],
 ];
 
 /// The offcuts of the same plan, all of them usable with the least lengths.
@@ -74,7 +74,7 @@ impl Call {
         let placements = (self == Call::Unfold).then(|| LINES.concat());
         let offcuts = (self == Call::Unfold).then(|| LEFT_OVER.concat());
         [
-            Some(plates.concat()),
+            Some(plain::plate_words(&job_a(), &plates)),
             Some(cuts.concat()),
             counts,
             placements,
@@ -161,7 +161,7 @@ fn refused_jobs() -> Vec<(Vec<u16>, [u32; 5])> {
     let plates = job(Mode::TwoNonExact, [2_000, 2_000], &[[1, 1, 1], [1, 1, 1]]);
     let large = job(Mode::TwoNonExact, [4, 7], &[[5, 4, 2], [3, 3, 3]]);
     let mut outside = job_a();
-    outside[8] = 0;
+    outside[10] = 0;
     vec![
         (high, [0, 11, 0, 11, 11]),
         (plates, [6; 5]),
@@ -201,7 +201,7 @@ fn old_contents_have_no_influence() {
         reference::list(&other, plates, cuts).unwrap();
         assert_eq!(call.make(&job_a(), &mut used), Ok(()));
         let (plates, cuts) = plain::listing(&job_a());
-        assert!(holds(&used[0], &plates.concat()));
+        assert!(holds(&used[0], &plain::plate_words(&job_a(), &plates)));
         assert!(holds(&used[1], &cuts.concat()));
     }
 }

@@ -1,7 +1,9 @@
 //! Cases (a) to (m) of document 01, at the level of the five calls.
 
+use crate::common::boards;
 use crate::common::jobs::{job, job_a, job_b, PLAN_A, PRICES_A};
 use crate::common::lent::Lent;
+use crate::common::plain;
 use crate::common::refused;
 use reference::{Bound, Listed, Mode, Unfolded};
 
@@ -40,13 +42,13 @@ fn a_job_a_has_5_residual_types_and_8_cuts() {
         [4, 4, 0, 5],
         [5, 4, 0, 0],
     ];
-    assert_eq!(lent.plates[..18], plates.concat());
+    assert_eq!(lent.plates[..24], plain::plate_words(&job_a(), &plates));
     assert_eq!(lent.cuts[..32], cuts.concat());
 }
 
 #[test]
 fn b_its_plan_opens_2_boards() {
-    assert_eq!(Lent::new().test_plan(&job_a(), &PLAN_A), Ok(2));
+    assert_eq!(Lent::new().test_plan(&job_a(), &PLAN_A), boards(2));
     let unfolded = Unfolded {
         boards: 2,
         pieces: 5,
@@ -58,7 +60,7 @@ fn b_its_plan_opens_2_boards() {
 #[test]
 fn c_cut_4_at_2_is_accepted() {
     let counts = plan_a(&[(4, 2)]);
-    assert_eq!(Lent::new().test_plan(&job_a(), &counts), Ok(2));
+    assert_eq!(Lent::new().test_plan(&job_a(), &counts), boards(2));
 }
 
 #[test]
@@ -115,7 +117,7 @@ fn j_job_a_in_2e_has_4_residual_types_and_7_cuts() {
     };
     assert_eq!(lent.list(&exact), Ok(listed));
     let plates = [[9, 7, 1], [9, 3, 1], [9, 4, 1], [6, 3, 2], [3, 3, 2]];
-    assert_eq!(lent.plates[..15], plates.concat());
+    assert_eq!(lent.plates[..20], plain::plate_words(&exact, &plates));
 }
 
 #[test]
@@ -127,7 +129,7 @@ fn k_job_b_has_4_residual_types_and_6_cuts() {
     };
     assert_eq!(lent.list(&job_b()), Ok(listed));
     let plates = [[5, 5, 1], [2, 5, 2], [5, 3, 1], [3, 2, 2], [2, 3, 3]];
-    assert_eq!(lent.plates[..15], plates.concat());
+    assert_eq!(lent.plates[..20], plain::plate_words(&job_b(), &plates));
 }
 
 #[test]
@@ -141,12 +143,12 @@ fn l_job_b_lies_on_one_board() {
     };
     assert_eq!(lent.unfold(&job_b(), &counts), Ok(unfolded));
     let lines = [
-        [1, 1, 1, 1, 1, 0, 0, 0],
-        [1, 1, 2, 1, 2, 3, 0, 0],
-        [1, 1, 2, 2, 2, 3, 2, 0],
+        [1, 0, 1, 1, 1, 1, 0, 0, 0],
+        [1, 0, 1, 2, 1, 2, 3, 0, 0],
+        [1, 0, 1, 2, 2, 2, 3, 2, 0],
     ];
     assert_eq!(lent.lines(), lines);
-    assert_eq!(lent.fold(&job_b(), &lines), Ok(1));
+    assert_eq!(lent.fold(&job_b(), &lines), boards(1));
     assert_eq!(lent.counts[..6], counts);
 }
 

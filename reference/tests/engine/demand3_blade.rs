@@ -1,7 +1,7 @@
 //! Demand 3 with a blade of any width within its limits, on boards of 1 to 25: both halves, with
 //! rectangles at least the blade apart (document 02, Four). The blade is often wider than every side.
 
-use crate::common::check;
+use crate::common::check::{self, Line};
 use crate::common::jobs::{random_blade_job_in, words_of};
 use crate::common::lent::Lent;
 use crate::common::plans::random_plan;
@@ -15,7 +15,7 @@ use reference::{Job, Listing, Mode};
 
 /// Lines of a good set that differ in positions alone are refused for the first that differs.
 /// Gives whether one does.
-fn assert_other_gaps(lent: &mut Lent, job: &Job, good: &[[u16; 8]], other: &[[u16; 8]]) -> bool {
+fn assert_other_gaps(lent: &mut Lent, job: &Job, good: &[Line], other: &[Line]) -> bool {
     let differs = good.iter().zip(other).position(|(one, two)| one != two);
     if let Some(index) = differs {
         let answer = lent.fold(&words_of(job), other);
@@ -36,7 +36,8 @@ fn both_halves(mode: Mode, seed: u64) {
         assert_folding(&mut lent, &job, &listing, &set);
         let counts = random_plan(&mut random, &job, &listing);
         assert_unfolding(&mut lent, &job, &listing, &counts);
-        above += usize::from(job.blade > job.width.max(job.height));
+        let longest = job.sizes.iter().map(|size| size.width.max(size.height));
+        above += usize::from(job.blade > longest.max().unwrap());
         let lines = check::lines(&job, &set);
         let boards = lines.last().map_or(0, |line| usize::from(line[0]));
         gaps += usize::from(job.blade > 0 && lines.len() > boards);

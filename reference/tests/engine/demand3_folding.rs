@@ -1,9 +1,11 @@
 //! Demand 3, second half, on random jobs: every set of layouts that keeps the rules and meets
-//! the demands folds into an accepted plan with the set's boards and items.
+//! the demands folds into an accepted plan with the set's boards of each size
+//! and its items.
 
 use crate::common::check;
 use crate::common::jobs::{random_job_in, random_large_job, words_of};
 use crate::common::lent::Lent;
+use crate::common::outlay;
 use crate::common::plain;
 use crate::common::random::Random;
 use crate::common::sets::random_set;
@@ -19,26 +21,30 @@ pub fn assert_folding(lent: &mut Lent, job: &Job, listing: &Listing, set: &[Boar
     assert!(set.iter().all(|board| keeps_rules(job, board)));
     let lines = check::lines(job, set);
     check::rectangles_apart(job, &lines);
-    let structured: Vec<[u16; 8]> = placements(job, set).iter().map(Placement::words).collect();
+    let structured: Vec<check::Line> = placements(job, set).iter().map(Placement::words).collect();
     assert_eq!(structured, lines);
-    let boards = set.len() as u32;
-    assert_eq!(lent.fold(&words, &lines), Ok(boards));
+    let cuts = plain::listing(&words).1;
+    let boards = check::boards_of_sizes(job, &lines, false);
+    let cost = check::cost_of(job, &boards);
+    let opened = outlay(set.len() as u32, cost);
+    assert_eq!(lent.fold(&words, &lines), opened);
     let counts = lent.counts[..listing.cuts.len()].to_vec();
     assert_eq!(counts, fold(job, listing, set));
-    assert_eq!(lent.test_plan(&words, &counts), Ok(boards));
+    assert_eq!(check::boards_of_counts(job, &cuts, &counts), boards);
+    assert_eq!(lent.test_plan(&words, &counts), opened);
     let laid = check::laid(job, &lines);
     assert_eq!(cut_of_type(job, listing, &counts), laid);
     let laid_in_turns = check::laid_in_turns(job, &lines);
-    let cuts = plain::listing(&words).1;
     let cut_in_turns = check::cut_in_turns(job, &cuts, &counts);
     assert_eq!(cut_in_turns, laid_in_turns);
     // The unfolding of the plan is another such set.
     let unfolded = lent.unfold(&words, &counts).unwrap();
-    assert_eq!(unfolded.boards, boards);
+    assert_eq!(unfolded.boards, set.len() as u32);
     let unfolded = lent.lines();
+    assert_eq!(check::boards_of_sizes(job, &unfolded, true), boards);
     assert_eq!(check::laid(job, &unfolded), laid);
     assert_eq!(check::laid_in_turns(job, &unfolded), laid_in_turns);
-    assert_eq!(lent.fold(&words, &unfolded), Ok(boards));
+    assert_eq!(lent.fold(&words, &unfolded), opened);
     assert_eq!(lent.counts[..counts.len()], counts);
 }
 
@@ -55,18 +61,25 @@ fn cut_of_type(job: &Job, listing: &Listing, counts: &[u16]) -> Vec<u32> {
 fn fold_random_sets(mode: Mode, seed: u64) {
     let mut random = Random::new(seed);
     let mut lent = Lent::new();
-    let [mut stacked, mut turned] = [0; 2];
+    let [mut stacked, mut turned, mut falling] = [0; 3];
     for _ in 0..6_000 {
         let job = random_job_in(&mut random, mode);
         let listing = Listing::walk(&job, FULL).unwrap();
         let set = random_set(&mut random, &job);
         assert_folding(&mut lent, &job, &listing, &set);
-        let stacks = set.iter().flatten().flatten();
+        let strips = || set.iter().flat_map(|board| &board.strips);
+        let stacks = strips().flatten();
         stacked += stacks.filter(|stack| stack.len() > 1).count();
-        let pieces = set.iter().flatten().flatten().flatten();
+        let pieces = strips().flatten().flatten();
         turned += pieces.filter(|piece| piece.turned).count();
+        let falls = set.windows(2).any(|pair| pair[0].size > pair[1].size);
+        falling += usize::from(falls);
     }
     assert!(turned > 5_000, "{turned} pieces are turned");
+    assert!(
+        falling > 500,
+        "{falling} sets have a size below the one before"
+    );
     assert_eq!(stacked > 1_000, !mode.is_two_stage());
 }
 

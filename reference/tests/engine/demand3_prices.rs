@@ -1,5 +1,5 @@
-//! Demand 3, prices: every set of layouts that keeps the rules and meets the demands uses at
-//! least as many boards as the bound of every accepted price list.
+//! Demand 3, prices: every set of layouts that keeps the rules and meets the demands costs at
+//! least as much as the bound of every accepted price list.
 
 use crate::common::check;
 use crate::common::jobs::{random_job_in, words_of};
@@ -24,16 +24,16 @@ fn plain_bound(job: &Job, prices: &Prices) -> Bound {
 }
 
 /// The lowest cut over its limit, written plainly over the listing's words.
-fn plain_test(listing: &Listing, prices: &Prices) -> Option<u32> {
+fn plain_test(job: &Job, listing: &Listing, prices: &Prices) -> Option<u32> {
     let words = price_words(prices);
     let residuals = 1 + prices.items.len();
-    let price = |plate: u16| u32::from(words[residuals + usize::from(plate) - 1]);
+    let price = |plate: u16| u32::from(words[residuals + usize::from(plate) - job.sizes.len()]);
     let kept = |plate: u16| if plate == 0 { 0 } else { price(plate) };
     let over = listing.cut_words().chunks(4).position(|cut| {
         let spent = u32::from(words[usize::from(cut[1] / 2)]) + kept(cut[2]) + kept(cut[3]);
-        let limit = match cut[0] {
-            0 => u32::from(words[0]),
-            plate => price(plate),
+        let limit = match job.sizes.get(usize::from(cut[0])) {
+            Some(size) => u32::from(words[0]) * u32::from(size.cost),
+            None => price(cut[0]),
         };
         spent > limit
     });
@@ -42,7 +42,7 @@ fn plain_test(listing: &Listing, prices: &Prices) -> Option<u32> {
 
 /// Tests a price list by the call and plainly; where it is accepted, gives its bound.
 fn tested(lent: &mut Lent, job: &Job, listing: &Listing, prices: &Prices) -> Option<Bound> {
-    let expected = match plain_test(listing, prices) {
+    let expected = match plain_test(job, listing, prices) {
         None => Ok(plain_bound(job, prices)),
         Some(place) => Err(Refusal { number: 14, place }),
     };
@@ -51,17 +51,22 @@ fn tested(lent: &mut Lent, job: &Job, listing: &Listing, prices: &Prices) -> Opt
     answer.ok()
 }
 
-/// Numbers of boards of sets that meet the demands: some made from the rules, some unfolded.
-fn boards_of_sets(random: &mut Random, lent: &mut Lent, job: &Job, listing: &Listing) -> Vec<u32> {
-    let mut boards = Vec::new();
+/// Costs of sets that meet the demands: some made from the rules, some unfolded.
+fn costs_of_sets(random: &mut Random, lent: &mut Lent, job: &Job, listing: &Listing) -> Vec<u32> {
+    let mut costs = Vec::new();
+    let cost = |lines: &[check::Line]| {
+        let boards = check::boards_of_sizes(job, lines, false);
+        check::cost_of(job, &boards)
+    };
     for _ in 0..2 {
         let set = random_set(random, job);
         assert!(check::keeps_rules(job, &set));
-        boards.push(set.len() as u32);
+        costs.push(cost(&check::lines(job, &set)));
         let counts = random_plan(random, job, listing);
-        boards.push(lent.unfold(&words_of(job), &counts).unwrap().boards);
+        lent.unfold(&words_of(job), &counts).unwrap();
+        costs.push(cost(&lent.lines()));
     }
-    boards
+    costs
 }
 
 /// Random jobs in one mode with price lists of every make.
@@ -72,7 +77,7 @@ fn bound_random_sets(mode: Mode, seed: u64) {
     for _ in 0..6_000 {
         let job = random_job_in(&mut random, mode);
         let listing = Listing::walk(&job, FULL).unwrap();
-        let boards = boards_of_sets(&mut random, &mut lent, &job, &listing);
+        let costs = costs_of_sets(&mut random, &mut lent, &job, &listing);
         let denominator = random.pick(&[1, 10, 997, 9_999]);
         let area = area_prices(&job, &listing, denominator);
         assert!(tested(&mut lent, &job, &listing, &area).is_some());
@@ -89,9 +94,15 @@ fn bound_random_sets(mode: Mode, seed: u64) {
                 continue;
             };
             accepted += 1;
-            for &used in &boards {
-                assert!(used * bound.d >= bound.sum, "{used} boards under {bound:?}");
-                tight += usize::from(bound.is_fewest(used));
+            let least = costs.iter().min().unwrap();
+            for &cost in &costs {
+                assert!(
+                    cost * bound.d >= bound.sum,
+                    "a cost of {cost} under {bound:?}"
+                );
+                let cheapest = bound.is_cheapest(cost);
+                assert!(!cheapest || cost == *least);
+                tight += usize::from(cheapest);
             }
         }
     }

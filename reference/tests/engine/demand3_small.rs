@@ -1,6 +1,7 @@
 //! Demand 3 without chance: all boards and all small plans of a few small jobs, without a blade and
-//! with one.
+//! with one, on boards of one size (several sizes: `sizes_small`).
 
+use crate::common::boards;
 use crate::common::check;
 use crate::common::jobs::job_of;
 use crate::common::lent::Lent;
@@ -44,7 +45,7 @@ const SMALL: [Small; 24] = [
 
 /// All sequences of the parts whose measures, with the blade between neighbours, add up to at most
 /// the room, the empty one too.
-fn sequences<T: Clone>(parts: &[(T, u16)], blade: u16, room: u16) -> Vec<Vec<T>> {
+pub fn sequences<T: Clone>(parts: &[(T, u16)], blade: u16, room: u16) -> Vec<Vec<T>> {
     let mut all = vec![vec![]];
     for (part, measure) in parts {
         if *measure <= room {
@@ -57,8 +58,9 @@ fn sequences<T: Clone>(parts: &[(T, u16)], blade: u16, room: u16) -> Vec<Vec<T>>
     all
 }
 
-/// All boards, whatever the stage rule, whose stacks and strips fit the board.
-fn all_boards(structured: &Job) -> Vec<Board> {
+/// All boards of a size, whatever the stage rule, whose stacks and strips fit the size.
+pub fn all_boards(structured: &Job, number: u16) -> Vec<Board> {
+    let size = structured.sizes[usize::from(number)];
     let item = |position: Position| structured.sides(position);
     let positions = [1, 2].map(|number| [Position::unturned(number), Position::turned(number)]);
     let positions = positions.into_iter().flatten();
@@ -68,7 +70,7 @@ fn all_boards(structured: &Job) -> Vec<Board> {
         .collect();
     let filled = |stack: &Stack| !stack.is_empty();
     let blade = structured.blade;
-    let stacks: Vec<Stack> = sequences(&items, blade, structured.height)
+    let stacks: Vec<Stack> = sequences(&items, blade, size.height)
         .into_iter()
         .filter(filled)
         .collect();
@@ -89,7 +91,7 @@ fn all_boards(structured: &Job) -> Vec<Board> {
         .iter()
         .map(|stack| (stack.clone(), wide(stack)))
         .collect();
-    let strips: Vec<(Strip, u16)> = sequences(&with_widths, blade, structured.width)
+    let strips: Vec<(Strip, u16)> = sequences(&with_widths, blade, size.width)
         .into_iter()
         .filter(|strip| !strip.is_empty())
         .map(|strip| {
@@ -97,8 +99,13 @@ fn all_boards(structured: &Job) -> Vec<Board> {
             (strip, height)
         })
         .collect();
-    let boards = sequences(&strips, blade, structured.height).into_iter();
-    boards.filter(|board| !board.is_empty()).collect()
+    let boards = sequences(&strips, blade, size.height).into_iter();
+    let boards = boards.filter(|strips| !strips.is_empty());
+    let board = |strips| Board {
+        size: number,
+        strips,
+    };
+    boards.map(board).collect()
 }
 
 /// Folds a board, followed by one board for each type so that the demands are met.
@@ -107,14 +114,17 @@ fn assert_board_folds(lent: &mut Lent, words: &[u16], board: &Board) {
     let alone = |number: u16| {
         let mut positions = structured.positions_of(number);
         let fitting = positions.find(|&position| structured.fits(position));
-        vec![vec![vec![fitting.unwrap()]]]
+        Board {
+            size: 0,
+            strips: vec![vec![vec![fitting.unwrap()]]],
+        }
     };
     let set = [board.clone(), alone(1), alone(2)];
     let lines = check::lines(&structured, &set);
-    assert_eq!(lent.fold(words, &lines), Ok(3));
+    assert_eq!(lent.fold(words, &lines), boards(3));
     let cuts = plain::listing(words).1;
     let counts = lent.counts[..cuts.len()].to_vec();
-    assert_eq!(plain::accepts(words, &counts), Some(3));
+    assert_eq!(plain::accepts(words, &counts), Some([3, 3]));
     let cut_in_turns = check::cut_in_turns(&structured, &cuts, &counts);
     assert_eq!(cut_in_turns, check::laid_in_turns(&structured, &lines));
 }
@@ -127,7 +137,7 @@ fn all_boards_of_small_jobs() {
         for (sides, blade, items) in SMALL {
             let words = job_of(mode, sides, blade, &items);
             let structured = Job::from_words(&words).unwrap();
-            for board in all_boards(&structured) {
+            for board in all_boards(&structured, 0) {
                 let keeps = check::keeps_rules(&structured, std::slice::from_ref(&board));
                 assert_eq!(keeps_rules(&structured, &board), keeps);
                 if keeps {
@@ -146,7 +156,7 @@ fn all_boards_of_small_jobs() {
 }
 
 /// All counts of at most so many cuts together.
-fn all_counts(cuts: usize, most: u16) -> Vec<Vec<u16>> {
+pub fn all_counts(cuts: usize, most: u16) -> Vec<Vec<u16>> {
     if cuts == 0 {
         return vec![vec![]];
     }
@@ -172,15 +182,16 @@ fn all_small_plans_of_small_jobs() {
             let most = if cuts > 10 { 3 } else { 4 };
             let mut sets = HashSet::new();
             for counts in all_counts(cuts, most) {
-                let boards = plain::accepts(&words, &counts);
-                assert_eq!(lent.test_plan(&words, &counts).ok(), boards);
-                let Some(boards) = boards else { continue };
+                let opened = plain::accepts(&words, &counts);
+                let tested = lent.test_plan(&words, &counts).ok();
+                assert_eq!(tested.map(|outlay| [outlay.boards, outlay.cost]), opened);
+                let Some([opened, _]) = opened else { continue };
                 let unfolded = lent.unfold(&words, &counts).unwrap();
-                assert_eq!(unfolded.boards, boards);
+                assert_eq!(unfolded.boards, opened);
                 let lines = lent.lines();
                 check::rectangles_apart(&structured, &lines);
                 assert!(check::keeps_rules(&structured, &check::set_in_turn(&lines)));
-                assert_eq!(lent.fold(&words, &lines), Ok(boards));
+                assert_eq!(lent.fold(&words, &lines), boards(opened));
                 assert_eq!(lent.counts[..cuts], counts);
                 // Plans that differ unfold into sets that differ.
                 assert!(sets.insert(lines));
@@ -210,23 +221,23 @@ fn least_boards(boards: &[[u16; 2]], demands: [u16; 2]) -> u32 {
 }
 
 /// How often the two types lie on a board.
-fn laid_on(board: &Board) -> [u16; 2] {
+pub fn laid_on(board: &Board) -> [u16; 2] {
     let mut laid = [0; 2];
-    for item in board.iter().flatten().flatten() {
+    for item in board.strips.iter().flatten().flatten() {
         laid[usize::from(item.item) - 1] += 1;
     }
     laid
 }
 
-/// The bound of prices by area is at most the least number of boards, and calls that the fewest
-/// alone.
+/// The bound of prices by area is at most the least number of boards, which is the least cost at a cost
+/// of 1, and calls no higher one the cheapest.
 fn assert_bound(words: &[u16], least: u32) {
     let structured = Job::from_words(words).unwrap();
     let listing = Listing::walk(&structured, FULL).unwrap();
     let prices = price_words(&area_prices(&structured, &listing, 9_999));
     let bound = Lent::new().test_prices(words, &prices).unwrap();
     assert!(bound.sum <= least * bound.d, "{words:?}");
-    assert!(!bound.is_fewest(least + 1), "{words:?}");
+    assert!(!bound.is_cheapest(least + 1), "{words:?}");
 }
 
 #[test]
@@ -239,8 +250,8 @@ fn no_plan_opens_fewer_boards_than_layouts_need_and_some_plan_as_few() {
                 [first[2], second[2]] = demands;
                 let words = job_of(mode, sides, blade, &[first, second]);
                 let structured = Job::from_words(&words).unwrap();
-                let boards = all_boards(&structured).into_iter();
-                let kept = boards.filter(|board| keeps_rules(&structured, board));
+                let laid = all_boards(&structured, 0).into_iter();
+                let kept = laid.filter(|board| keeps_rules(&structured, board));
                 let kept: HashSet<[u16; 2]> = kept.map(|board| laid_on(&board)).collect();
                 let kept: Vec<[u16; 2]> = kept.into_iter().collect();
                 let least = least_boards(&kept, demands);
@@ -248,7 +259,7 @@ fn no_plan_opens_fewer_boards_than_layouts_need_and_some_plan_as_few() {
                 let most = if cuts > 12 { 4 } else { 5 };
                 let plans = all_counts(cuts, most).into_iter();
                 let found = plans.filter_map(|counts| plain::accepts(&words, &counts));
-                assert_eq!(found.min(), Some(least), "{words:?}");
+                assert_eq!(found.min(), Some([least, least]), "{words:?}");
                 assert_bound(&words, least);
                 together += usize::from(least < u32::from(demands[0] + demands[1]));
                 jobs += 1;

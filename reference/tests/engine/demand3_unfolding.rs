@@ -1,9 +1,11 @@
 //! Demand 3, first half, on random jobs: the unfolding of every accepted plan is a set of
-//! layouts that keeps the rules, with the plan's boards and items, and folds back into the plan.
+//! layouts that keeps the rules, with the plan's boards of each size and its items,
+//! sizes rising from board to board, and folds back into the plan.
 
-use crate::common::check;
+use crate::common::check::{self, Line};
 use crate::common::jobs::{random_job_in, random_large_job, words_of};
 use crate::common::lent::Lent;
+use crate::common::outlay;
 use crate::common::plain;
 use crate::common::plans::random_plan;
 use crate::common::random::Random;
@@ -13,22 +15,24 @@ use reference::listing::FULL;
 use reference::unfolding::unfold;
 use reference::{Board, Job, Listing, Mode, Placement};
 
-/// How often the plan cuts each type, and how many boards it opens.
-fn cut_and_opened(job: &Job, listing: &Listing, counts: &[u16]) -> (Vec<u32>, u32) {
+/// How often the plan cuts each type, and how many boards of each size it opens.
+fn cut_and_opened(job: &Job, listing: &Listing, counts: &[u16]) -> (Vec<u32>, Vec<u32>) {
     let mut cut_of_type = vec![0; job.items.len()];
-    let mut opened = 0;
+    let mut opened = vec![0; job.sizes.len()];
     for (cut, &count) in listing.cuts.iter().zip(counts) {
         cut_of_type[usize::from(cut.position.item) - 1] += u32::from(count);
-        opened += if cut.plate == 0 { u32::from(count) } else { 0 };
+        if usize::from(cut.plate) < job.sizes.len() {
+            opened[usize::from(cut.plate)] += u32::from(count);
+        }
     }
     (cut_of_type, opened)
 }
 
 /// The structured unfolding spends every count, and its set is the lines' set.
-fn assert_structured(job: &Job, listing: &Listing, counts: &[u16], lines: &[[u16; 8]]) {
+fn assert_structured(job: &Job, listing: &Listing, counts: &[u16], lines: &[Line]) {
     let unfolding = unfold(job, listing, counts);
     assert!(unfolding.left.iter().all(|&count| count == 0));
-    let words: Vec<[u16; 8]> = unfolding.placements.iter().map(Placement::words).collect();
+    let words: Vec<Line> = unfolding.placements.iter().map(Placement::words).collect();
     assert_eq!(words, lines);
     let set = set_of(&unfolding.placements);
     assert_eq!(set, check::set_in_turn(lines));
@@ -37,15 +41,16 @@ fn assert_structured(job: &Job, listing: &Listing, counts: &[u16], lines: &[[u16
 }
 
 /// The lines are a set of layouts with these boards and these numbers of items.
-fn assert_set(job: &Job, lines: &[[u16; 8]], boards: u32, cut_of_type: &[u32]) -> Vec<Board> {
+fn assert_set(job: &Job, lines: &[Line], boards: &[u32], cut_of_type: &[u32]) -> Vec<Board> {
     let set = check::set_in_turn(lines);
     assert!(check::keeps_rules(job, &set));
     assert_eq!(check::lines(job, &set), lines);
     check::rectangles_apart(job, lines);
     assert_eq!(check::laid(job, lines), cut_of_type);
     assert!(check::meets_demands(job, cut_of_type));
-    assert_eq!(set.len(), boards as usize);
-    assert!(set.iter().all(|board| !board.is_empty()));
+    assert_eq!(set.len(), boards.iter().sum::<u32>() as usize);
+    assert_eq!(check::boards_of_sizes(job, lines, true), boards);
+    assert!(set.iter().all(|board| !board.strips.is_empty()));
     set
 }
 
@@ -53,18 +58,20 @@ fn assert_set(job: &Job, lines: &[[u16; 8]], boards: u32, cut_of_type: &[u32]) -
 pub fn assert_unfolding(lent: &mut Lent, job: &Job, listing: &Listing, counts: &[u16]) {
     let words = words_of(job);
     let (cut_of_type, opened) = cut_and_opened(job, listing, counts);
-    assert_eq!(lent.test_plan(&words, counts), Ok(opened));
+    let boards = opened.iter().sum();
+    let spent = outlay(boards, check::cost_of(job, &opened));
+    assert_eq!(lent.test_plan(&words, counts), spent);
     let unfolded = lent.unfold(&words, counts).unwrap();
-    assert_eq!(unfolded.boards, opened);
+    assert_eq!(unfolded.boards, boards);
     let lines = lent.lines();
     assert_eq!(unfolded.pieces as usize, lines.len());
     assert_eq!(unfolded.pieces, cut_of_type.iter().sum::<u32>());
-    assert_set(job, &lines, opened, &cut_of_type);
+    assert_set(job, &lines, &opened, &cut_of_type);
     let cuts = plain::listing(&words).1;
     let cut_in_turns = check::cut_in_turns(job, &cuts, counts);
     assert_eq!(check::laid_in_turns(job, &lines), cut_in_turns);
     assert_structured(job, listing, counts, &lines);
-    assert_eq!(lent.fold(&words, &lines), Ok(opened));
+    assert_eq!(lent.fold(&words, &lines), spent);
     assert_eq!(lent.counts[..counts.len()], *counts);
 }
 
@@ -72,7 +79,7 @@ pub fn assert_unfolding(lent: &mut Lent, job: &Job, listing: &Listing, counts: &
 fn unfold_random_plans(mode: Mode, seed: u64) {
     let mut random = Random::new(seed);
     let mut lent = Lent::new();
-    let [mut pieces, mut turned] = [0; 2];
+    let [mut pieces, mut turned, mut mixed] = [0; 3];
     for _ in 0..6_000 {
         let job = random_job_in(&mut random, mode);
         let listing = Listing::walk(&job, FULL).unwrap();
@@ -80,9 +87,11 @@ fn unfold_random_plans(mode: Mode, seed: u64) {
         assert_unfolding(&mut lent, &job, &listing, &counts);
         let lines = lent.lines();
         pieces += lines.len();
-        turned += lines.iter().filter(|line| line[7] == 1).count();
+        turned += lines.iter().filter(|line| line[8] == 1).count();
+        mixed += usize::from(lines.iter().any(|line| line[1] != lines[0][1]));
     }
     assert!(pieces > 30_000 && turned > 5_000, "{pieces}, {turned}");
+    assert!(mixed > 1_000, "{mixed} plans open boards of several sizes");
 }
 
 #[test]

@@ -1,6 +1,7 @@
 //! The errors that document 01 names to be shut out ("Cases"), and other wrong readings that its
 //! own cases would not notice.
 
+use crate::common::boards;
 use crate::common::jobs::{job, job_a};
 use crate::common::lent::Lent;
 use crate::common::refused;
@@ -14,11 +15,11 @@ fn counts_are_not_spent_plate_type_by_plate_type() {
     let mut lent = Lent::new();
     lent.unfold(&job_a(), &[1, 1, 0, 2, 1, 0, 0, 0]).unwrap();
     let lines = [
-        [1, 1, 1, 1, 1, 0, 0, 0],
-        [1, 1, 2, 1, 2, 5, 0, 0],
-        [2, 1, 1, 1, 2, 0, 0, 0],
-        [2, 2, 1, 1, 1, 0, 3, 0],
-        [2, 2, 2, 1, 2, 5, 3, 0],
+        [1, 0, 1, 1, 1, 1, 0, 0, 0],
+        [1, 0, 1, 2, 1, 2, 5, 0, 0],
+        [2, 0, 1, 1, 1, 2, 0, 0, 0],
+        [2, 0, 2, 1, 1, 1, 0, 3, 0],
+        [2, 0, 2, 2, 1, 2, 5, 3, 0],
     ];
     assert_eq!(lent.lines(), lines);
 }
@@ -30,7 +31,7 @@ fn a_two_stage_right_plate_has_not_the_strips_height() {
     let counts = [1, 0, 0, 1, 0, 0, 1, 0, 0];
     assert_eq!(Lent::new().test_plan(&words, &counts), refused(12, 4));
     let counts = [1, 0, 0, 1, 0, 0, 0, 0, 1];
-    assert_eq!(Lent::new().test_plan(&words, &counts), Ok(1));
+    assert_eq!(Lent::new().test_plan(&words, &counts), boards(1));
 }
 
 #[test]
@@ -53,7 +54,7 @@ fn a_price_rule_on_a_residual_is_not_at_most_d() {
 
 /// Boards of 3 by 1 for so many items of 1 by 1 at 1 over 3: the plan's counts and the line of
 /// kind 8 that follows from them.
-fn assert_fewest(demand: u16, counts: [u32; 3], last: [u32; 5]) {
+fn assert_cheapest(demand: u16, counts: [u32; 3], last: [u32; 5]) {
     let words = job(Mode::TwoNonExact, [3, 1], &[[1, 1, demand]]);
     let mut text = job_text(&words);
     for ((plate, count), stage) in (0..).zip(counts).zip([1, 2, 2]) {
@@ -66,10 +67,10 @@ fn assert_fewest(demand: u16, counts: [u32; 3], last: [u32; 5]) {
 
 #[test]
 fn a_bound_is_not_rounded_down_before_it_is_compared() {
-    // 7 over 3 is more than 2, so 3 boards are the fewest; 6 over 3 is 2.
-    assert_fewest(7, [3, 2, 2], [8, 3, 7, 3, 1]);
-    assert_fewest(6, [3, 2, 1], [8, 3, 6, 3, 0]);
-    assert_fewest(6, [2, 2, 2], [8, 2, 6, 3, 1]);
+    // 7 over 3 is more than 2, so that a cost of 3, of as many boards, is the cheapest; 6 over 3 is 2.
+    assert_cheapest(7, [3, 2, 2], [8, 3, 7, 3, 1]);
+    assert_cheapest(6, [3, 2, 1], [8, 3, 6, 3, 0]);
+    assert_cheapest(6, [2, 2, 2], [8, 2, 6, 3, 1]);
 }
 
 #[test]
@@ -89,7 +90,7 @@ fn a_three_stage_stack_narrows_upwards() {
     counts[0] = 1;
     counts[4] = 1;
     counts[12] = 1;
-    assert_eq!(Lent::new().test_plan(&words, &counts), Ok(1));
+    assert_eq!(Lent::new().test_plan(&words, &counts), boards(1));
 }
 
 #[test]
@@ -97,26 +98,26 @@ fn a_three_exact_stack_has_one_width_and_a_strip_many() {
     // The stack beside the post: 3 by 2 twice; a second strip of 2 by 2 twice, beside each other.
     let words = job(Mode::ThreeExact, [4, 8], &[[1, 6, 1], [3, 2, 1], [2, 2, 1]]);
     let lines = [
-        [1, 1, 1, 1, 1, 0, 0, 0],
-        [1, 1, 2, 1, 2, 1, 0, 0],
-        [1, 1, 2, 2, 2, 1, 2, 0],
-        [1, 1, 2, 3, 2, 1, 4, 0],
-        [1, 2, 1, 1, 3, 0, 6, 0],
-        [1, 2, 2, 1, 3, 2, 6, 0],
+        [1, 0, 1, 1, 1, 1, 0, 0, 0],
+        [1, 0, 1, 2, 1, 2, 1, 0, 0],
+        [1, 0, 1, 2, 2, 2, 1, 2, 0],
+        [1, 0, 1, 2, 3, 2, 1, 4, 0],
+        [1, 0, 2, 1, 1, 3, 0, 6, 0],
+        [1, 0, 2, 2, 1, 3, 2, 6, 0],
     ];
     let mut lent = Lent::new();
-    assert_eq!(lent.fold(&words, &lines), Ok(1));
+    assert_eq!(lent.fold(&words, &lines), boards(1));
     let counts = lent.counts.clone();
-    assert_eq!(lent.test_plan(&words, &counts), Ok(1));
+    assert_eq!(lent.test_plan(&words, &counts), boards(1));
     let mut two_widths = lines;
-    two_widths[3] = [1, 1, 2, 3, 3, 1, 4, 0];
+    two_widths[3] = [1, 0, 1, 2, 3, 3, 1, 4, 0];
     assert_eq!(lent.fold(&words, &two_widths), refused(16, 1));
     let non_exact = job(
         Mode::ThreeNonExact,
         [4, 8],
         &[[1, 6, 1], [3, 2, 1], [2, 2, 1]],
     );
-    assert_eq!(lent.fold(&non_exact, &two_widths), Ok(1));
+    assert_eq!(lent.fold(&non_exact, &two_widths), boards(1));
 }
 
 #[test]

@@ -1,16 +1,18 @@
 //! Job A's printed output, and the 6 by 6 example of source document 001.
 
+use crate::common::boards;
 use crate::common::jobs::{job, job_a, PLAN_A};
 use crate::common::lent::Lent;
+use crate::common::plain;
 use crate::common::texts::{assert_text, job_text, layout_text, lines, plan_text};
 use reference::{fold_text, saw_text, Listed, Mode, Unfolded};
 
 const OUTPUT_A: &str =
-    "        7        1        1        1        1        1        0        0        0
-        7        1        1        2        1        2        5        0        0
-        7        1        2        1        1        2        0        4        0
-        7        1        2        2        1        2        3        4        0
-        7        2        1        1        1        1        0        0        0
+    "        7        1        0        1        1        1        1        0        0        0
+        7        1        0        1        2        1        2        5        0        0
+        7        1        0        2        1        1        2        0        4        0
+        7        1        0        2        2        1        2        3        4        0
+        7        2        0        1        1        1        1        0        0        0
         8        2        2        1        1
 ";
 
@@ -38,10 +40,10 @@ fn job_a_is_answered_as_printed() {
 }
 
 #[test]
-fn job_a_without_prices_has_sum_0_d_1_fewest_0() {
+fn job_a_without_prices_has_sum_0_d_1_cheapest_0() {
     let mut text = job_text(&job_a());
     text.extend(PLAN_LINES_A.as_bytes());
-    let (placements, _) = OUTPUT_A.split_at(5 * 82);
+    let (placements, _) = OUTPUT_A.split_at(5 * 91);
     let mut expected = placements.as_bytes().to_vec();
     expected.extend(lines(&[&[8, 2, 0, 1, 0]]));
     assert_text(&saw_text(&text), &expected);
@@ -50,12 +52,12 @@ fn job_a_without_prices_has_sum_0_d_1_fewest_0() {
 #[test]
 fn job_a_folds_back_to_its_plan() {
     let mut text = job_text(&job_a());
-    text.extend(OUTPUT_A.as_bytes()[..5 * 82].iter());
+    text.extend(OUTPUT_A.as_bytes()[..5 * 91].iter());
     assert_text(&fold_text(&text), PLAN_LINES_A.as_bytes());
     let mut lent = Lent::new();
     lent.unfold(&job_a(), &PLAN_A).unwrap();
     let lines = lent.lines();
-    assert_eq!(lent.fold(&job_a(), &lines), Ok(2));
+    assert_eq!(lent.fold(&job_a(), &lines), boards(2));
     assert_eq!(lent.counts[..8], PLAN_A);
 }
 
@@ -100,14 +102,15 @@ fn the_6_by_6_example_is_listed_as_in_the_source() {
         cuts: 10,
     };
     assert_eq!(lent.list(&example()), Ok(listed));
-    assert_eq!(lent.plates[..21], TABLE_4.concat());
+    let records = plain::plate_words(&example(), &TABLE_4);
+    assert_eq!(lent.plates[..28], records);
     assert_eq!(lent.cuts[..40], FIG_8.concat());
 }
 
 #[test]
 fn the_6_by_6_example_needs_three_boards() {
     let mut lent = Lent::new();
-    assert_eq!(lent.test_plan(&example(), &SOLUTION), Ok(3));
+    assert_eq!(lent.test_plan(&example(), &SOLUTION), boards(3));
     let unfolded = Unfolded {
         boards: 3,
         pieces: 10,
@@ -115,19 +118,19 @@ fn the_6_by_6_example_needs_three_boards() {
     };
     assert_eq!(lent.unfold(&example(), &SOLUTION), Ok(unfolded));
     let lines = [
-        [1, 1, 1, 1, 1, 0, 0, 0],
-        [1, 1, 2, 1, 2, 4, 0, 0],
-        [1, 2, 1, 1, 1, 0, 3, 0],
-        [1, 2, 2, 1, 2, 4, 3, 0],
-        [2, 1, 1, 1, 1, 0, 0, 0],
-        [2, 2, 1, 1, 1, 0, 3, 0],
-        [3, 1, 1, 1, 1, 0, 0, 0],
-        [3, 2, 1, 1, 2, 0, 3, 0],
-        [3, 2, 2, 1, 2, 2, 3, 0],
-        [3, 2, 3, 1, 2, 4, 3, 0],
+        [1, 0, 1, 1, 1, 1, 0, 0, 0],
+        [1, 0, 1, 2, 1, 2, 4, 0, 0],
+        [1, 0, 2, 1, 1, 1, 0, 3, 0],
+        [1, 0, 2, 2, 1, 2, 4, 3, 0],
+        [2, 0, 1, 1, 1, 1, 0, 0, 0],
+        [2, 0, 2, 1, 1, 1, 0, 3, 0],
+        [3, 0, 1, 1, 1, 1, 0, 0, 0],
+        [3, 0, 2, 1, 1, 2, 0, 3, 0],
+        [3, 0, 2, 2, 1, 2, 2, 3, 0],
+        [3, 0, 2, 3, 1, 2, 4, 3, 0],
     ];
     assert_eq!(lent.lines(), lines);
-    assert_eq!(lent.fold(&example(), &lines), Ok(3));
+    assert_eq!(lent.fold(&example(), &lines), boards(3));
     assert_eq!(lent.counts[..10], SOLUTION);
 }
 
@@ -136,7 +139,7 @@ fn the_6_by_6_example_as_texts() {
     let mut plan = job_text(&example());
     plan.extend(plan_text(&TABLE_4, &FIG_8, &SOLUTION));
     let output = saw_text(&plan);
-    let (placements, last) = output.split_at(10 * 82);
+    let (placements, last) = output.split_at(10 * 91);
     assert_text(last, &lines(&[&[8, 3, 0, 1, 0]]));
     let mut layouts = job_text(&example());
     layouts.extend(placements);

@@ -12,8 +12,8 @@ use reference::{Board, Job, Mode, Position};
 fn folded(words: &[u16], set: &[Board]) -> Vec<([u16; 2], u16)> {
     let structured = Job::from_words(words).unwrap();
     let mut lent = Lent::new();
-    let boards = lent.fold(words, &check::lines(&structured, set)).unwrap();
-    assert_eq!(boards as usize, set.len());
+    let outlay = lent.fold(words, &check::lines(&structured, set)).unwrap();
+    assert_eq!(outlay.boards as usize, set.len());
     let (_, cuts) = plain::listing(words);
     let counted = cuts
         .iter()

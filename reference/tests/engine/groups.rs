@@ -125,7 +125,7 @@ fn a_line_not_of_the_form_is_1_naming_itself() {
         b"        3        0\t       1        2        9        7        1        0\n",
     ];
     for form in forms {
-        assert_text(&saw_text(&with_line_4(form)), &refusal(1, 4));
+        assert_text(&saw_text(&with_line_4(form)), &refusal(1, 5));
     }
 }
 
@@ -136,7 +136,7 @@ fn every_byte_of_a_line_is_looked_at() {
         for byte in [0, 9, 13, b'-', b'.', b'a', 0xff] {
             let mut bytes = good.clone();
             bytes[index] = byte;
-            assert_text(&saw_text(&with_line_4(&bytes)), &refusal(1, 4));
+            assert_text(&saw_text(&with_line_4(&bytes)), &refusal(1, 5));
         }
     }
 }
@@ -144,16 +144,17 @@ fn every_byte_of_a_line_is_looked_at() {
 #[test]
 fn a_line_without_its_byte_10_at_the_end_of_the_text_is_1_naming_itself() {
     let whole = after_job_a(&[&[3, 0, 1, 2, 9, 7, 1, 0], &[3, 1, 2, 1, 9, 3, 1, 0]]);
-    let starts = [0, 64, 119, 174, 247];
+    let starts = [0, 55, 101, 156, 211, 284];
     for length in 0..whole.len() {
         let number = starts.iter().filter(|&&start| start < length).count() as u32;
         let answer = saw_text(&whole[..length]);
         match length {
             0 => assert_text(&answer, &refusal(1, 1)),
-            64 => assert_text(&answer, &refusal(1, 2)),
-            119 => assert_text(&answer, &refusal(1, 3)),
-            174 => assert_text(&answer, &refusal(11, 1)),
-            247 => assert_text(&answer, &refusal(11, 2)),
+            55 => assert_text(&answer, &refusal(1, 2)),
+            101 => assert_text(&answer, &refusal(1, 3)),
+            156 => assert_text(&answer, &refusal(1, 4)),
+            211 => assert_text(&answer, &refusal(11, 1)),
+            284 => assert_text(&answer, &refusal(11, 2)),
             _ => assert_text(&answer, &refusal(1, number)),
         }
     }
@@ -162,25 +163,41 @@ fn a_line_without_its_byte_10_at_the_end_of_the_text_is_1_naming_itself() {
 #[test]
 fn numbers_of_nine_digits_are_values_outside_limits_not_faults_of_form() {
     let text = after_job_a(&[&[3, 0, 1, 999_999_999, 9, 7, 1, 0]]);
-    assert_text(&saw_text(&text), &refusal(2, 4));
-    let text = lines(&[&[1, 999_999_999, 0, 9, 7, 1, 0]]);
+    assert_text(&saw_text(&text), &refusal(2, 5));
+    let text = lines(&[&[1, 999_999_999, 0, 1, 1, 0]]);
     assert_text(&saw_text(&text), &refusal(2, 1));
     assert_text(&fold_text(&text), &refusal(2, 1));
 }
 
 #[test]
 fn values_that_would_wrap_to_a_word_within_limits_are_outside() {
-    for head in [[1, 65_538, 0, 9, 7, 1, 0], [1, 2, 0, 9, 7, 1, 65_536]] {
-        let text = lines(&[&head, &[2, 1, 5, 4, 1, 0]]);
+    for head in [
+        [1, 65_538, 0, 1, 1, 0],
+        [1, 2, 0, 65_537, 1, 0],
+        [1, 2, 0, 1, 1, 65_536],
+    ] {
+        let text = lines(&[&head, &[10, 0, 9, 7, 1], &[2, 1, 5, 4, 1, 0]]);
         assert_text(&saw_text(&text), &refusal(2, 1));
         assert_text(&fold_text(&text), &refusal(2, 1));
     }
-    let text = lines(&[&[1, 2, 0, 9, 7, 1, 0], &[2, 1, 65_541, 4, 1, 0]]);
-    assert_text(&saw_text(&text), &refusal(2, 2));
+    for size in [[65_545, 7, 1], [9, 65_543, 1], [9, 7, 65_537]] {
+        let size = [10, 0, size[0], size[1], size[2]];
+        let text = lines(&[&[1, 2, 0, 1, 1, 0], &size, &[2, 1, 5, 4, 1, 0]]);
+        assert_text(&saw_text(&text), &refusal(2, 2));
+        assert_text(&fold_text(&text), &refusal(2, 2));
+    }
+    let text = lines(&[
+        &[1, 2, 0, 1, 1, 0],
+        &[10, 0, 9, 7, 1],
+        &[2, 1, 65_541, 4, 1, 0],
+    ]);
+    assert_text(&saw_text(&text), &refusal(2, 3));
     let text = after_job_a(&[&[3, 65_536, 1, 1, 1, 1, 1, 0]]);
-    assert_text(&saw_text(&text), &refusal(2, 4));
-    let text = after_job_a(&[&[7, 65_537, 1, 1, 1, 1, 0, 0, 0]]);
-    assert_text(&fold_text(&text), &refusal(2, 4));
-    let text = after_job_a(&[&[7, 1, 1, 1, 1, 1, 65_536, 0, 0]]);
-    assert_text(&fold_text(&text), &refusal(2, 4));
+    assert_text(&saw_text(&text), &refusal(2, 5));
+    let text = after_job_a(&[&[7, 65_537, 0, 1, 1, 1, 1, 0, 0, 0]]);
+    assert_text(&fold_text(&text), &refusal(2, 5));
+    let text = after_job_a(&[&[7, 1, 65_536, 1, 1, 1, 1, 0, 0, 0]]);
+    assert_text(&fold_text(&text), &refusal(2, 5));
+    let text = after_job_a(&[&[7, 1, 0, 1, 1, 1, 1, 65_536, 0, 0]]);
+    assert_text(&fold_text(&text), &refusal(2, 5));
 }

@@ -3,7 +3,7 @@
 use crate::common::jobs::{job, job_a, job_with_blade};
 use crate::common::lent::Lent;
 use crate::common::refused;
-use reference::{Item, Job, Listed, Mode};
+use reference::{Item, Job, Listed, Mode, Size};
 
 /// Job A's words with one of them changed.
 fn changed(index: usize, word: u16) -> Vec<u16> {
@@ -29,15 +29,15 @@ fn another_length_is_1_place_0() {
 fn the_length_that_n_asks_for_goes_before_the_limits() {
     // Four words a type: from 16,384 types on, their number is past a word.
     for n in [0, 1, 40, 41, 16_383, 16_384, 32_768, 49_152, 65_535] {
-        let words = [2, 0, 9, 7, n, 0];
+        let words = [2, 0, 1, n, 0, 9, 7, 1];
         let answer = if n == 0 { refused(2, 0) } else { refused(1, 0) };
         assert_eq!(Lent::new().list(&words), answer, "n {n}");
-        assert_eq!(Lent::new().list(&words[..5]), refused(1, 0), "n {n}");
+        assert_eq!(Lent::new().list(&words[..7]), refused(1, 0), "n {n}");
     }
-    let mut types_41 = vec![2, 0, 9, 7, 41, 0];
+    let mut types_41 = vec![2, 0, 1, 41, 0, 9, 7, 1];
     types_41.extend([1; 164]);
     assert_eq!(Lent::new().list(&types_41), refused(2, 0));
-    let mut all_types = vec![9, 9, 0, 0, 65_535, 0];
+    let mut all_types = vec![9, 9, 0, 65_535, 0];
     all_types.extend(vec![0; 4 * 65_535]);
     assert_eq!(Lent::new().list(&all_types), refused(2, 0));
     all_types.pop();
@@ -46,7 +46,7 @@ fn the_length_that_n_asks_for_goes_before_the_limits() {
 
 #[test]
 fn length_before_any_value() {
-    let words = [5, 5, 0, 0, 1, 21, 0, 0];
+    let words = [5, 5, 7, 1, 21, 0, 0, 0];
     assert_eq!(Lent::new().list(&words), refused(1, 0));
 }
 
@@ -56,12 +56,15 @@ fn every_number_of_the_board_names_0() {
         (0, 1),
         (0, 4),
         (1, 2),
-        (2, 0),
-        (3, 0),
-        (2, 10_001),
-        (3, 10_001),
-        (5, 21),
-        (5, 65_535),
+        (4, 21),
+        (4, 65_535),
+        (5, 0),
+        (6, 0),
+        (7, 0),
+        (5, 10_001),
+        (6, 10_001),
+        (7, 1_000),
+        (7, 65_535),
     ] {
         assert_eq!(Lent::new().list(&changed(index, bad)), refused(2, 0));
     }
@@ -69,35 +72,35 @@ fn every_number_of_the_board_names_0() {
 }
 
 #[test]
-fn the_blade_is_word_6_and_reaches_20() {
+fn the_blade_is_word_5_and_reaches_20() {
     for blade in 0..=20 {
-        let words = changed(5, blade);
+        let words = changed(4, blade);
         assert!(Lent::new().list(&words).is_ok(), "b {blade}");
         assert_eq!(Job::from_words(&words).unwrap().blade, blade);
     }
     // As many types as the blade is wide, or as its word would ask for.
     let mut words = job_with_blade(Mode::TwoNonExact, [9, 7], 2, &[[5, 4, 2], [3, 3, 3]]);
     assert!(Lent::new().list(&words).is_ok());
-    words[4] = 1;
-    words[5] = 2;
+    words[3] = 1;
+    words[4] = 2;
     assert_eq!(Lent::new().list(&words), refused(1, 0));
     // The words of a job without a blade are one too few.
-    words.remove(5);
-    words[4] = 2;
+    words.remove(4);
+    words[3] = 2;
     assert_eq!(Lent::new().list(&words), refused(1, 0));
 }
 
 #[test]
 fn a_value_of_a_type_names_the_type() {
     for (index, bad) in [
-        (6, 0),
-        (6, 10_001),
-        (7, 0),
-        (7, 10_001),
         (8, 0),
-        (8, 4_001),
-        (9, 2),
-        (9, 65_535),
+        (8, 10_001),
+        (9, 0),
+        (9, 10_001),
+        (10, 0),
+        (10, 4_001),
+        (11, 2),
+        (11, 65_535),
     ] {
         assert_eq!(Lent::new().list(&changed(index, bad)), refused(2, 1));
         assert_eq!(Lent::new().list(&changed(index + 4, bad)), refused(2, 2));
@@ -106,10 +109,10 @@ fn a_value_of_a_type_names_the_type() {
 
 #[test]
 fn the_board_is_named_before_a_type_and_the_lower_type_first() {
-    let mut words = changed(6, 0);
-    words[10] = 0;
+    let mut words = changed(8, 0);
+    words[12] = 0;
     assert_eq!(Lent::new().list(&words), refused(2, 1));
-    for (index, bad) in [(3, 0), (5, 21)] {
+    for (index, bad) in [(4, 21), (6, 0), (7, 1_000)] {
         let mut board = words.clone();
         board[index] = bad;
         assert_eq!(Lent::new().list(&board), refused(2, 0));
@@ -118,7 +121,7 @@ fn the_board_is_named_before_a_type_and_the_lower_type_first() {
 
 #[test]
 fn an_item_larger_than_the_board_is_3_and_beyond_10_000_is_2() {
-    for index in [6, 7] {
+    for index in [8, 9] {
         assert_eq!(Lent::new().list(&changed(index, 10_000)), refused(3, 1));
         assert_eq!(Lent::new().list(&changed(index, 10_001)), refused(2, 1));
         assert_eq!(Lent::new().list(&changed(index + 4, 10_000)), refused(3, 2));
@@ -127,8 +130,8 @@ fn an_item_larger_than_the_board_is_3_and_beyond_10_000_is_2() {
 
 #[test]
 fn limits_of_every_type_before_3_and_3_over_all_types_before_4() {
-    let mut words = changed(6, 10_000);
-    words[12] = 0;
+    let mut words = changed(8, 10_000);
+    words[14] = 0;
     assert_eq!(Lent::new().list(&words), refused(2, 2));
     let high = job(Mode::TwoNonExact, [9, 7], &[[1, 1, 4_000], [1, 8, 1]]);
     assert_eq!(Lent::new().list(&high), refused(3, 2));
@@ -163,8 +166,11 @@ fn two_types_may_have_equal_sizes() {
 fn words_are_read_into_a_job() {
     let structured = Job {
         mode: Mode::TwoNonExact,
-        width: 9,
-        height: 7,
+        sizes: vec![Size {
+            width: 9,
+            height: 7,
+            cost: 1,
+        }],
         blade: 0,
         items: vec![
             Item {

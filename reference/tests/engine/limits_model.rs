@@ -105,7 +105,7 @@ fn assert_edges(structured: &Job) {
         ..own
     };
     assert_eq!(Listing::walk(structured, fewer_cuts), refused(7, 0));
-    if own.plate_types > 1 {
+    if own.plate_types > structured.sizes.len() {
         let fewer_plates = Limits {
             plate_types: own.plate_types - 1,
             ..own
@@ -128,7 +128,7 @@ fn every_pair_of_lower_limits_gives_the_one_met_first() {
     for _ in 0..100 {
         let structured = random_job(&mut random);
         let full = Listing::walk(&structured, FULL).unwrap();
-        for plate_types in 1..full.plates.len() {
+        for plate_types in full.sizes..full.plates.len() {
             // The cut that brings the first plate type too many.
             let brings = |cut: &reference::Cut| {
                 let new = plate_types as u16;

@@ -1,5 +1,6 @@
 //! The limits of values, totals and numbers of lines, at the edge and past it.
 
+use crate::common::boards;
 use crate::common::jobs::{job, job_a};
 use crate::common::lent::Lent;
 use crate::common::refused;
@@ -14,12 +15,12 @@ fn sides_reach_10_000() {
     for mode in Mode::ALL {
         let words = job(mode, [10_000, 10_000], &[[10_000, 10_000, 1]]);
         assert_eq!(Lent::new().list(&words), listed);
-        for index in [2, 3] {
+        for index in [5, 6] {
             let mut past = words.clone();
             past[index] = 10_001;
             assert_eq!(Lent::new().list(&past), refused(2, 0));
         }
-        for index in [6, 7] {
+        for index in [8, 9] {
             let mut past = words.clone();
             past[index] = 10_001;
             assert_eq!(Lent::new().list(&past), refused(2, 1));
@@ -63,7 +64,7 @@ fn demands_reach_4_000_together() {
 #[test]
 fn counts_reach_4_000_together() {
     let counts = [1_000, 1_000, 500, 500, 500, 500, 0, 0];
-    assert_eq!(Lent::new().test_plan(&job_a(), &counts), Ok(2_000));
+    assert_eq!(Lent::new().test_plan(&job_a(), &counts), boards(2_000));
     let past = [1_000, 1_001, 500, 500, 500, 500, 0, 0];
     assert_eq!(Lent::new().test_plan(&job_a(), &past), refused(10, 0));
     let mut lent = Lent::new();
@@ -71,18 +72,18 @@ fn counts_reach_4_000_together() {
     assert_eq!((unfolded.boards, unfolded.pieces), (2_000, 4_000));
     let lines = lent.lines();
     assert_eq!(lines.len(), 4_000);
-    assert_eq!(lent.fold(&job_a(), &lines), Ok(2_000));
+    assert_eq!(lent.fold(&job_a(), &lines), boards(2_000));
     assert_eq!(lent.counts[..8], counts);
 }
 
 #[test]
 fn layout_lines_reach_4_000() {
     let words = job(Mode::TwoNonExact, [5, 4], &[[5, 4, 1]]);
-    let mut lines: Vec<[u16; 8]> = (1..=4_000)
-        .map(|board| [board, 1, 1, 1, 1, 0, 0, 0])
+    let mut lines: Vec<[u16; 9]> = (1..=4_000)
+        .map(|board| [board, 0, 1, 1, 1, 1, 0, 0, 0])
         .collect();
-    assert_eq!(Lent::new().fold(&words, &lines), Ok(4_000));
-    lines.push([4_000, 2, 1, 1, 1, 0, 0, 0]);
+    assert_eq!(Lent::new().fold(&words, &lines), boards(4_000));
+    lines.push([4_000, 0, 2, 1, 1, 1, 0, 0, 0]);
     assert_eq!(Lent::new().fold(&words, &lines), refused(10, 0));
     lines[4_000][0] = 4_001;
     assert_eq!(Lent::new().fold(&words, &lines), refused(2, 4_001));
@@ -91,8 +92,8 @@ fn layout_lines_reach_4_000() {
 #[test]
 fn one_stack_and_one_strip_of_4_000_lines() {
     let words = job(Mode::ThreeNonExact, [2, 3_999], &[[1, 3_999, 1], [1, 1, 1]]);
-    let mut lines = vec![[1, 1, 1, 1, 1, 0, 0, 0]];
-    lines.extend((0..3_999).map(|place| [1, 1, 2, place + 1, 2, 1, place, 0]));
+    let mut lines = vec![[1, 0, 1, 1, 1, 1, 0, 0, 0]];
+    lines.extend((0..3_999).map(|place| [1, 0, 1, 2, place + 1, 2, 1, place, 0]));
     let refusal = Lent::new().fold(&words, &lines);
     // 3,999 heights on type 0, as many on stages 2 and 3: the listing has over 2,048 types.
     assert_eq!(refusal, refused(6, 0));
@@ -101,12 +102,14 @@ fn one_stack_and_one_strip_of_4_000_lines() {
         [2, 2_000],
         &[[1, 2_000, 1], [1, 200, 1]],
     );
-    let mut lines = vec![[1, 1, 1, 1, 1, 0, 0, 0]];
-    lines.extend((0..10).map(|place| [1, 1, 2, place + 1, 2, 1, 200 * place, 0]));
-    assert_eq!(Lent::new().fold(&words, &lines), Ok(1));
+    let mut lines = vec![[1, 0, 1, 1, 1, 1, 0, 0, 0]];
+    lines.extend((0..10).map(|place| [1, 0, 1, 2, place + 1, 2, 1, 200 * place, 0]));
+    assert_eq!(Lent::new().fold(&words, &lines), boards(1));
     let words = job(Mode::TwoNonExact, [2_000, 1], &[[1, 1, 2_000]]);
-    let row: Vec<[u16; 8]> = (0..2_000).map(|x| [1, 1, x + 1, 1, 1, x, 0, 0]).collect();
-    assert_eq!(Lent::new().fold(&words, &row), Ok(1));
+    let row: Vec<[u16; 9]> = (0..2_000)
+        .map(|x| [1, 0, 1, x + 1, 1, 1, x, 0, 0])
+        .collect();
+    assert_eq!(Lent::new().fold(&words, &row), boards(1));
 }
 
 #[test]

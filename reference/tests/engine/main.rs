@@ -32,5 +32,8 @@ mod programs;
 mod saw_lines;
 mod saw_rows;
 mod shown;
+mod sizes;
+mod sizes_small;
+mod sizes_texts;
 mod turned;
 mod unfolding;

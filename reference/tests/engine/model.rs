@@ -14,7 +14,8 @@ fn assert_listing(words: &[u16], plates: &[[u16; 3]], cuts: &[[u16; 4]]) {
     let listed = lent.list(words).unwrap();
     let found = (listed.residuals as usize, listed.cuts as usize);
     assert_eq!(found, (plates.len() - 1, cuts.len()));
-    assert_eq!(lent.plates[..3 * plates.len()], plates.concat());
+    let records = plain::plate_words(words, plates);
+    assert_eq!(lent.plates[..records.len()], records);
     assert_eq!(lent.cuts[..4 * cuts.len()], cuts.concat());
 }
 
@@ -185,9 +186,9 @@ fn listed(mode: Mode, board: [u16; 2], items: &[[u16; 3]]) -> (Vec<[u16; 3]>, us
     let listed = lent.list(&job(mode, board, items)).unwrap();
     let plates = lent
         .plates
-        .chunks_exact(3)
+        .chunks_exact(4)
         .take(listed.residuals as usize + 1);
-    let plates = plates.map(|plate| plate.try_into().unwrap()).collect();
+    let plates = plates.map(|plate| plate[..3].try_into().unwrap()).collect();
     (plates, listed.cuts as usize)
 }
 
@@ -247,9 +248,11 @@ fn a_cut_is_found_by_its_plate_item_and_turn_and_by_no_others() {
 #[test]
 fn the_walk_gives_words_of_its_own_plates_and_cuts() {
     let structured = Job::from_words(&job(Mode::TwoNonExact, [9, 7], &[[5, 4, 2], [3, 3, 3]]));
-    let listing = Listing::walk(&structured.unwrap(), FULL).unwrap();
+    let structured = structured.unwrap();
+    let listing = Listing::walk(&structured, FULL).unwrap();
     assert_eq!(listing.residual_types(), 5);
-    assert_eq!(listing.plate_words()[..6], [9, 7, 1, 9, 3, 1]);
+    let plates = listing.plate_words(&structured);
+    assert_eq!(plates[..8], [9, 7, 1, 1, 9, 3, 1, 0]);
     assert_eq!(listing.cut_words()[..8], [0, 2, 1, 2, 0, 4, 3, 4]);
     assert_eq!(listing.cuts_on(3), 4..6);
 }

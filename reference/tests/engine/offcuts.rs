@@ -1,6 +1,7 @@
 //! Offcuts: which pieces are left over, in which order, with which sides, and which of them are
 //! usable; the two lengths and their refusal (document 02, Two).
 
+use crate::common::boards;
 use crate::common::jobs::{job, job_a, job_with_leave, PLAN_A};
 use crate::common::lent::{full_counts, holds, junk, Lent, COUNTS, CUTS, PLACEMENTS, PLATES};
 use crate::common::refused;
@@ -146,9 +147,9 @@ fn no_offcut_is_turned_to_reach_a_length() {
     assert_eq!(
         lent.fold(
             &words,
-            &[[1, 1, 1, 1, 1, 0, 0, 0], [2, 1, 1, 1, 2, 0, 0, 0]]
+            &[[1, 0, 1, 1, 1, 1, 0, 0, 0], [2, 0, 1, 1, 1, 2, 0, 0, 0]]
         ),
-        Ok(2)
+        boards(2)
     );
     let counts = lent.counts.clone();
     let first_of = |lengths| {
@@ -167,9 +168,9 @@ fn pieces_are_left_over_by_falling_stage() {
     assert_eq!(
         lent.fold(
             &words,
-            &[[1, 1, 1, 1, 1, 0, 0, 0], [1, 1, 2, 1, 2, 5, 0, 0]]
+            &[[1, 0, 1, 1, 1, 1, 0, 0, 0], [1, 0, 1, 2, 1, 2, 5, 0, 0]]
         ),
-        Ok(1)
+        boards(1)
     );
     let counts = lent.counts.clone();
     let offcuts = [[1, 5, 2, 2, 3, 0], [1, 7, 0, 3, 5, 1], [1, 0, 5, 10, 5, 1]];
@@ -184,9 +185,9 @@ fn an_offcut_has_the_sides_of_its_plate_type() {
     assert_eq!(
         lent.fold(
             &words,
-            &[[1, 1, 1, 1, 1, 0, 0, 0], [1, 1, 2, 1, 2, 4, 0, 0]]
+            &[[1, 0, 1, 1, 1, 1, 0, 0, 0], [1, 0, 1, 2, 1, 2, 4, 0, 0]]
         ),
-        Ok(1)
+        boards(1)
     );
     let counts = lent.counts.clone();
     let offcuts = [[1, 7, 0, 3, 3, 1], [1, 0, 6, 10, 4, 1]];
@@ -198,11 +199,11 @@ fn an_offcut_has_the_sides_of_its_plate_type() {
         &[[4, 9, 1], [3, 3, 1], [2, 2, 1]],
     );
     let lines = [
-        [1, 1, 1, 1, 1, 0, 0, 0],
-        [1, 1, 2, 1, 2, 4, 0, 0],
-        [1, 1, 2, 2, 3, 4, 3, 0],
+        [1, 0, 1, 1, 1, 1, 0, 0, 0],
+        [1, 0, 1, 2, 1, 2, 4, 0, 0],
+        [1, 0, 1, 2, 2, 3, 4, 3, 0],
     ];
-    assert_eq!(lent.fold(&words, &lines), Ok(1));
+    assert_eq!(lent.fold(&words, &lines), boards(1));
     let counts = lent.counts.clone();
     let offcuts = [[1, 4, 5, 2, 4, 1], [1, 7, 0, 3, 9, 1]];
     assert_left_over(&words, &counts, [1, 1], &offcuts);

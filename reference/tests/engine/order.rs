@@ -1,6 +1,7 @@
 //! The order of refusals (document 01, "Where each number is given", and the paragraph after the
 //! table): rows from the top, in a row lower numbers first, each over all its places.
 
+use crate::common::boards;
 use crate::common::jobs::{job, job_a, PRICES_A};
 use crate::common::lent::{
     full_counts, junk, Lent, COUNTS, CUTS, LEAST, OFFCUTS, PLACEMENTS, PLATES,
@@ -9,7 +10,7 @@ use crate::common::refused;
 use crate::common::texts::{assert_text, job_text, lines, refusal};
 use reference::{fold_text, Mode};
 
-const GOOD: [u16; 8] = [1, 1, 1, 1, 1, 0, 0, 0];
+const GOOD: [u16; 9] = [1, 0, 1, 1, 1, 1, 0, 0, 0];
 
 /// Job A with type 2 wider than the board.
 fn too_large() -> Vec<u16> {
@@ -47,11 +48,11 @@ fn price_words_stand_before_the_job_row() {
 #[test]
 fn price_words_stand_after_the_jobs_words() {
     let mut words = too_large();
-    words[6] = 0;
+    words[8] = 0;
     assert_eq!(Lent::new().test_prices(&words, &[0]), refused(2, 1));
-    words[10] = 9;
-    words[6] = 5;
-    words[12] = 0;
+    words[12] = 9;
+    words[8] = 5;
+    words[14] = 0;
     assert_eq!(Lent::new().test_prices(&words, &[0]), refused(2, 2));
     words.pop();
     assert_eq!(Lent::new().test_prices(&words, &[0]), refused(1, 0));
@@ -60,7 +61,7 @@ fn price_words_stand_after_the_jobs_words() {
 #[test]
 fn layout_words_stand_between_the_jobs_words_and_the_job_row() {
     let short = [1, 1, 1];
-    let outside = [1, 1, 1, 1, 3, 0, 0, 0];
+    let outside = [1, 0, 1, 1, 1, 3, 0, 0, 0];
     let mut words = too_large();
     assert_eq!(Lent::new().fold_words(&words, &short), refused(1, 1));
     assert_eq!(Lent::new().fold_words(&words, &outside), refused(2, 1));
@@ -68,9 +69,9 @@ fn layout_words_stand_between_the_jobs_words_and_the_job_row() {
     assert_eq!(Lent::new().fold_words(&too_many(), &short), refused(1, 1));
     assert_eq!(Lent::new().fold_words(&too_many(), &outside), refused(2, 1));
     assert_eq!(Lent::new().fold_words(&too_many(), &GOOD), refused(4, 0));
-    words[8] = 0;
+    words[10] = 0;
     assert_eq!(Lent::new().fold_words(&words, &short), refused(2, 1));
-    words[5] = 21;
+    words[4] = 21;
     assert_eq!(Lent::new().fold_words(&words, &short), refused(2, 0));
     words.pop();
     assert_eq!(Lent::new().fold_words(&words, &short), refused(1, 0));
@@ -78,17 +79,17 @@ fn layout_words_stand_between_the_jobs_words_and_the_job_row() {
 
 #[test]
 fn cut_short_goes_before_a_value_in_words_but_not_in_a_text() {
-    let mut layouts = vec![0, 1, 1, 1, 1, 0, 0];
+    let mut layouts = vec![0, 0, 1, 1, 1, 1, 0, 0, 0];
     layouts.extend(GOOD);
     layouts.extend([1, 1]);
     assert_eq!(Lent::new().fold_words(&job_a(), &layouts), refused(1, 3));
     let mut text = job_text(&job_a());
     text.extend(lines(&[
-        &[7, 0, 1, 1, 1, 1, 0, 0, 0],
-        &[7, 1, 1, 1, 1, 1, 0, 0, 0],
+        &[7, 0, 0, 1, 1, 1, 1, 0, 0, 0],
+        &[7, 1, 0, 1, 1, 1, 1, 0, 0, 0],
     ]));
     text.extend(lines(&[&[7, 1, 1]]));
-    assert_text(&fold_text(&text), &refusal(2, 4));
+    assert_text(&fold_text(&text), &refusal(2, 5));
 }
 
 #[test]
@@ -141,7 +142,7 @@ fn the_model_stands_before_plan_prices_and_layouts() {
     assert_eq!(Lent::new().test_plan(&words, &past), refused(6, 0));
     assert_eq!(Lent::new().unfold(&words, &past), refused(6, 0));
     assert_eq!(Lent::new().test_prices(&words, &[]), refused(6, 0));
-    let wrong_turn = [2, 1, 1, 1, 1, 0, 0, 0];
+    let wrong_turn = [2, 0, 1, 1, 1, 1, 0, 0, 0];
     assert_eq!(Lent::new().fold(&words, &[wrong_turn]), refused(6, 0));
     let many = vec![GOOD; 4_001];
     assert_eq!(Lent::new().fold(&words, &many), refused(6, 0));
@@ -193,14 +194,14 @@ fn the_prices_row_runs_13_14() {
 
 /// Layouts for job A with a fault of each number from the layouts row but 10, the later in the
 /// row the earlier in the lines: 18 on line 1, 17 on board 2, 16 on board 3, 15 on the last.
-const FAULTS: [[u16; 8]; 7] = [
-    [1, 1, 1, 1, 1, 9, 0, 0],
-    [2, 1, 1, 1, 1, 0, 0, 0],
-    [2, 1, 2, 1, 1, 5, 0, 0],
-    [3, 1, 1, 1, 2, 0, 0, 0],
-    [3, 1, 1, 2, 2, 0, 3, 0],
-    [4, 1, 1, 1, 1, 0, 0, 0],
-    [6, 1, 1, 1, 1, 0, 0, 0],
+const FAULTS: [[u16; 9]; 7] = [
+    [1, 0, 1, 1, 1, 1, 9, 0, 0],
+    [2, 0, 1, 1, 1, 1, 0, 0, 0],
+    [2, 0, 1, 2, 1, 1, 5, 0, 0],
+    [3, 0, 1, 1, 1, 2, 0, 0, 0],
+    [3, 0, 1, 1, 2, 2, 0, 3, 0],
+    [4, 0, 1, 1, 1, 1, 0, 0, 0],
+    [6, 0, 1, 1, 1, 1, 0, 0, 0],
 ];
 
 #[test]
@@ -213,12 +214,12 @@ fn the_layouts_row_runs_10_15_16_17_18_11() {
     assert_eq!(Lent::new().fold(&words, &lines), refused(15, 7));
     lines[6][0] = 5;
     assert_eq!(Lent::new().fold(&words, &lines), refused(16, 4));
-    lines[4] = [3, 1, 2, 1, 2, 3, 0, 0];
+    lines[4] = [3, 0, 1, 2, 1, 2, 3, 0, 0];
     assert_eq!(Lent::new().fold(&words, &lines), refused(17, 2));
-    lines[2] = [2, 1, 2, 1, 2, 5, 0, 0];
+    lines[2] = [2, 0, 1, 2, 1, 2, 5, 0, 0];
     assert_eq!(Lent::new().fold(&words, &lines), refused(18, 1));
-    lines[0][5] = 0;
-    assert_eq!(Lent::new().fold(&words, &lines), Ok(5));
+    lines[0][6] = 0;
+    assert_eq!(Lent::new().fold(&words, &lines), boards(5));
     lines.remove(2);
     assert_eq!(Lent::new().fold(&words, &lines), refused(11, 2));
 }
@@ -227,10 +228,10 @@ fn the_layouts_row_runs_10_15_16_17_18_11() {
 fn the_plan_row_is_no_part_of_folding() {
     // 4,000 boards with one item each: the counts add up to the limit, and no more is asked.
     let words = job(Mode::TwoNonExact, [5, 4], &[[5, 4, 1]]);
-    let lines: Vec<[u16; 8]> = (1..=4_000)
-        .map(|board| [board, 1, 1, 1, 1, 0, 0, 0])
+    let lines: Vec<[u16; 9]> = (1..=4_000)
+        .map(|board| [board, 0, 1, 1, 1, 1, 0, 0, 0])
         .collect();
     let mut lent = Lent::new();
-    assert_eq!(lent.fold(&words, &lines), Ok(4_000));
+    assert_eq!(lent.fold(&words, &lines), boards(4_000));
     assert_eq!(lent.counts[0], 4_000);
 }

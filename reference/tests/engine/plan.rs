@@ -1,5 +1,6 @@
 //! Plans as words: lengths, sums and the exactness of acceptance (document 01, "Plan").
 
+use crate::common::boards;
 use crate::common::jobs::{job, job_a, random_job, words_of, PLAN_A};
 use crate::common::lent::{full_counts, junk, Lent, COUNTS, CUTS, PLATES};
 use crate::common::plain;
@@ -18,7 +19,7 @@ fn counts_are_passed_at_full_size_or_longer() {
     assert_eq!(answer, refused(5, 3));
     counts.extend([0; 70_000]);
     let answer = reference::test_plan(&job_a(), &counts, &mut plates, &mut cuts);
-    assert_eq!(answer, Ok(2));
+    assert_eq!(answer, boards(2));
 }
 
 #[test]
@@ -55,13 +56,13 @@ fn the_total_is_not_taken_modulo_a_word() {
 #[test]
 fn more_than_the_demand_is_accepted() {
     let counts = [7, 0, 7, 7, 0, 0, 7, 7];
-    assert_eq!(Lent::new().test_plan(&job_a(), &counts), Ok(7));
+    assert_eq!(Lent::new().test_plan(&job_a(), &counts), boards(7));
 }
 
 #[test]
 fn type_0_has_no_supply_rule() {
     let counts = [2, 3, 0, 0, 0, 0, 0, 0];
-    assert_eq!(Lent::new().test_plan(&job_a(), &counts), Ok(5));
+    assert_eq!(Lent::new().test_plan(&job_a(), &counts), boards(5));
 }
 
 #[test]
@@ -78,7 +79,7 @@ fn the_lowest_short_type_and_the_lowest_overdrawn_plate_are_named() {
 fn a_residual_that_two_cuts_leave_is_supplied_by_both() {
     // Plate 2 arises from cut 1 (type 0) and cut 5 (type 3); plate 3 from cut 2.
     let counts = [1, 1, 0, 2, 1, 0, 0, 0];
-    assert_eq!(Lent::new().test_plan(&job_a(), &counts), Ok(2));
+    assert_eq!(Lent::new().test_plan(&job_a(), &counts), boards(2));
     let counts = [1, 1, 0, 3, 1, 0, 0, 0];
     assert_eq!(Lent::new().test_plan(&job_a(), &counts), refused(12, 2));
 }
@@ -87,7 +88,7 @@ fn a_residual_that_two_cuts_leave_is_supplied_by_both() {
 fn a_chain_of_residuals_is_supplied_link_by_link() {
     // Plate 1 is (2, 1, 2), plate 2 is (1, 1, 2): cut 2 leaves plate 2, cut 3 nothing.
     let words = job(Mode::TwoNonExact, [3, 1], &[[1, 1, 1]]);
-    assert_eq!(Lent::new().test_plan(&words, &[1, 1, 1]), Ok(1));
+    assert_eq!(Lent::new().test_plan(&words, &[1, 1, 1]), boards(1));
     assert_eq!(Lent::new().test_plan(&words, &[1, 0, 1]), refused(12, 2));
     assert_eq!(Lent::new().test_plan(&words, &[1, 2, 0]), refused(12, 1));
 }
@@ -107,9 +108,11 @@ fn random_counts_are_accepted_exactly_by_the_constraints() {
             .collect();
         let expected = plain::accepts(&words, &counts);
         let answer = lent.test_plan(&words, &counts);
-        assert_eq!(answer.ok(), expected);
+        let opened = answer.ok().map(|outlay| [outlay.boards, outlay.cost]);
+        assert_eq!(opened, expected);
         let unfolded = lent.unfold(&words, &counts).ok();
-        assert_eq!(unfolded.map(|result| result.boards), expected);
+        let boards = expected.map(|[boards, _]| boards);
+        assert_eq!(unfolded.map(|result| result.boards), boards);
         accepted += usize::from(expected.is_some());
     }
     assert!(accepted > 500, "{accepted} plans were accepted");

@@ -1,4 +1,4 @@
-//! Prices: limits, the rule of each cut, the bound and "fewest" (document 01, "Prices").
+//! Prices: limits, the rule of each cut, the bound and "cheapest" (document 01, "Prices"; document 02, Six).
 
 use crate::common::jobs::{job, job_a, job_b, PRICES_A};
 use crate::common::lent::Lent;
@@ -116,20 +116,20 @@ fn the_bound_is_not_reduced_and_reaches_its_highest_value() {
 }
 
 #[test]
-fn fewest_compares_whole_products() {
-    // 7 over 3 lies between 2 and 3: three boards are the fewest, four are not.
+fn cheapest_compares_whole_products() {
+    // 7 over 3 lies between 2 and 3: a cost of 3 is the cheapest, one of 4 is not.
     let bound = Bound { sum: 7, d: 3 };
-    assert!(bound.is_fewest(1) && bound.is_fewest(2) && bound.is_fewest(3));
-    assert!(!bound.is_fewest(4));
+    assert!(bound.is_cheapest(1) && bound.is_cheapest(2) && bound.is_cheapest(3));
+    assert!(!bound.is_cheapest(4));
     // 6 over 3 is just 2.
     let bound = Bound { sum: 6, d: 3 };
-    assert!(bound.is_fewest(2) && !bound.is_fewest(3));
+    assert!(bound.is_cheapest(2) && !bound.is_cheapest(3));
     let nothing = Bound { sum: 0, d: 9_999 };
-    assert!(!nothing.is_fewest(1));
+    assert!(!nothing.is_cheapest(1));
     let highest = Bound {
         sum: 39_996_000,
         d: 9_999,
     };
-    assert!(highest.is_fewest(4_000) && !highest.is_fewest(4_001));
-    assert!(!Bound::NONE.is_fewest(1));
+    assert!(highest.is_cheapest(4_000) && !highest.is_cheapest(4_001));
+    assert!(!Bound::NONE.is_cheapest(1));
 }

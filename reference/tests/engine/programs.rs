@@ -31,10 +31,10 @@ fn the_programs_answer_as_the_library_does() {
     let output = run(SAW, &plan);
     assert_text(&output, &saw_text(&plan));
     let mut layouts = job_text(&job_a());
-    layouts.extend(&output[..5 * 82]);
+    layouts.extend(&output[..5 * 91]);
     let folded = run(FOLD, &layouts);
     assert_text(&folded, &fold_text(&layouts));
-    assert_text(&folded, &plan[174..]);
+    assert_text(&folded, &plan[211..]);
 }
 
 #[test]
@@ -49,9 +49,9 @@ fn the_programs_refuse_with_one_line() {
 #[test]
 fn the_programs_read_the_longest_texts() {
     let mut text = job_text(&job_a());
-    text.extend(line(&[3, 0, 1, 1, 9, 7, 1, 0]).repeat(99_996));
-    assert_text(&run(SAW, &text), &refusal(9, 5));
+    text.extend(line(&[3, 0, 1, 1, 9, 7, 1, 0]).repeat(99_995));
+    assert_text(&run(SAW, &text), &refusal(9, 6));
     let mut text = job_text(&job_a());
-    text.extend(line(&[7, 1, 1, 1, 1, 1, 0, 0, 0]).repeat(99_997));
+    text.extend(line(&[7, 1, 0, 1, 1, 1, 1, 0, 0, 0]).repeat(99_996));
     assert_text(&run(FOLD, &text), &refusal(1, 100_000));
 }

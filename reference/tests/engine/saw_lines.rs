@@ -4,7 +4,8 @@
 use crate::common::texts::{after_job_a, assert_text, line, lines, refusal};
 use reference::saw_text;
 
-const ONE: &[u32] = &[1, 2, 0, 9, 7, 2, 0];
+const ONE: &[u32] = &[1, 2, 0, 1, 2, 0];
+const SIZE: &[u32] = &[10, 0, 9, 7, 1];
 const TYPE_1: &[u32] = &[2, 1, 5, 4, 2, 0];
 const TYPE_2: &[u32] = &[2, 2, 3, 3, 3, 0];
 const CUT_1: &[u32] = &[3, 0, 1, 2, 9, 7, 1, 0];
@@ -24,12 +25,12 @@ fn assert_refused(all: &[&[u32]], number: u32, place: u32) {
     assert_text(&saw_text(&lines(all)), &refusal(number, place));
 }
 
-/// The answer to job A's first three lines and these is this refusal.
+/// The answer to job A's first four lines and these is this refusal.
 fn assert_refused_after_job(all: &[&[u32]], number: u32, place: u32) {
     assert_text(&saw_text(&after_job_a(all)), &refusal(number, place));
 }
 
-/// Job A, its plan (lines 4 to 7) and its prices (lines 8 to 15), with one line replaced.
+/// Job A, its plan (lines 5 to 8) and its prices (lines 9 to 16), with one line replaced.
 fn with_line(number: usize, replaced: &[u32]) -> Vec<u8> {
     let plan: [&[u32]; 4] = [
         CUT_1,
@@ -37,7 +38,7 @@ fn with_line(number: usize, replaced: &[u32]) -> Vec<u8> {
         &[3, 2, 2, 1, 4, 4, 2, 0],
         &[3, 4, 2, 1, 6, 3, 2, 0],
     ];
-    let mut all = vec![ONE, TYPE_1, TYPE_2];
+    let mut all = vec![ONE, SIZE, TYPE_1, TYPE_2];
     all.extend(plan);
     all.extend(PRICES);
     all[number - 1] = replaced;
@@ -52,7 +53,7 @@ fn an_empty_text_misses_line_1() {
 #[test]
 fn a_blank_line_is_1_anywhere() {
     let whole = with_line(1, ONE);
-    let starts = [0, 64, 119, 174, 247, 320, 393, 466, 503, 531, 559, 587];
+    let starts = [0, 55, 101, 156, 211, 284, 357, 430, 503, 540, 568, 596, 624];
     assert_text(&saw_text(b"\n"), &refusal(1, 1));
     for (index, &start) in starts.iter().enumerate() {
         let mut text = whole[..start].to_vec();
@@ -62,7 +63,7 @@ fn a_blank_line_is_1_anywhere() {
     }
     let mut text = whole.clone();
     text.push(b'\n');
-    assert_text(&saw_text(&text), &refusal(1, 16));
+    assert_text(&saw_text(&text), &refusal(1, 17));
 }
 
 #[test]
@@ -74,54 +75,53 @@ fn line_1_must_come_first() {
 
 #[test]
 fn missing_lines_2_are_one_past_the_last() {
-    assert_refused(&[ONE], 1, 2);
-    assert_refused(&[ONE, TYPE_1], 1, 3);
+    assert_refused(&[ONE, SIZE], 1, 3);
+    assert_refused(&[ONE, SIZE, TYPE_1], 1, 4);
 }
 
 #[test]
 fn too_few_or_too_many_lines_2_name_the_line_that_does_not_fit() {
-    for other in [CUT_1, PRICES[0], &[7, 1, 1, 1, 1, 1, 0, 0, 0], ONE] {
-        assert_refused(&[ONE, other], 1, 2);
-        assert_refused(&[ONE, TYPE_1, other], 1, 3);
+    for other in [CUT_1, PRICES[0], &[7, 1, 0, 1, 1, 1, 1, 0, 0, 0], ONE] {
+        assert_refused(&[ONE, SIZE, other], 1, 3);
+        assert_refused(&[ONE, SIZE, TYPE_1, other], 1, 4);
     }
-    assert_refused(&[ONE, TYPE_1, TYPE_2, &[2, 3, 1, 1, 1, 0]], 1, 4);
-    assert_refused(&[ONE, TYPE_1, TYPE_2, TYPE_2], 1, 4);
+    assert_refused(&[ONE, SIZE, TYPE_1, TYPE_2, &[2, 3, 1, 1, 1, 0]], 1, 5);
+    assert_refused(&[ONE, SIZE, TYPE_1, TYPE_2, TYPE_2], 1, 5);
 }
 
 #[test]
 fn a_running_number_that_is_not_the_next_is_1_also_outside_its_limits() {
     for wrong in [0, 2, 3, 41, 99, 999_999_999] {
-        assert_refused(&[ONE, &[2, wrong, 5, 4, 2, 0]], 1, 2);
+        assert_refused(&[ONE, SIZE, &[2, wrong, 5, 4, 2, 0]], 1, 3);
         // 1 goes before 2 on the same line.
-        assert_refused(&[ONE, &[2, wrong, 0, 10_001, 4_001, 0]], 1, 2);
+        assert_refused(&[ONE, SIZE, &[2, wrong, 0, 10_001, 4_001, 0]], 1, 3);
     }
     for wrong in [0, 1, 3, 99] {
-        assert_refused(&[ONE, TYPE_1, &[2, wrong, 3, 3, 3, 0]], 1, 3);
-        assert_text(&saw_text(&with_line(10, &[5, wrong, 0])), &refusal(1, 10));
-        assert_text(&saw_text(&with_line(12, &[6, wrong, 0])), &refusal(1, 12));
+        assert_refused(&[ONE, SIZE, TYPE_1, &[2, wrong, 3, 3, 3, 0]], 1, 4);
+        assert_text(&saw_text(&with_line(11, &[5, wrong, 0])), &refusal(1, 11));
+        assert_text(&saw_text(&with_line(13, &[6, wrong, 0])), &refusal(1, 13));
         assert_text(
-            &saw_text(&with_line(12, &[6, wrong, 10_000])),
-            &refusal(1, 12),
+            &saw_text(&with_line(13, &[6, wrong, 10_000])),
+            &refusal(1, 13),
         );
     }
 }
 
 #[test]
 fn values_of_line_1_outside_their_limits() {
-    let bad: [[u32; 7]; 13] = [
-        [1, 1, 0, 9, 7, 2, 0],
-        [1, 4, 0, 9, 7, 2, 0],
-        [1, 0, 0, 9, 7, 2, 0],
-        [1, 2, 2, 9, 7, 2, 0],
-        [1, 2, 0, 0, 7, 2, 0],
-        [1, 2, 0, 10_001, 7, 2, 0],
-        [1, 2, 0, 9, 0, 2, 0],
-        [1, 2, 0, 9, 10_001, 2, 0],
-        [1, 2, 0, 9, 7, 0, 0],
-        [1, 2, 0, 9, 7, 41, 0],
-        [1, 2, 0, 9, 7, 2, 21],
-        [1, 2, 0, 9, 7, 2, 999_999_999],
-        [1, 9, 9, 0, 0, 0, 99],
+    let bad: [[u32; 6]; 12] = [
+        [1, 1, 0, 1, 2, 0],
+        [1, 4, 0, 1, 2, 0],
+        [1, 0, 0, 1, 2, 0],
+        [1, 2, 2, 1, 2, 0],
+        [1, 2, 0, 0, 2, 0],
+        [1, 2, 0, 7, 2, 0],
+        [1, 2, 0, 999_999_999, 2, 0],
+        [1, 2, 0, 1, 0, 0],
+        [1, 2, 0, 1, 41, 0],
+        [1, 2, 0, 1, 2, 21],
+        [1, 2, 0, 1, 2, 999_999_999],
+        [1, 9, 9, 0, 0, 99],
     ];
     for first in &bad {
         assert_refused(&[first, TYPE_1, TYPE_2], 2, 1);
@@ -130,15 +130,15 @@ fn values_of_line_1_outside_their_limits() {
 }
 
 #[test]
-fn line_1_has_seven_groups() {
-    for first in [&ONE[..6], &[1, 2, 0, 9, 7, 2, 0, 0]] {
+fn line_1_has_six_groups() {
+    for first in [&ONE[..5], &[1, 2, 0, 1, 2, 0, 0], &[1, 2, 0, 9, 7, 2, 0]] {
         assert_refused(&[first, TYPE_1, TYPE_2], 1, 1);
         assert_refused(&[first], 1, 1);
     }
     // 1 goes before 2, and the form of line 1 before its values.
-    assert_refused(&[&[1, 2, 0, 9, 7, 41]], 1, 1);
+    assert_refused(&[&[1, 2, 0, 1, 41]], 1, 1);
     for blade in 0..=20 {
-        assert_refused(&[&[1, 2, 0, 9, 7, 2, blade]], 1, 2);
+        assert_refused(&[&[1, 2, 0, 1, 2, blade], SIZE], 1, 3);
     }
 }
 
@@ -155,10 +155,10 @@ fn values_of_line_2_outside_their_limits() {
     ] {
         let mut first = [2, 1, 5, 4, 2, 0];
         first[index] = value;
-        assert_refused(&[ONE, &first, TYPE_2], 2, 2);
+        assert_refused(&[ONE, SIZE, &first, TYPE_2], 2, 3);
         let mut second = [2, 2, 5, 4, 2, 0];
         second[index] = value;
-        assert_refused(&[ONE, TYPE_1, &second], 2, 3);
+        assert_refused(&[ONE, SIZE, TYPE_1, &second], 2, 4);
     }
 }
 
@@ -172,10 +172,10 @@ fn values_of_line_3_outside_their_limits() {
         [3, 0, 1, 4_001, 9, 7, 1, 0],
         [3, 0, 1, 1, 9, 7, 1, 2],
     ] {
-        assert_refused_after_job(&[&bad], 2, 4);
+        assert_refused_after_job(&[&bad], 2, 5);
     }
     // Within the limits, but no cut: the plan row.
-    assert_refused_after_job(&[&[3, 2_047, 2, 4_000, 1, 1, 1, 0]], 8, 4);
+    assert_refused_after_job(&[&[3, 2_047, 2, 4_000, 1, 1, 1, 0]], 8, 5);
 }
 
 #[test]
@@ -187,30 +187,36 @@ fn values_of_line_4_outside_their_limits() {
         [4, 1, 41, 5],
         [4, 1, 2, 2_048],
     ] {
-        assert_text(&saw_text(&with_line(8, &bad)), &refusal(2, 8));
-        assert_refused_after_job(&[&bad], 2, 4);
+        assert_text(&saw_text(&with_line(9, &bad)), &refusal(2, 9));
+        assert_refused_after_job(&[&bad], 2, 5);
     }
 }
 
 #[test]
 fn prices_outside_their_limits() {
-    assert_text(&saw_text(&with_line(9, &[5, 1, 10_000])), &refusal(2, 9));
-    assert_text(&saw_text(&with_line(15, &[6, 5, 10_000])), &refusal(2, 15));
+    assert_text(&saw_text(&with_line(10, &[5, 1, 10_000])), &refusal(2, 10));
+    assert_text(&saw_text(&with_line(16, &[6, 5, 10_000])), &refusal(2, 16));
 }
 
 #[test]
 fn lines_5_and_6_come_after_4_and_in_that_order() {
-    assert_refused_after_job(&[PRICES[1]], 1, 4);
-    assert_refused_after_job(&[PRICES[3]], 1, 4);
-    assert_refused_after_job(&[PRICES[0], PRICES[3]], 1, 5);
-    assert_refused_after_job(&[PRICES[0], PRICES[1], PRICES[3]], 1, 6);
-    assert_refused_after_job(&[PRICES[0], PRICES[1], PRICES[2], PRICES[2]], 1, 7);
+    assert_refused_after_job(&[PRICES[1]], 1, 5);
+    assert_refused_after_job(&[PRICES[3]], 1, 5);
+    assert_refused_after_job(&[PRICES[0], PRICES[3]], 1, 6);
+    assert_refused_after_job(&[PRICES[0], PRICES[1], PRICES[3]], 1, 7);
+    assert_refused_after_job(&[PRICES[0], PRICES[1], PRICES[2], PRICES[2]], 1, 8);
 }
 
 #[test]
 fn nothing_but_5_and_6_comes_after_4() {
-    for other in [CUT_1, PRICES[0], ONE, TYPE_1, &[7, 1, 1, 1, 1, 1, 0, 0, 0]] {
-        for place in 9..=15 {
+    for other in [
+        CUT_1,
+        PRICES[0],
+        ONE,
+        TYPE_1,
+        &[7, 1, 0, 1, 1, 1, 1, 0, 0, 0],
+    ] {
+        for place in 10..=16 {
             assert_text(
                 &saw_text(&with_line(place, other)),
                 &refusal(1, place as u32),
@@ -218,7 +224,7 @@ fn nothing_but_5_and_6_comes_after_4() {
         }
         let mut text = with_line(1, ONE);
         text.extend(line(other));
-        assert_text(&saw_text(&text), &refusal(1, 16));
+        assert_text(&saw_text(&text), &refusal(1, 17));
     }
 }
 
@@ -226,7 +232,7 @@ fn nothing_but_5_and_6_comes_after_4() {
 fn kinds_that_no_saw_text_has() {
     let kinds: [&[u32]; 9] = [
         ONE,
-        &[7, 1, 1, 1, 1, 1, 0, 0, 0],
+        &[7, 1, 0, 1, 1, 1, 1, 0, 0, 0],
         &[8, 2, 2, 1, 1],
         &[9, 1, 1],
         &[0],
@@ -236,8 +242,8 @@ fn kinds_that_no_saw_text_has() {
         &[999_999_999, 0, 1, 2],
     ];
     for kind in kinds {
-        assert_refused_after_job(&[kind], 1, 4);
-        assert_refused_after_job(&[CUT_1, kind], 1, 5);
+        assert_refused_after_job(&[kind], 1, 5);
+        assert_refused_after_job(&[CUT_1, kind], 1, 6);
     }
 }
 
@@ -245,7 +251,7 @@ fn kinds_that_no_saw_text_has() {
 fn missing_prices_are_one_past_the_last() {
     let whole: Vec<&[u32]> = PRICES.to_vec();
     for length in 1..whole.len() {
-        let place = 4 + length as u32;
+        let place = 5 + length as u32;
         assert_refused_after_job(&whole[..length], 1, place);
     }
 }
@@ -254,11 +260,11 @@ fn missing_prices_are_one_past_the_last() {
 fn surplus_prices_are_named() {
     let mut all = PRICES.to_vec();
     all.push(&[6, 6, 0]);
-    assert_refused_after_job(&all, 1, 12);
+    assert_refused_after_job(&all, 1, 13);
     let none: [&[u32]; 4] = [&[4, 1, 2, 0], PRICES[1], PRICES[2], &[6, 1, 0]];
-    assert_refused_after_job(&none, 1, 7);
+    assert_refused_after_job(&none, 1, 8);
     let surplus: [&[u32]; 4] = [&[4, 1, 1, 1], PRICES[1], &[5, 2, 0], &[6, 1, 0]];
-    assert_refused_after_job(&surplus, 1, 6);
+    assert_refused_after_job(&surplus, 1, 7);
 }
 
 #[test]
@@ -266,35 +272,39 @@ fn any_byte_after_the_last_admitted_line_is_1() {
     for byte in [b'\n', b' ', b'0', 0, 0xff] {
         let mut text = with_line(1, ONE);
         text.push(byte);
-        assert_text(&saw_text(&text), &refusal(1, 16));
+        assert_text(&saw_text(&text), &refusal(1, 17));
     }
 }
 
 #[test]
 fn the_line_row_is_taken_line_by_line() {
-    // 2 on line 4 goes before 1 on line 5, and 1 on line 4 before 2 on line 5.
+    // 2 on line 5 goes before 1 on line 6, and 1 on line 5 before 2 on line 6.
     let outside: &[u32] = &[3, 0, 1, 0, 9, 7, 1, 0];
-    assert_refused_after_job(&[outside, TYPE_1], 2, 4);
-    assert_refused_after_job(&[TYPE_1, outside], 1, 4);
-    assert_refused(&[&[1, 2, 0, 9, 7, 41, 0]], 2, 1);
+    assert_refused_after_job(&[outside, TYPE_1], 2, 5);
+    assert_refused_after_job(&[TYPE_1, outside], 1, 5);
+    assert_refused(&[&[1, 2, 0, 1, 41, 0]], 2, 1);
 }
 
 #[test]
 fn the_line_row_goes_before_every_other_row() {
     let large: &[u32] = &[2, 1, 10, 4, 2, 0];
     assert_refused(
-        &[ONE, large, TYPE_2, CUT_1, &[3, 0, 2, 0, 9, 7, 1, 0]],
+        &[ONE, SIZE, large, TYPE_2, CUT_1, &[3, 0, 2, 0, 9, 7, 1, 0]],
         2,
-        5,
+        6,
     );
-    assert_refused(&[ONE, large, TYPE_2, &[3, 9, 1, 1, 1, 1, 1, 0], ONE], 1, 5);
-    assert_refused(&[ONE, large], 1, 3);
-    assert_refused(&[ONE, large, TYPE_2, &[3, 9, 1, 1, 1, 1, 1, 0]], 3, 1);
+    assert_refused(
+        &[ONE, SIZE, large, TYPE_2, &[3, 9, 1, 1, 1, 1, 1, 0], ONE],
+        1,
+        6,
+    );
+    assert_refused(&[ONE, SIZE, large], 1, 4);
+    assert_refused(&[ONE, SIZE, large, TYPE_2, &[3, 9, 1, 1, 1, 1, 1, 0]], 3, 1);
     // The prices of a plan that is refused are read all the same.
-    assert_refused_after_job(&[&[3, 9, 1, 1, 1, 1, 1, 0], &[4, 1, 1, 0]], 1, 6);
+    assert_refused_after_job(&[&[3, 9, 1, 1, 1, 1, 1, 0], &[4, 1, 1, 0]], 1, 7);
     assert_refused_after_job(
         &[&[3, 9, 1, 1, 1, 1, 1, 0], &[4, 1, 1, 0], &[5, 1, 0]],
         8,
-        4,
+        5,
     );
 }

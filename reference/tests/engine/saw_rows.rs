@@ -7,12 +7,13 @@ use crate::common::plans::random_plan;
 use crate::common::prices::{disturb, least_prices, words_of as price_words};
 use crate::common::random::Random;
 use crate::common::texts::{
-    after_job_a, assert_text, job_text, layout_text, line, lines, plan_text_of, price_text, refusal,
+    after_job_a, assert_text, job_text, layout_text, line, lines, plan_text_of, price_text_on,
+    refusal,
 };
 use reference::listing::FULL;
 use reference::{fold_text, saw_text, Job, Listing, Mode};
 
-/// The answer to job A's first three lines and these is this refusal.
+/// The answer to job A's first four lines and these is this refusal.
 fn assert_refused(all: &[&[u32]], number: u32, place: u32) {
     assert_text(&saw_text(&after_job_a(all)), &refusal(number, place));
 }
@@ -26,19 +27,22 @@ fn no_lines_3_are_admitted_and_leave_type_1_short() {
 #[test]
 fn the_job_row() {
     let text = lines(&[
-        &[1, 2, 0, 9, 7, 2, 0],
+        &[1, 2, 0, 1, 2, 0],
+        &[10, 0, 9, 7, 1],
         &[2, 1, 5, 4, 4_000, 0],
         &[2, 2, 3, 8, 1, 0],
     ]);
     assert_text(&saw_text(&text), &refusal(3, 2));
     let text = lines(&[
-        &[1, 2, 0, 9, 7, 2, 0],
+        &[1, 2, 0, 1, 2, 0],
+        &[10, 0, 9, 7, 1],
         &[2, 1, 5, 4, 4_000, 0],
         &[2, 2, 3, 3, 1, 0],
     ]);
     assert_text(&saw_text(&text), &refusal(4, 0));
     let text = lines(&[
-        &[1, 2, 0, 9, 7, 2, 0],
+        &[1, 2, 0, 1, 2, 0],
+        &[10, 0, 9, 7, 1],
         &[2, 1, 5, 4, 4_000, 0],
         &[2, 2, 10_000, 3, 1, 0],
     ]);
@@ -48,7 +52,8 @@ fn the_job_row() {
 #[test]
 fn the_model_row_goes_before_the_plan() {
     let text = lines(&[
-        &[1, 2, 0, 10_000, 9, 1, 0],
+        &[1, 2, 0, 1, 1, 0],
+        &[10, 0, 10_000, 9, 1],
         &[2, 1, 1, 1, 1, 0],
         &[3, 2_047, 1, 1, 1, 1, 1, 0],
     ]);
@@ -60,16 +65,16 @@ fn the_model_row_goes_before_the_plan() {
 
 #[test]
 fn a_pair_that_is_no_cut_is_8() {
-    assert_refused(&[&[3, 6, 1, 1, 1, 1, 1, 0]], 8, 4);
+    assert_refused(&[&[3, 6, 1, 1, 1, 1, 1, 0]], 8, 5);
     assert_refused(
         &[&[3, 0, 1, 1, 9, 7, 1, 0], &[3, 1, 1, 1, 9, 3, 1, 0]],
         8,
-        5,
+        6,
     );
     assert_refused(
         &[&[3, 2, 1, 1, 4, 4, 2, 0], &[3, 1, 1, 1, 9, 3, 1, 0]],
         8,
-        4,
+        5,
     );
 }
 
@@ -78,12 +83,12 @@ fn a_cut_not_after_the_last_is_9_never_1() {
     assert_refused(
         &[&[3, 0, 1, 1, 9, 7, 1, 0], &[3, 0, 1, 1, 9, 7, 1, 0]],
         9,
-        5,
+        6,
     );
     assert_refused(
         &[&[3, 0, 2, 1, 9, 7, 1, 0], &[3, 0, 1, 1, 9, 7, 1, 0]],
         9,
-        5,
+        6,
     );
     assert_refused(
         &[
@@ -92,7 +97,7 @@ fn a_cut_not_after_the_last_is_9_never_1() {
             &[3, 0, 1, 1, 9, 7, 1, 0],
         ],
         9,
-        5,
+        6,
     );
     // Each is compared with the line before it.
     assert_refused(
@@ -102,13 +107,13 @@ fn a_cut_not_after_the_last_is_9_never_1() {
             &[3, 3, 2, 1, 9, 4, 1, 0],
         ],
         9,
-        6,
+        7,
     );
     // A fault of order goes before a total that is too high.
     assert_refused(
         &[&[3, 0, 1, 4_000, 9, 7, 1, 0], &[3, 0, 1, 4_000, 9, 7, 1, 0]],
         9,
-        5,
+        6,
     );
 }
 
@@ -121,7 +126,7 @@ fn a_line_8_goes_before_9_on_an_earlier_line() {
             &[3, 1, 1, 1, 9, 3, 1, 0],
         ],
         8,
-        6,
+        7,
     );
 }
 
@@ -163,7 +168,7 @@ fn n_and_m_that_are_not_the_models_are_13_after_all_their_lines() {
         }
         assert_text(&saw_text(&text), &refusal(13, 0));
         text.truncate(text.len() - 28);
-        let missing = 8 + types + residuals;
+        let missing = 9 + types + residuals;
         assert_text(&saw_text(&text), &refusal(1, missing));
     }
 }
@@ -189,15 +194,16 @@ fn a_refusal_is_one_line_alone() {
 #[test]
 fn prices_without_residual_types() {
     let text = lines(&[
-        &[1, 3, 1, 9, 7, 1, 0],
+        &[1, 3, 1, 1, 1, 0],
+        &[10, 0, 9, 7, 1],
         &[2, 1, 9, 7, 2, 0],
         &[3, 0, 1, 2, 9, 7, 1, 0],
         &[4, 9_999, 1, 0],
         &[5, 1, 9_999],
     ]);
     let expected = lines(&[
-        &[7, 1, 1, 1, 1, 1, 0, 0, 0],
-        &[7, 2, 1, 1, 1, 1, 0, 0, 0],
+        &[7, 1, 0, 1, 1, 1, 1, 0, 0, 0],
+        &[7, 2, 0, 1, 1, 1, 1, 0, 0, 0],
         &[8, 2, 19_998, 9_999, 1],
     ]);
     assert_text(&saw_text(&text), &expected);
@@ -211,8 +217,9 @@ fn random_text(random: &mut Random, lent: &mut Lent) -> (Job, Vec<u8>, Vec<u8>, 
     let counts = random_plan(random, &structured, &listing);
     let mut text = job_text(&words);
     text.extend(plan_text_of(&words, &counts));
-    let boards = lent.unfold(&words, &counts).unwrap().boards;
-    (structured, text, layout_text(&lent.lines()), boards)
+    let cost = lent.test_plan(&words, &counts).unwrap().cost;
+    lent.unfold(&words, &counts).unwrap();
+    (structured, text, layout_text(&lent.lines()), cost)
 }
 
 #[test]
@@ -220,9 +227,9 @@ fn the_output_of_a_saw_text_folds_back_into_its_plan() {
     let mut random = Random::new(9);
     let mut lent = Lent::new();
     for _ in 0..3_000 {
-        let (structured, text, placements, boards) = random_text(&mut random, &mut lent);
+        let (structured, text, placements, cost) = random_text(&mut random, &mut lent);
         let mut expected = placements.clone();
-        expected.extend(line(&[8, boards, 0, 1, 0]));
+        expected.extend(line(&[8, cost, 0, 1, 0]));
         assert_text(&saw_text(&text), &expected);
         let head = job_text(&words_of(&structured));
         let layouts = [head.clone(), placements].concat();
@@ -236,7 +243,7 @@ fn random_prices_are_answered_with_their_bound_or_refusal() {
     let mut lent = Lent::new();
     let mut refusals = 0;
     for _ in 0..3_000 {
-        let (structured, mut text, mut expected, boards) = random_text(&mut random, &mut lent);
+        let (structured, mut text, mut expected, cost) = random_text(&mut random, &mut lent);
         let listing = Listing::walk(&structured, FULL).unwrap();
         let Some(mut prices) = least_prices(&mut random, &structured, &listing) else {
             continue;
@@ -244,11 +251,12 @@ fn random_prices_are_answered_with_their_bound_or_refusal() {
         if random.once_in(3) {
             disturb(&mut random, &mut prices);
         }
-        text.extend(price_text(&prices));
+        text.extend(price_text_on(structured.sizes.len(), &prices));
         match lent.test_prices(&words_of(&structured), &price_words(&prices)) {
             Ok(bound) => {
-                let fewest = u32::from((boards - 1) * bound.d < bound.sum);
-                expected.extend(line(&[8, boards, bound.sum, bound.d, fewest]));
+                let less = u64::from(cost - 1) * u64::from(bound.d);
+                let cheapest = u32::from(less < u64::from(bound.sum));
+                expected.extend(line(&[8, cost, bound.sum, bound.d, cheapest]));
             }
             Err(refused) => {
                 expected = refusal(refused.number, refused.place);

@@ -36,13 +36,13 @@ const NEVER: [u32; 8] = [
     999_999_999,
 ];
 
-/// The answer to job A's first three lines and these.
+/// The answer to job A's first four lines and these.
 fn answer(plan: &[[u32; 8]]) -> Vec<u8> {
     let all: Vec<&[u32]> = plan.iter().map(|line| &line[..]).collect();
     saw_text(&after_job_a(&all))
 }
 
-/// The answer to job A's first three lines and these is this refusal.
+/// The answer to job A's first four lines and these is this refusal.
 #[track_caller]
 fn assert_refused(plan: &[[u32; 8]], number: u32, place: u32) {
     assert_text(&answer(plan), &refusal(number, place));
@@ -68,17 +68,17 @@ fn a_line_shows_width_height_and_stage_after_the_count_and_ends_with_the_turn() 
     // and the turn comes last.
     let words = job_with_leave(Mode::TwoNonExact, [5, 3], &[[3, 5, 1, 1]]);
     let text = |numbers: [u32; 8]| [job_text(&words), line(&numbers)].concat();
-    let expected = lines(&[&[7, 1, 1, 1, 1, 1, 0, 0, 1], &[8, 1, 0, 1, 0]]);
+    let expected = lines(&[&[7, 1, 0, 1, 1, 1, 1, 0, 0, 1], &[8, 1, 0, 1, 0]]);
     assert_text(&saw_text(&text([3, 0, 1, 1, 5, 3, 1, 1])), &expected);
-    assert_text(&saw_text(&text([3, 0, 1, 1, 3, 5, 1, 1])), &refusal(20, 3));
+    assert_text(&saw_text(&text([3, 0, 1, 1, 3, 5, 1, 1])), &refusal(20, 4));
     // The turn before the three numbers is taken for a width of 1, and the stage for a turn of 1.
-    assert_text(&saw_text(&text([3, 0, 1, 1, 1, 5, 3, 1])), &refusal(20, 3));
+    assert_text(&saw_text(&text([3, 0, 1, 1, 1, 5, 3, 1])), &refusal(20, 4));
 }
 
 #[test]
 fn each_of_the_three_alone_is_20() {
     for (index, numbers) in PLAN.iter().enumerate() {
-        let place = index as u32 + 4;
+        let place = index as u32 + 5;
         for group in SHOWN {
             for other in [numbers[group] - 1, numbers[group] + 1] {
                 assert_refused(&with(index, group, other), 20, place);
@@ -86,9 +86,9 @@ fn each_of_the_three_alone_is_20() {
         }
     }
     // The stage alone: of a strip's plate, and of the board.
-    assert_refused(&with(3, 6, 1), 20, 7);
-    assert_refused(&with(0, 6, 2), 20, 4);
-    assert_refused(&with(0, 6, 3), 20, 4);
+    assert_refused(&with(3, 6, 1), 20, 8);
+    assert_refused(&with(0, 6, 2), 20, 5);
+    assert_refused(&with(0, 6, 3), 20, 5);
 }
 
 #[test]
@@ -96,24 +96,24 @@ fn numbers_are_compared_before_they_are_narrowed() {
     for (index, numbers) in PLAN.iter().enumerate() {
         for group in SHOWN {
             for wraps in [65_536, 131_072, 65_536 * 15_258] {
-                let place = index as u32 + 4;
+                let place = index as u32 + 5;
                 assert_refused(&with(index, group, numbers[group] + wraps), 20, place);
             }
         }
     }
     // 65,545 for a width of 9.
-    assert_refused(&with(0, 4, 65_545), 20, 4);
+    assert_refused(&with(0, 4, 65_545), 20, 5);
     // All three at once.
     let mut plan = PLAN;
     plan[0] = [3, 0, 1, 2, 65_545, 65_543, 65_537, 0];
-    assert_refused(&plan, 20, 4);
+    assert_refused(&plan, 20, 5);
 }
 
 #[test]
 fn the_three_have_no_limits_of_their_own() {
     for group in SHOWN {
         for number in NEVER {
-            assert_refused(&with(1, group, number), 20, 5);
+            assert_refused(&with(1, group, number), 20, 6);
         }
         // A number that ten columns would take is not of the form.
         let mut text = after_job_a(&[]);
@@ -121,18 +121,18 @@ fn the_three_have_no_limits_of_their_own() {
         text.extend(&whole[..9 * group]);
         text.extend(b"1000000000");
         text.extend(&whole[9 * group + 9..]);
-        assert_text(&saw_text(&text), &refusal(1, 4));
+        assert_text(&saw_text(&text), &refusal(1, 5));
     }
     let mut plan = PLAN;
     plan[2] = [3, 2, 2, 1, 999_999_999, 999_999_999, 999_999_999, 0];
-    assert_refused(&plan, 20, 6);
+    assert_refused(&plan, 20, 7);
 }
 
 #[test]
 fn the_same_cut_twice_with_a_wrong_width_on_the_second_line_is_20() {
     let twice = |width| [[3, 0, 1, 1, 9, 7, 1, 0], [3, 0, 1, 1, width, 7, 1, 0]];
-    assert_refused(&twice(8), 20, 5);
-    assert_refused(&twice(9), 9, 5);
+    assert_refused(&twice(8), 20, 6);
+    assert_refused(&twice(9), 9, 6);
 }
 
 #[test]
@@ -140,53 +140,53 @@ fn a_line_that_names_no_cut_is_8_whatever_it_shows() {
     // Plate 1 exists, and type 1 is no cut there; plate 6 does not exist.
     for shown in [[9, 3, 1], [9, 3, 2], [1, 1, 1], [0, 0, 0], [65_545, 3, 1]] {
         let [w, h, stage] = shown;
-        assert_refused(&[[3, 1, 1, 1, w, h, stage, 0]], 8, 4);
-        assert_refused(&[[3, 6, 1, 1, w, h, stage, 0]], 8, 4);
+        assert_refused(&[[3, 1, 1, 1, w, h, stage, 0]], 8, 5);
+        assert_refused(&[[3, 6, 1, 1, w, h, stage, 0]], 8, 5);
         // Also after a line that is 20, and before one.
         let other = [3, 0, 1, 1, 9, 7, 2, 0];
-        assert_refused(&[other, [3, 1, 1, 1, w, h, stage, 0]], 8, 5);
-        assert_refused(&[[3, 1, 1, 1, w, h, stage, 0], other], 8, 4);
+        assert_refused(&[other, [3, 1, 1, 1, w, h, stage, 0]], 8, 6);
+        assert_refused(&[[3, 1, 1, 1, w, h, stage, 0], other], 8, 5);
     }
 }
 
 #[test]
 fn a_line_20_goes_before_9_on_an_earlier_line() {
     let falling = [[3, 0, 2, 1, 9, 7, 1, 0], [3, 0, 1, 1, 9, 7, 1, 0]];
-    assert_refused(&falling, 9, 5);
+    assert_refused(&falling, 9, 6);
     let later = [3, 1, 2, 1, 9, 3, 2, 0];
-    assert_refused(&[falling[0], falling[1], later], 20, 6);
+    assert_refused(&[falling[0], falling[1], later], 20, 7);
     // The three of the row: 8 on line 7, 20 on line 6, 9 on line 5.
     let none = [3, 1, 1, 1, 9, 3, 1, 0];
-    assert_refused(&[falling[0], falling[1], later, none], 8, 7);
+    assert_refused(&[falling[0], falling[1], later, none], 8, 8);
 }
 
 #[test]
 fn the_lowest_line_is_named() {
     let mut plan = PLAN;
     plan[3][6] = 3;
-    assert_refused(&plan, 20, 7);
+    assert_refused(&plan, 20, 8);
     plan[1][5] = 4;
-    assert_refused(&plan, 20, 5);
+    assert_refused(&plan, 20, 6);
     plan[2][4] = 5;
-    assert_refused(&plan, 20, 5);
+    assert_refused(&plan, 20, 6);
 }
 
 #[test]
 fn the_line_row_goes_before_20() {
     let shows_other = [3, 0, 1, 1, 1, 1, 1, 0];
     // 2 on a later line, and on the same line for the numbers that have limits.
-    assert_refused(&[shows_other, [3, 0, 1, 0, 9, 7, 1, 0]], 2, 5);
-    assert_refused(&[[3, 0, 3, 1, 1, 1, 1, 0]], 2, 4);
-    assert_refused(&[[3, 2_048, 1, 1, 1, 1, 1, 0]], 2, 4);
-    assert_refused(&[[3, 0, 1, 1, 1, 1, 1, 2]], 2, 4);
+    assert_refused(&[shows_other, [3, 0, 1, 0, 9, 7, 1, 0]], 2, 6);
+    assert_refused(&[[3, 0, 3, 1, 1, 1, 1, 0]], 2, 5);
+    assert_refused(&[[3, 2_048, 1, 1, 1, 1, 1, 0]], 2, 5);
+    assert_refused(&[[3, 0, 1, 1, 1, 1, 1, 2]], 2, 5);
     // 19 on a later line, and on the same.
-    assert_refused(&[shows_other, [3, 0, 2, 1, 9, 7, 1, 1]], 19, 5);
-    assert_refused(&[[3, 0, 1, 1, 1, 1, 1, 1]], 19, 4);
+    assert_refused(&[shows_other, [3, 0, 2, 1, 9, 7, 1, 1]], 19, 6);
+    assert_refused(&[[3, 0, 1, 1, 1, 1, 1, 1]], 19, 5);
     // 1 at the end of the text.
     let text = [after_job_a(&[&shows_other]), b" ".to_vec()].concat();
-    assert_text(&saw_text(&text), &refusal(1, 5));
+    assert_text(&saw_text(&text), &refusal(1, 6));
     let prices = [after_job_a(&[&shows_other]), line(&[4, 1, 1, 0])].concat();
-    assert_text(&saw_text(&prices), &refusal(1, 6));
+    assert_text(&saw_text(&prices), &refusal(1, 7));
 }
 
 #[test]
@@ -207,13 +207,13 @@ fn job_and_model_rows_go_before_20_and_the_rest_of_the_plan_row_after_it() {
     }
     // Too many, too few and overdrawn, each with a line that shows another plate.
     let many = [[3, 0, 1, 4_000, 9, 7, 2, 0], [3, 5, 2, 1, 3, 3, 2, 0]];
-    assert_refused(&many, 20, 4);
-    assert_refused(&[[3, 0, 1, 1, 9, 7, 2, 0]], 20, 4);
-    assert_refused(&[[3, 0, 1, 3, 9, 7, 1, 0], [3, 2, 2, 4, 4, 3, 2, 0]], 20, 5);
+    assert_refused(&many, 20, 5);
+    assert_refused(&[[3, 0, 1, 1, 9, 7, 2, 0]], 20, 5);
+    assert_refused(&[[3, 0, 1, 3, 9, 7, 1, 0], [3, 2, 2, 4, 4, 3, 2, 0]], 20, 6);
     // Prices that are not the model's.
     let mut text = after_job_a(&[&with(0, 4, 8)[0]]);
     text.extend(lines(&[&[4, 1, 1, 0], &[5, 1, 9_999]]));
-    assert_text(&saw_text(&text), &refusal(20, 4));
+    assert_text(&saw_text(&text), &refusal(20, 5));
 }
 
 #[test]
@@ -225,7 +225,7 @@ fn another_numbering_of_the_same_plates_is_found_out() {
         PLAN[2],
         [3, 4, 2, 1, 9, 3, 1, 0],
     ];
-    assert_refused(&exchanged, 20, 5);
+    assert_refused(&exchanged, 20, 6);
     // Right entered before top: plate 1 is (4, 4, 2) and plate 2 is (9, 3, 1).
     let right_first = [
         PLAN[0],
@@ -233,7 +233,7 @@ fn another_numbering_of_the_same_plates_is_found_out() {
         [3, 2, 2, 1, 9, 3, 1, 0],
         PLAN[3],
     ];
-    assert_refused(&right_first, 20, 5);
+    assert_refused(&right_first, 20, 6);
 }
 
 /// The numbers of a line, the kind first.
@@ -245,7 +245,8 @@ fn numbers_of(line: &[u8]) -> Vec<u32> {
 
 #[test]
 fn a_line_under_another_plates_number_is_8_or_20() {
-    // No two plate types have the same width, height and stage.
+    // No two residual types have the same width, height and stage; a size may have those of another or
+    // of a residual type, and under its number the line then shows what it should.
     let mut random = Random::new(81);
     let [mut no_cut, mut other_plate] = [0, 0];
     for _ in 0..3_000 {
@@ -258,7 +259,7 @@ fn a_line_under_another_plates_number_is_8_or_20() {
         let index = random.below(plan.len());
         let mut numbers = numbers_of(&plan[index]);
         let moved = random.below(plates.len() + 1) as u32;
-        if numbers[1] == moved {
+        if plates.get(moved as usize) == Some(&plates[numbers[1] as usize]) {
             continue;
         }
         numbers[1] = moved;
@@ -270,7 +271,7 @@ fn a_line_under_another_plates_number_is_8_or_20() {
             false => (8, &mut no_cut),
         };
         *met += 1;
-        let place = structured.items.len() + 2 + index;
+        let place = structured.sizes.len() + structured.items.len() + 2 + index;
         let answer = saw_text(&[job_text(&words), plan.concat()].concat());
         assert_text(&answer, &refusal(number, place as u32));
     }
@@ -296,8 +297,12 @@ fn what_folding_writes_after_the_jobs_lines_is_an_accepted_saw_text() {
             stages[plate[2] as usize] += 1;
         }
         let answer = saw_text(&[head.clone(), plan.clone()].concat());
-        let (placed, last) = answer.split_at(82 * layouts.len());
-        assert_text(last, &line(&[8, set.len() as u32, 0, 1, 0]));
+        let (placed, last) = answer.split_at(91 * layouts.len());
+        let cost = check::cost_of(
+            &structured,
+            &check::boards_of_sizes(&structured, &layouts, false),
+        );
+        assert_text(last, &line(&[8, cost, 0, 1, 0]));
         // And its placements fold into the same lines.
         assert_text(&fold_text(&[head, placed.to_vec()].concat()), &plan);
     }

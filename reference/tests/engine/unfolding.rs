@@ -1,6 +1,7 @@
 //! Unfolding: which piece is taken, which cut is done, where the residuals lie (document 01,
 //! "Unfolding").
 
+use crate::common::boards;
 use crate::common::jobs::{job, job_a};
 use crate::common::lent::Lent;
 use reference::listing::FULL;
@@ -8,7 +9,7 @@ use reference::unfolding::unfold;
 use reference::{Job, Listing, Mode};
 
 /// Asserts the lines of a plan's unfolding.
-fn assert_lines(words: &[u16], counts: &[u16], lines: &[[u16; 8]]) {
+fn assert_lines(words: &[u16], counts: &[u16], lines: &[[u16; 9]]) {
     let mut lent = Lent::new();
     let unfolded = lent.unfold(words, counts).unwrap();
     assert_eq!(lent.lines(), lines);
@@ -20,11 +21,11 @@ fn assert_lines(words: &[u16], counts: &[u16], lines: &[[u16; 8]]) {
 #[test]
 fn the_lowest_cut_with_a_count_left_is_done() {
     let lines = [
-        [1, 1, 1, 1, 1, 0, 0, 0],
-        [2, 1, 1, 1, 1, 0, 0, 0],
-        [3, 1, 1, 1, 2, 0, 0, 0],
-        [4, 1, 1, 1, 2, 0, 0, 0],
-        [5, 1, 1, 1, 2, 0, 0, 0],
+        [1, 0, 1, 1, 1, 1, 0, 0, 0],
+        [2, 0, 1, 1, 1, 1, 0, 0, 0],
+        [3, 0, 1, 1, 1, 2, 0, 0, 0],
+        [4, 0, 1, 1, 1, 2, 0, 0, 0],
+        [5, 0, 1, 1, 1, 2, 0, 0, 0],
     ];
     assert_lines(&job_a(), &[2, 3, 0, 0, 0, 0, 0, 0], &lines);
 }
@@ -34,11 +35,11 @@ fn a_piece_without_a_count_is_left_over_and_does_not_wait_on() {
     // On board 1 the right plate is cut up; on board 2 it is left over, and the strip above it
     // is empty too.
     let lines = [
-        [1, 1, 1, 1, 1, 0, 0, 0],
-        [1, 1, 2, 1, 2, 5, 0, 0],
-        [1, 2, 1, 1, 2, 0, 4, 0],
-        [1, 2, 2, 1, 2, 3, 4, 0],
-        [2, 1, 1, 1, 1, 0, 0, 0],
+        [1, 0, 1, 1, 1, 1, 0, 0, 0],
+        [1, 0, 1, 2, 1, 2, 5, 0, 0],
+        [1, 0, 2, 1, 1, 2, 0, 4, 0],
+        [1, 0, 2, 2, 1, 2, 3, 4, 0],
+        [2, 0, 1, 1, 1, 1, 0, 0, 0],
     ];
     assert_lines(&job_a(), &[2, 0, 1, 1, 0, 0, 1, 0], &lines);
 }
@@ -50,16 +51,16 @@ fn the_highest_stage_is_taken_first() {
     let structured = Job::from_words(&words).unwrap();
     let listing = Listing::walk(&structured, FULL).unwrap();
     let lines = [
-        [1, 1, 1, 1, 1, 0, 0, 0],
-        [1, 1, 2, 1, 2, 2, 0, 0],
-        [1, 1, 2, 2, 2, 2, 1, 0],
-        [1, 1, 3, 1, 2, 3, 0, 0],
-        [1, 1, 3, 2, 2, 3, 1, 0],
-        [1, 2, 1, 1, 2, 0, 2, 0],
-        [1, 2, 2, 1, 2, 1, 2, 0],
+        [1, 0, 1, 1, 1, 1, 0, 0, 0],
+        [1, 0, 1, 2, 1, 2, 2, 0, 0],
+        [1, 0, 1, 2, 2, 2, 2, 1, 0],
+        [1, 0, 1, 3, 1, 2, 3, 0, 0],
+        [1, 0, 1, 3, 2, 2, 3, 1, 0],
+        [1, 0, 2, 1, 1, 2, 0, 2, 0],
+        [1, 0, 2, 2, 1, 2, 1, 2, 0],
     ];
     let mut lent = Lent::new();
-    assert_eq!(lent.fold(&words, &lines), Ok(1));
+    assert_eq!(lent.fold(&words, &lines), boards(1));
     let counts = lent.counts[..listing.cuts.len()].to_vec();
     assert_lines(&words, &counts, &lines);
 }
@@ -74,16 +75,16 @@ fn residuals_lie_above_and_beside_the_item() {
         &[[4, 7, 1], [3, 2, 1], [2, 3, 1]],
     );
     let lines = [
-        [1, 1, 1, 1, 1, 0, 0, 0],
-        [1, 1, 2, 1, 2, 4, 0, 0],
-        [1, 1, 2, 2, 3, 4, 2, 0],
-        [1, 1, 3, 1, 3, 7, 0, 0],
-        [1, 1, 3, 2, 3, 7, 3, 0],
-        [1, 2, 1, 1, 3, 0, 7, 0],
-        [1, 2, 2, 1, 2, 2, 7, 0],
+        [1, 0, 1, 1, 1, 1, 0, 0, 0],
+        [1, 0, 1, 2, 1, 2, 4, 0, 0],
+        [1, 0, 1, 2, 2, 3, 4, 2, 0],
+        [1, 0, 1, 3, 1, 3, 7, 0, 0],
+        [1, 0, 1, 3, 2, 3, 7, 3, 0],
+        [1, 0, 2, 1, 1, 3, 0, 7, 0],
+        [1, 0, 2, 2, 1, 2, 2, 7, 0],
     ];
     let mut lent = Lent::new();
-    assert_eq!(lent.fold(&words, &lines), Ok(1));
+    assert_eq!(lent.fold(&words, &lines), boards(1));
     let counts = lent.counts.clone();
     assert_lines(&words, &counts, &lines);
 }
@@ -92,17 +93,17 @@ fn residuals_lie_above_and_beside_the_item() {
 fn in_two_stages_place_is_always_1() {
     let words = job(Mode::TwoNonExact, [5, 5], &[[2, 2, 4], [1, 1, 4]]);
     let lines = [
-        [1, 1, 1, 1, 1, 0, 0, 0],
-        [1, 1, 2, 1, 1, 2, 0, 0],
-        [1, 1, 3, 1, 2, 4, 0, 0],
-        [1, 2, 1, 1, 1, 0, 2, 0],
-        [1, 2, 2, 1, 1, 2, 2, 0],
-        [1, 2, 3, 1, 2, 4, 2, 0],
-        [1, 3, 1, 1, 2, 0, 4, 0],
-        [1, 3, 2, 1, 2, 1, 4, 0],
+        [1, 0, 1, 1, 1, 1, 0, 0, 0],
+        [1, 0, 1, 2, 1, 1, 2, 0, 0],
+        [1, 0, 1, 3, 1, 2, 4, 0, 0],
+        [1, 0, 2, 1, 1, 1, 0, 2, 0],
+        [1, 0, 2, 2, 1, 1, 2, 2, 0],
+        [1, 0, 2, 3, 1, 2, 4, 2, 0],
+        [1, 0, 3, 1, 1, 2, 0, 4, 0],
+        [1, 0, 3, 2, 1, 2, 1, 4, 0],
     ];
     let mut lent = Lent::new();
-    assert_eq!(lent.fold(&words, &lines), Ok(1));
+    assert_eq!(lent.fold(&words, &lines), boards(1));
     let counts = lent.counts.clone();
     assert_lines(&words, &counts, &lines);
 }
@@ -112,7 +113,10 @@ fn the_structured_unfolding_spends_every_count() {
     let structured = Job::from_words(&job_a()).unwrap();
     let listing = Listing::walk(&structured, FULL).unwrap();
     let unfolding = unfold(&structured, &listing, &[2, 0, 1, 1, 0, 0, 1, 0]);
-    assert_eq!((unfolding.boards, unfolding.placements.len()), (2, 5));
+    assert_eq!(
+        (unfolding.sizes, unfolding.placements.len()),
+        (vec![0, 0], 5)
+    );
     assert_eq!(unfolding.left, [0; 8]);
 }
 
@@ -126,5 +130,5 @@ fn four_thousand_pieces_fill_the_placements() {
     let mut lent = Lent::new();
     let unfolded = lent.unfold(&words, &[3_999, 1]).unwrap();
     assert_eq!((unfolded.boards, unfolded.pieces), (4_000, 4_000));
-    assert_eq!(lent.placements[31_992..], [4_000, 1, 1, 1, 2, 0, 0, 0]);
+    assert_eq!(lent.placements[35_991..], [4_000, 0, 1, 1, 1, 2, 0, 0, 0]);
 }

@@ -1,10 +1,11 @@
-//! The five calls and the two texts on every published instance in every mode.
+//! The five calls and the two texts on every published instance in every mode, on each of its boards
+//! and on all of them.
 
 use reference::instances::areas::balances;
 use reference::instances::inputs::Inputs;
 use reference::instances::outcome::{self, Outcome};
-use reference::instances::{job_words_with, jobs, sources, texts, NamedJob};
-use reference::layout::keeps_rules;
+use reference::instances::{job_words_with, jobs, sources, stock_jobs, texts, NamedJob};
+use reference::layout::{keeps_rules, outlay};
 use reference::layout_lines::{lines_of_words, set_of};
 use reference::{fold_text, saw_text, Job, Mode};
 
@@ -22,31 +23,39 @@ pub fn assert_agreement(job: &NamedJob, inputs: &Inputs, found: &Outcome) {
     let name = &job.name;
     let structured = Job::from_words(&job.words).unwrap();
     let demands = structured.items.iter().map(|item| u32::from(item.demand));
-    assert_eq!(found.unfolded.boards, found.boards, "{name}");
-    assert_eq!(found.folded, found.boards, "{name}");
+    assert_eq!(found.unfolded.boards, found.outlay.boards, "{name}");
+    assert_eq!(found.folded, found.outlay, "{name}");
     assert_eq!(found.unfolded.pieces, demands.sum::<u32>(), "{name}");
     assert_eq!(found.counts, inputs.counts, "{name}");
     for layouts in [&inputs.layouts, &found.placements] {
         let lines = lines_of_words(layouts, &structured).unwrap();
         let set = set_of(&lines);
-        assert_eq!(set.len(), found.boards as usize, "{name}");
+        assert_eq!(outlay(&structured, &set), found.outlay, "{name}");
         let kept = |board: &reference::Board| keeps_rules(&structured, board);
         assert!(set.iter().all(kept), "{name}");
     }
-    assert!(found.bound.sum <= found.boards * found.bound.d, "{name}");
+    assert!(
+        found.bound.sum <= found.outlay.cost * found.bound.d,
+        "{name}"
+    );
     assert_balance(job, &structured, found);
 }
 
-/// Asserts that items, offcuts, waste and swath of each board make the board, and that the offcuts
-/// are those that unfolding wrote.
+/// Asserts that items, offcuts, waste and swath of each board make the board's own W times H, and
+/// that the offcuts are those that unfolding wrote.
 fn assert_balance(job: &NamedJob, structured: &Job, found: &Outcome) {
     let name = &job.name;
-    let whole = u64::from(structured.width) * u64::from(structured.height);
-    let mut left_over = vec![0; found.boards as usize];
+    let mut left_over = vec![0; found.outlay.boards as usize];
     for offcut in found.offcuts.chunks(6) {
         left_over[usize::from(offcut[0]) - 1] += u64::from(offcut[3]) * u64::from(offcut[4]);
     }
-    for (board, offcuts) in balances(&job.words).unwrap().iter().zip(left_over) {
+    let firsts = found.placements.chunks(9);
+    let firsts = firsts.filter(|line| line[2..5] == [1, 1, 1]);
+    let sizes: Vec<u16> = firsts.map(|line| line[1]).collect();
+    let balances = balances(&job.words).unwrap();
+    assert_eq!(balances.len(), sizes.len());
+    for ((board, offcuts), &size) in balances.iter().zip(left_over).zip(&sizes) {
+        let whole = structured.size(size).area();
         assert_eq!((board.whole(), board.offcuts), (whole, offcuts), "{name}");
     }
 }
@@ -55,8 +64,9 @@ fn assert_balance(job: &NamedJob, structured: &Job, found: &Outcome) {
 pub fn assert_texts(job: &NamedJob, inputs: &Inputs, found: &Outcome) {
     let name = &job.name;
     let bound = found.bound;
-    let fewest = u32::from(bound.is_fewest(found.boards));
-    let last = [8, found.boards, bound.sum, bound.d, fewest].map(|number| format!("{number:>9}"));
+    let cost = found.outlay.cost;
+    let cheapest = u32::from(bound.is_cheapest(cost));
+    let last = [8, cost, bound.sum, bound.d, cheapest].map(|number| format!("{number:>9}"));
     let mut expected = texts::layout_lines(&found.placements);
     expected.extend(last.concat().bytes());
     expected.push(b'\n');
@@ -69,7 +79,7 @@ pub fn assert_texts(job: &NamedJob, inputs: &Inputs, found: &Outcome) {
 
 #[test]
 fn calls_and_texts_agree_on_every_instance() {
-    for job in jobs() {
+    for job in jobs().into_iter().chain(stock_jobs()) {
         if let Some((inputs, found)) = run(&job) {
             assert_agreement(&job, &inputs, &found);
             assert_texts(&job, &inputs, &found);
@@ -79,7 +89,7 @@ fn calls_and_texts_agree_on_every_instance() {
 
 /// Asserts the agreement on every third instance, on one of its boards, in one mode, with leave and
 /// blade; gives the placements.
-fn assert_every_third(leave: u16, blade: u16) -> Vec<[u16; 8]> {
+fn assert_every_third(leave: u16, blade: u16) -> Vec<[u16; 9]> {
     let mut placed = Vec::new();
     for source in sources() {
         for instance in source.instances.iter().step_by(3) {
@@ -96,8 +106,8 @@ fn assert_every_third(leave: u16, blade: u16) -> Vec<[u16; 8]> {
             if let Some((inputs, found)) = run(&job) {
                 assert_agreement(&job, &inputs, &found);
                 assert_texts(&job, &inputs, &found);
-                let lines = found.placements.chunks(8);
-                placed.extend(lines.map(|line| <[u16; 8]>::try_from(line).unwrap()));
+                let lines = found.placements.chunks(9);
+                placed.extend(lines.map(|line| <[u16; 9]>::try_from(line).unwrap()));
             }
         }
     }
@@ -107,7 +117,7 @@ fn assert_every_third(leave: u16, blade: u16) -> Vec<[u16; 8]> {
 #[test]
 fn calls_and_texts_agree_on_instances_with_leave() {
     let placed = assert_every_third(1, 0);
-    let turned = placed.iter().filter(|line| line[7] == 1).count();
+    let turned = placed.iter().filter(|line| line[8] == 1).count();
     assert!(turned > 500, "{turned} items are turned");
 }
 
@@ -115,7 +125,7 @@ fn calls_and_texts_agree_on_instances_with_leave() {
 fn calls_and_texts_agree_on_instances_with_a_blade() {
     for (leave, blade) in [(0, 1), (0, 4), (1, 4), (0, 20)] {
         let placed = assert_every_third(leave, blade);
-        let moved = placed.iter().filter(|line| line[5] > 0 || line[6] > 0);
+        let moved = placed.iter().filter(|line| line[6] > 0 || line[7] > 0);
         let moved = moved.count();
         assert!(
             moved > 100,
@@ -130,7 +140,7 @@ fn listings_are_refused_only_for_types_sizes_and_limits() {
         let Err(refusal) = Inputs::of(&job.words) else {
             continue;
         };
-        let types = usize::from(job.words[4]);
+        let types = usize::from(job.words[3]);
         match refusal.number {
             2 => assert!(types > 40 && refusal.place == 0, "{}", job.name),
             3 => assert!((1..=types as u32).contains(&refusal.place), "{}", job.name),
@@ -145,6 +155,6 @@ fn the_example_of_document_001_has_three_boards() {
     let job = jobs().into_iter().find(|job| job.name == "001-1 1 6x6 2N");
     let (_, found) = run(&job.unwrap()).unwrap();
     assert_eq!((found.listed.residuals, found.listed.cuts), (6, 10));
-    assert_eq!(found.boards, 3);
-    assert!(found.bound.is_fewest(3));
+    assert_eq!(found.outlay.boards, 3);
+    assert!(found.bound.is_cheapest(3));
 }

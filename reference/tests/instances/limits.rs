@@ -23,9 +23,9 @@ fn mode(limit: &LimitJob) -> Mode {
 
 /// The five calls on lent words that are not 0, each with inputs that fit no job.
 fn refusals(job: &[u16]) -> [Option<Refusal>; 5] {
-    let mut plates = vec![7; 6_144];
+    let mut plates = vec![7; 8_192];
     let mut cuts = vec![7; 32_768];
-    let [mut lent, mut last] = [vec![7; 32_000], vec![7; 48_000]];
+    let [mut lent, mut last] = [vec![7; 36_000], vec![7; 48_000]];
     let counts = vec![0; 8_192];
     let answers = [
         reference::list(job, &mut plates, &mut cuts).err(),
@@ -88,8 +88,9 @@ fn some(wanted: Mode, plates: Option<u32>, cuts: Option<u32>, answer: Option<u32
     limit_jobs().iter().any(|limit| {
         let size = limit.without_limits.or(limit.listed.ok());
         size.is_some_and(|size| {
+            let met = size.residuals + u32::from(limit.job.words[2]);
             mode(limit) == wanted
-                && plates.map_or(size.residuals < 2_048, |many| size.residuals + 1 == many)
+                && plates.map_or(met <= 2_048, |many| met == many)
                 && cuts.map_or(size.cuts <= 8_192, |many| size.cuts == many)
                 && limit.listed.err().map(|refusal| refusal.number) == answer
         })
@@ -110,27 +111,32 @@ fn every_limit_is_met_and_passed_by_one_in_every_mode() {
 
 #[test]
 fn the_largest_numbers_are_reached() {
-    let mut most_words = [0; 10];
-    let mut most_placed = [0; 8];
+    let mut most_words = [0; 12];
+    let mut most_placed = [0; 9];
     let mut most_sum = 0;
     for limit in limit_jobs().iter().filter(|limit| limit.plan.is_some()) {
         let words = &limit.job.words;
-        let (head, items) = words.split_at(6);
-        for item in items.chunks(4) {
-            let joined = [head, item].concat();
+        let (board, items) = words.split_at(5 + 3 * usize::from(words[2]));
+        let (head, sizes) = board.split_at(5);
+        let pairs = sizes.chunks(3).zip(items.chunks(4).cycle());
+        let more = items.chunks(4).zip(sizes.chunks(3).cycle());
+        for (size, item) in pairs.chain(more.map(|(item, size)| (size, item))) {
+            let joined = [head, size, item].concat();
             most_words = std::array::from_fn(|index| joined[index].max(most_words[index]));
         }
         let found = outcome::of(words, &Inputs::of(words).unwrap()).unwrap();
-        for line in found.placements.chunks(8) {
+        for line in found.placements.chunks(9) {
             most_placed = std::array::from_fn(|index| line[index].max(most_placed[index]));
         }
         most_sum = found.bound.sum.max(most_sum);
     }
-    // Stages, exact, W, H, n, b; width, height, demand, leave.
-    let largest = [3, 1, 10_000, 10_000, 40, 20, 10_000, 10_000, 4_000, 0];
+    // Stages, exact, t, n, b; W, H, cost; width, height, demand, leave.
+    let largest = [
+        3, 1, 6, 40, 20, 10_000, 10_000, 999, 10_000, 10_000, 4_000, 0,
+    ];
     assert_eq!(most_words, largest);
-    // Board, strip, stack, place, type, x, y, turn.
-    let largest = [4_000, 2_000, 2_000, 1_000, 40, 9_999, 9_999, 0];
+    // Board, size, strip, stack, place, type, x, y, turn.
+    let largest = [4_000, 2, 2_000, 2_000, 1_000, 40, 9_999, 9_999, 0];
     assert_eq!(most_placed, largest);
     assert_eq!(most_sum, 39_996_000);
 }

@@ -4,4 +4,5 @@ mod base;
 mod calls;
 mod documents;
 mod limits;
+mod one_size;
 mod transcription;

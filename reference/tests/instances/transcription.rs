@@ -1,7 +1,7 @@
 //! The transcribed tables: what they print beside the sizes agrees with the sizes.
 
 use reference::instances::read::Instance;
-use reference::instances::{all_jobs, jobs, sources};
+use reference::instances::{all_jobs, jobs, sources, stock};
 
 /// The instances, or periods, of a table.
 fn instances(name: &str) -> Vec<Instance> {
@@ -111,4 +111,18 @@ fn every_job_has_a_name_of_its_own() {
     names.dedup();
     assert_eq!(names.len(), many);
     assert_eq!(jobs().len(), 3_408);
+}
+
+#[test]
+fn sizes_of_any_area_cost_their_share_of_the_dearest() {
+    let large = Instance {
+        name: "large".to_string(),
+        totals: None,
+        objects: vec![[10_000, 10_000, 1], [5_000, 5_000, 1], [2_800, 2_070, 1]],
+        costs: vec![[5_000, 5_000, 3]],
+        items: vec![[100, 100, 1]],
+    };
+    let costs = stock::sizes(&large).into_iter().map(|size| size[2]);
+    // Of 100,000,000 three quarters and 5,796,000, rounded up.
+    assert_eq!(costs.collect::<Vec<u16>>(), [999, 750, 58]);
 }

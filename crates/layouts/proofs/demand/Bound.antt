@@ -1,4 +1,4 @@
--- Document 01, "Prices": the sum of price times demand is at most D for each board, of an accepted plan and of a set that meets the demands.
+-- Document 01, "Prices": the sum of price times demand is at most D times the cost of a set that meets the demands (request Six).
 use Prim.Native.Nat.{ℕ, suc, _+_, _*_, _-_, _≤_, _<_}
 use native.Mathlib.Omega.{arith}
 use native.Mathlib.Nat.{add-zero, add-suc, suc-add, mul-le-mul-left, lt-of-mul-lt-mul-right}
@@ -14,17 +14,18 @@ use Rattle.job.specs.Admitted.{Sided}
 use Rattle.job.proofs.Sums.{bit, tally-length, tally-at}
 use Rattle.listing.specs.Listing.{Listing}
 use Rattle.listing.specs.Model.{Model}
-use Rattle.plan.specs.Prices.{Prices, itemPrice, priced, priceSum, fewest}
+use Rattle.plan.specs.Plan.{costAt}
+use Rattle.plan.specs.Prices.{Prices, itemPrice, priced, priceSum, cheapest}
 use Rattle.plan.specs.Feasible.{DualFeasible}
-use Rattle.plan.proofs.PriceExact.{fewest-exact}
-use Rattle.layouts.specs.Layout.{Board}
-use Rattle.layouts.specs.Placement.{itemsOfSet, typesOfSet}
+use Rattle.plan.proofs.PriceExact.{cheapest-exact}
+use Rattle.layouts.specs.Layout.{Sheet}
+use Rattle.layouts.specs.Placement.{itemsOfSet, typesOfSet, setCost}
 use Rattle.layouts.proofs.trees.Tree.{Tree}
 use Rattle.layouts.proofs.trees.WeightedSums.{wsum}
-use Rattle.layouts.proofs.trees.Balance.{Roots, value-set}
-use Rattle.layouts.proofs.trees.TreeItems.{layoutOf, roots-items, types-sum, types-occur}
+use Rattle.layouts.proofs.trees.Balance.{Roots, rootSize, value-set}
+use Rattle.layouts.proofs.trees.TreeItems.{sheetOf, roots-items, types-sum, types-occur}
 use Rattle.layouts.proofs.trees.Tally.{tally-le}
-use Rattle.layouts.proofs.fold.FoldCounts.{Trees, allOrdered}
+use Rattle.layouts.proofs.fold.FoldCounts.{Trees, allOrdered, trees-cost}
 
 priced-le : (g : ℕ → ℕ) (k : ℕ) (items : List Item) (qs ds : List ℕ) → length items ≡ length ds → ((i : ℕ) → i < length items → getD items i noItem .demand ≤ getD ds i 0)
     → ((i : ℕ) → i < length items → getD qs i 0 ≡ g (k + i)) → priced items qs ≤ wsum g k ds
@@ -62,29 +63,29 @@ price-le job ps is meets =
     price : (i : ℕ) → i < n → getD (ps .items) i 0 ≡ itemPrice ps (1 + i)
     price i p = let e : 1 + i ≡ suc i = omega arith in rw e
 
-module _ (job : Job) (l : Listing) (m : Model job l) (sided : Sided job) (ps : Prices) (accepted : DualFeasible l ps) where
+module _ (job : Job) (l : Listing) (m : Model job l) (sided : Sided job) (ps : Prices) (accepted : DualFeasible job l ps) where
   -- of some boards' trees
-  bound-trees : (ts : List Tree) → Roots l ts → ((i : ℕ) → 1 ≤ i → i ≤ length (job .items) → itemAt job i .demand ≤ occurs i (typesOfSet (map (layoutOf l) ts)))
-      → priceSum job ps ≤ length ts * ps .denominator
+  bound-trees : (ts : List Tree) → Roots l ts → ((i : ℕ) → 1 ≤ i → i ≤ length (job .items) → itemAt job i .demand ≤ occurs i (typesOfSet (map (sheetOf l) ts)))
+      → priceSum job ps ≤ sumOf (λ t. costAt job (rootSize l t)) ts * ps .denominator
   bound-trees ts h meets =
-      omega (arith, price-le job ps (typesOfSet (map (layoutOf l) ts)) meets, types-sum (itemPrice ps) (map (layoutOf l) ts), roots-items (λ q. itemPrice ps (typeOf q)) job l m sided ts h, value-set l ps accepted ts h)
+      omega (arith, price-le job ps (typesOfSet (map (sheetOf l) ts)) meets, types-sum (itemPrice ps) (map (sheetOf l) ts), roots-items (λ q. itemPrice ps (typeOf q)) job l m sided ts h, value-set job l m ps accepted ts h)
 
   -- of a set of layouts
-  module _ (bs : List Board) (fold : Trees job l bs) (kept : (f : ℕ → ℕ) → sumOf f (itemsOfSet (allOrdered job bs)) ≡ sumOf f (itemsOfSet bs))
+  module _ (bs : List Sheet) (fold : Trees job l bs) (kept : (f : ℕ → ℕ) → sumOf f (itemsOfSet (allOrdered job bs)) ≡ sumOf f (itemsOfSet bs))
       (meets : (i : ℕ) → 1 ≤ i → i ≤ length (job .items) → itemAt job i .demand ≤ occurs i (typesOfSet bs)) where
-    -- at least as many boards as the bound
-    pub bound-set : priceSum job ps ≤ length bs * ps .denominator
-    bound-set = rw (fold .number) at (bound-trees (fold .trees) (fold .roots) at-least)
+    -- it costs at least as much as the bound
+    pub bound-set : priceSum job ps ≤ setCost job bs * ps .denominator
+    bound-set = rw (trees-cost job l m sided bs fold) at (bound-trees (fold .trees) (fold .roots) at-least)
       where
-        same : (i : ℕ) → occurs i (typesOfSet (map (layoutOf l) (fold .trees))) ≡ occurs i (typesOfSet bs)
+        same : (i : ℕ) → occurs i (typesOfSet (map (sheetOf l) (fold .trees))) ≡ occurs i (typesOfSet bs)
         same i =
-            ap (λ (us : List Board). occurs i (typesOfSet us)) (fold .layouts) ∙ types-occur i (allOrdered job bs) ∙ kept (λ q. bit (eqb (typeOf q) i)) ∙ sym (types-occur i bs)
+            ap (λ (us : List Sheet). occurs i (typesOfSet us)) (fold .layouts) ∙ types-occur i (allOrdered job bs) ∙ kept (λ q. bit (eqb (typeOf q) i)) ∙ sym (types-occur i bs)
 
-        at-least : (i : ℕ) → 1 ≤ i → i ≤ length (job .items) → itemAt job i .demand ≤ occurs i (typesOfSet (map (layoutOf l) (fold .trees)))
+        at-least : (i : ℕ) → 1 ≤ i → i ≤ length (job .items) → itemAt job i .demand ≤ occurs i (typesOfSet (map (sheetOf l) (fold .trees)))
         at-least i p q = omega (arith, meets i p q, same i)
 
-    -- "fewest": no set that meets the demands has fewer boards
-    pub fewest-set : (n : ℕ) → fewest job ps n ≡ true → n ≤ length bs
-    fewest-set n h =
-        let b : (n - 1) * ps .denominator < length bs * ps .denominator = omega (arith, bound-set, fewest-exact job ps n .0 h) in
+    -- "cheapest": no set that meets the demands costs less
+    pub cheapest-set : (n : ℕ) → cheapest job ps n ≡ true → n ≤ setCost job bs
+    cheapest-set n h =
+        let b : (n - 1) * ps .denominator < setCost job bs * ps .denominator = omega (arith, bound-set, cheapest-exact job ps n .0 h) in
         omega (arith, lt-of-mul-lt-mul-right (ps .denominator) b)

@@ -12,14 +12,14 @@ use Rattle.job.specs.Buffers.{sized, platesSize, cutsSize, countsSize, placemen
 use Rattle.job.specs.Job.{jobWords, admission}
 use Rattle.job.specs.Admitted.{Admitted, Sided}
 use Rattle.job.proofs.Verdicts.{then-first, then-second, then-both}
-use Rattle.job.proofs.Admission.{admitted-words, admitted-job, admitted-sided}
+use Rattle.job.proofs.Admission.{admitted-words, admitted-job, admitted-sided, admitted-stocked}
 use Rattle.job.proofs.Positions.{positions-exact}
 use Rattle.listing.specs.Listing.{modelRow}
 use Rattle.listing.specs.Model.{Model}
 use Rattle.listing.proofs.WalkModel.{row-model}
 use Rattle.plan.specs.Prices.{pricesOf, priceSum}
-use Rattle.plan.proofs.PriceExact.{fewest-exact}
-use Rattle.layouts.specs.Layout.{Board, widthOf, stackHeight}
+use Rattle.plan.proofs.PriceExact.{cheapest-exact}
+use Rattle.layouts.specs.Layout.{Sheet, widthOf, stackHeight}
 use Rattle.layouts.specs.Placement.{placementWords, linesOf, itemsOfSet}
 use Rattle.layouts.specs.Lines.{linesIn, rowsOf, layoutWords, setOf}
 use Rattle.layouts.specs.LayoutsRow.{layoutsRow}
@@ -30,7 +30,7 @@ use Rattle.layouts.proofs.lists.Every.{every-map}
 use Rattle.layouts.proofs.row.RowLines.{words-rows, rows-words, lines-length}
 use Rattle.layouts.proofs.row.RowWords.{LineOk, words-exact, words-set}
 use Rattle.layouts.proofs.demand.DemandUnfold.{unfolds-so}
-use Rattle.layouts.proofs.demand.DemandFold.{bounded, none-fewer, folds-so}
+use Rattle.layouts.proofs.demand.DemandFold.{bounded, none-cheaper, folds-so}
 use Rattle.layouts.proofs.demand.Exact.{tests-exact, in-order}
 
 -- a check that passes leaves the refusals of those after it
@@ -71,11 +71,11 @@ module _ (ws : List ℕ) (listed : Listed ws) where
   sided = admitted-sided (J ws) admitted
 
   model : Model (J ws) (L ws)
-  model = row-model (J ws) sided row
+  model = row-model (J ws) sided (admitted-stocked (J ws) admitted) row
 
-  folds : (set : List Board) → Named (J ws) (L ws) set → Folds (J ws) (L ws) set
+  folds : (set : List Sheet) → Named (J ws) (L ws) set → Folds (J ws) (L ws) set
   folds set named =
-      folds-so (J ws) (L ws) model sided (admitted .width-limits .1) (admitted .height-limits .1) set named
+      folds-so (J ws) (L ws) model sided (admitted .each-size) set named
 
   unfolds-but-for-five : (counts : List ℕ) → Accepted (J ws) (L ws) counts → (first second : ℕ) → lengthsRight first second ≡ true → (plates cuts placements offcuts : List ℕ)
       → OnlyFive (unfoldVerdict ws first second counts plates cuts placements offcuts)
@@ -96,7 +96,7 @@ module _ (ws : List ℕ) (listed : Listed ws) where
   unfolding unfoldVerdict lengthsRow
   lengths-refused first second h counts plates cuts placements offcuts = rw (words, h)
 
-  folds-but-for-five : (set : List Board) → Named (J ws) (L ws) set → (plates cuts counts : List ℕ) → OnlyFive (foldVerdict ws (placementWords (linesOf (J ws) set)) plates cuts counts)
+  folds-but-for-five : (set : List Sheet) → Named (J ws) (L ws) set → (plates cuts counts : List ℕ) → OnlyFive (foldVerdict ws (placementWords (linesOf (J ws) set)) plates cuts counts)
   unfolding foldVerdict
   folds-but-for-five set named plates cuts counts =
       five-after (jobWords ws) _ words
@@ -129,8 +129,8 @@ module _ (ws : List ℕ) (listed : Listed ws) where
   bounds prices priced =
       record {
         at-least = λ set rules demands. bounded (J ws) (L ws) model sided set rules demands prices priced;
-        none-fewer = λ n few set rules demands.
-            none-fewer (J ws) (L ws) model sided set rules demands prices priced n (fewest-exact (J ws) (pricesOf (J ws) prices) n .1 few);
+        none-cheaper = λ n few set rules demands.
+            none-cheaper (J ws) (L ws) model sided set rules demands prices priced n (cheapest-exact (J ws) (pricesOf (J ws) prices) n .1 few);
       }
 
   demand3-of : Demand3Of ws
@@ -143,7 +143,7 @@ module _ (ws : List ℕ) (listed : Listed ws) where
         folds-but-for-five = folds-but-for-five;
         folds-only = folds-only;
         bounds = bounds;
-        fewest-boards = λ prices priced n few set rules demands. none-fewer (J ws) (L ws) model sided set rules demands prices priced n few;
+        cheapest-set = λ prices priced n few set rules demands. none-cheaper (J ws) (L ws) model sided set rules demands prices priced n few;
       }
 
 -- demand 3

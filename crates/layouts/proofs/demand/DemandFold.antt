@@ -1,23 +1,23 @@
 -- Demand 3, folding and bound: what folding makes of a set of layouts that keeps the rules, and how prices bound it.
-use Prim.Native.Nat.{ℕ, _*_, _≤_}
+use Prim.Native.Nat.{ℕ, _*_, _≤_, _<_}
 use native.Mathlib.Omega.{arith}
 use mathlib.Core.Path.{_≡_, refl}
 use mathlib.Core.Bool.{true}
 use mathlib.Core.List.{List, [], _∷_, map}
 use lib.ListN.{length}
 use Rattle.job.specs.Lists.{sumOf}
-use Rattle.job.specs.Job.{Job, maxSide}
-use Rattle.job.specs.Admitted.{Sided}
+use Rattle.job.specs.Job.{Job, sizeAt}
+use Rattle.job.specs.Admitted.{Sided, SizeLimits}
 use Rattle.job.proofs.Verdicts.{then-second, then-both}
 use Rattle.listing.specs.Listing.{Listing}
 use Rattle.listing.specs.Model.{Model}
 use Rattle.plan.specs.Plan.{countsRow, planRow}
-use Rattle.plan.specs.Prices.{Prices, pricesOf, priceWords, pricesSized, pricesRow, priceSum, fewest}
+use Rattle.plan.specs.Prices.{Prices, pricesOf, priceWords, pricesSized, pricesRow, priceSum, cheapest}
 use Rattle.plan.specs.Feasible.{DualFeasible}
 use Rattle.plan.proofs.PlanExact.{plan-exact, counts-exact}
 use Rattle.plan.proofs.PriceExact.{prices-exact}
-use Rattle.layouts.specs.Layout.{Board, layoutRules}
-use Rattle.layouts.specs.Placement.{linesOf, itemsOfSet, meetsDemands}
+use Rattle.layouts.specs.Layout.{Sheet, sheet, layoutRules}
+use Rattle.layouts.specs.Placement.{linesOf, itemsOfSet, setCost, meetsDemands}
 use Rattle.layouts.specs.Lines.{setOf}
 use Rattle.layouts.specs.Fold.{ordered, folded}
 use Rattle.layouts.specs.Rules.{SetOk}
@@ -31,31 +31,31 @@ use Rattle.layouts.proofs.row.RowLines.{words-rows}
 use Rattle.layouts.proofs.row.Row.{set-row}
 use Rattle.layouts.proofs.row.RowWords.{lines-words}
 use Rattle.layouts.proofs.trees.TreeItems.{set-sum}
-use Rattle.layouts.proofs.fold.FoldCounts.{AllInOrder, allOrdered, Trees, fold-trees, folded-length, folded-past, folded-boards, folded-types, folded-turns, folded-accepted}
-use Rattle.layouts.proofs.demand.Bound.{bound-set, fewest-set}
+use Rattle.layouts.proofs.fold.FoldCounts.{AllInOrder, allOrdered, Trees, fold-trees, folded-length, folded-past, folded-boards, folded-each, folded-cost, folded-types, folded-turns, folded-accepted}
+use Rattle.layouts.proofs.demand.Bound.{bound-set, cheapest-set}
 
 module _ (job : Job) (sided : Sided job) where
   -- boards that keep the rules are, in folding's order, the layouts of patterns
-  in-order : (bs : List Board) → SetOk job bs → AllInOrder job bs
+  in-order : (bs : List Sheet) → SetOk job bs → AllInOrder job bs
   in-order [] h = tt
-  in-order (b ∷ bs) h =
-      let c : Cuttable job b = board-cuttable job b (h .0) in
-      (record { pattern = c .pattern; some-cut = c .some; same = c .back }, in-order bs (h .1))
+  in-order (sheet j b ∷ bs) h =
+      let c : Cuttable job (sizeAt job j) b = board-cuttable job (sizeAt job j) b (h .0 .1) in
+      ((h .0 .0, record { pattern = c .pattern; some-cut = c .some; same = c .back }), in-order bs (h .1))
 
   -- ordering keeps the items of a set
-  ordered-set-sum : (bs : List Board) (f : ℕ → ℕ) → sumOf f (itemsOfSet (allOrdered job bs)) ≡ sumOf f (itemsOfSet bs)
+  ordered-set-sum : (bs : List Sheet) (f : ℕ → ℕ) → sumOf f (itemsOfSet (allOrdered job bs)) ≡ sumOf f (itemsOfSet bs)
   ordered-set-sum [] f = refl
-  ordered-set-sum (b ∷ bs) f =
+  ordered-set-sum (sheet j b ∷ bs) f =
       omega (
         arith,
-        set-sum f (map (ordered job) b) (allOrdered job bs),
-        set-sum f b bs,
+        set-sum f j (map (ordered job) b) (allOrdered job bs),
+        set-sum f j b bs,
         ordered-board-sum job f b,
         ordered-set-sum bs f,
       )
 
 module _ (job : Job) (l : Listing) (m : Model job l) (sided : Sided job) where
-  module _ (set : List Board) (rules : layoutRules job set ≡ true) where
+  module _ (set : List Sheet) (rules : layoutRules job set ≡ true) where
     trees : Trees job l set
     trees = fold-trees job l m sided set (in-order job sided set (set-exact job set .0 rules))
 
@@ -63,23 +63,23 @@ module _ (job : Job) (l : Listing) (m : Model job l) (sided : Sided job) where
       ps : Prices
       ps = pricesOf job prices
 
-      accepted : DualFeasible l ps
+      accepted : DualFeasible job l ps
       unfolding ps
       accepted =
-          prices-exact l (pricesOf job prices) .0
-          (then-second (pricesSized job l prices) (pricesRow l (pricesOf job prices)) (then-second (priceWords prices) _ priced))
+          prices-exact job l (pricesOf job prices) .0
+          (then-second (pricesSized job l prices) (pricesRow job l (pricesOf job prices)) (then-second (priceWords prices) _ priced))
 
-      -- the boards of the set, times D, are at least the sum
-      pub bounded : priceSum job (pricesOf job prices) ≤ length set * pricesOf job prices .denominator
+      -- the cost of the set, times D, is at least the sum
+      pub bounded : priceSum job (pricesOf job prices) ≤ setCost job set * pricesOf job prices .denominator
       unfolding ps
       bounded = bound-set job l m sided (pricesOf job prices) accepted set trees (ordered-set-sum job sided set) (demands-exact job set .0 demands)
 
-      -- no such set has fewer boards than where "fewest" is 1
-      pub none-fewer : (n : ℕ) → fewest job (pricesOf job prices) n ≡ true → n ≤ length set
+      -- no such set costs less than where "cheapest" is 1
+      pub none-cheaper : (n : ℕ) → cheapest job (pricesOf job prices) n ≡ true → n ≤ setCost job set
       unfolding ps
-      none-fewer = fewest-set job l m sided (pricesOf job prices) accepted set trees (ordered-set-sum job sided set) (demands-exact job set .0 demands)
+      none-cheaper = cheapest-set job l m sided (pricesOf job prices) accepted set trees (ordered-set-sum job sided set) (demands-exact job set .0 demands)
 
-  module _ (wide : job .width ≤ maxSide) (high : job .height ≤ maxSide) (set : List Board) (named : Named job l set) where
+  module _ (small : (j : ℕ) → j < length (job .sizes) → SizeLimits (sizeAt job j)) (set : List Sheet) (named : Named job l set) where
     ok : SetOk job set
     ok = set-exact job set .0 (named .rules)
 
@@ -94,7 +94,7 @@ module _ (job : Job) (l : Listing) (m : Model job l) (sided : Sided job) where
     unfolding setOf
     folds-so =
         record {
-          words = lines-words job set wide high (named .rules) (named .pieces);
+          words = lines-words job set small (named .rules) (named .pieces);
           row = set-row job 1 set (named .rules) (named .demands) (named .pieces);
           read = rw (words-rows (linesOf job set)) (lines-grouped job set (ok-full job set ok));
           folds-to =
@@ -109,6 +109,8 @@ module _ (job : Job) (l : Listing) (m : Model job l) (sided : Sided job) where
                           (folded-accepted job l m sided set ts kept (demands-exact job set .0 (named .demands)) (named .pieces)));
                     };
                 as-many = folded-boards job l m sided set ts;
+                as-many-each = folded-each job l m sided set ts;
+                same-cost = folded-cost job l m sided set ts;
                 as-often = folded-types job l m sided set ts kept;
                 turns-as-often = folded-turns job l m sided set ts kept;
               };

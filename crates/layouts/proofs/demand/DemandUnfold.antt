@@ -10,26 +10,26 @@ use lib.ListN.{length, getD, take, replicate, length-replicate, getD-replicate, 
 use lib.Seq.{ext-getD, getD-take}
 use Rattle.job.specs.Lists.{occurs}
 use Rattle.job.specs.Buffers.{filled}
-use Rattle.job.specs.Job.{Job, typeOf}
+use Rattle.job.specs.Job.{Job, sizeAt, typeOf}
 use Rattle.job.specs.Admitted.{Sided}
 use Rattle.job.proofs.Tests.{at-most-or-above}
 use Rattle.job.proofs.Verdicts.{then-first, then-second}
 use Rattle.job.proofs.Buffers.{filled-length, filled-read}
-use Rattle.job.proofs.Sums.{bit, occurs-sum}
+use Rattle.job.proofs.Sums.{bit, sumOf-map, occurs-sum}
 use Rattle.listing.specs.declared.plate.Plate.{Plate}
 use Rattle.listing.specs.Plate.{plate}
-use Rattle.listing.specs.Listing.{Listing}
+use Rattle.listing.specs.Listing.{Listing, cutAt}
 use Rattle.listing.specs.Model.{Model}
-use Rattle.plan.specs.Plan.{countOf, ofItem, ofPosition, countsRow, planRow}
+use Rattle.plan.specs.Plan.{countOf, ofItem, ofPosition, onPlate, boardsOf, costAt, planCost, countsRow, planRow}
 use Rattle.plan.specs.Feasible.{NonePast, Feasible}
 use Rattle.plan.proofs.PlanExact.{plan-exact, counts-exact}
-use Rattle.layouts.specs.Layout.{Board, layoutRules}
-use Rattle.layouts.specs.Placement.{placementWords, linesOf, itemsOfSet, typesOfSet}
+use Rattle.layouts.specs.Layout.{Sheet, sheetSize, stripsOf, layoutRules}
+use Rattle.layouts.specs.Placement.{placementWords, linesOf, itemsOfSet, typesOfSet, sheetsOf, setCost}
 use Rattle.layouts.specs.Unfold.{Run, unfolded}
 use Rattle.layouts.specs.Offcuts.{eventsOf}
 use Rattle.layouts.specs.Lines.{setOf}
 use Rattle.layouts.specs.Fold.{folded}
-use Rattle.layouts.specs.Rules.{SetOk, BoardOk}
+use Rattle.layouts.specs.Rules.{SetOk, SheetOk}
 use Rattle.layouts.specs.Demand3.{Accepted, UnfoldsTo, Unfolds}
 use Rattle.layouts.proofs.lists.Every.{every-map, decides-all, decides-filled}
 use Rattle.layouts.proofs.trees.Tree.{Tree, node}
@@ -42,11 +42,12 @@ use Rattle.layouts.proofs.rules.Geometry.{rules-inside, rules-apart}
 use Rattle.layouts.proofs.row.Grouping.{ok-full, lines-grouped}
 use Rattle.layouts.proofs.row.RowTurns.{lines-turns}
 use Rattle.layouts.proofs.row.RowLines.{words-rows, words-length, lines-length}
-use Rattle.layouts.proofs.trees.WeightedSums.{weight, countOf-wsum}
-use Rattle.layouts.proofs.trees.Balance.{Roots}
+use Rattle.layouts.proofs.trees.WeightedSums.{weight, countOf-wsum, weighed-wsum}
+use Rattle.layouts.proofs.trees.Balance.{Roots, rootSize, root-below, size-set, cost-set}
 use Rattle.layouts.proofs.trees.CutTree.{itemTree, root-pattern}
-use Rattle.layouts.proofs.trees.TreeItems.{layoutOf, types-occur, roots-items}
+use Rattle.layouts.proofs.trees.TreeItems.{sheetOf, types-occur, roots-items}
 use Rattle.layouts.proofs.machine.Greedy.{grows-length}
+use Rattle.layouts.proofs.machine.Rising.{grows-rise, tree-sizes}
 use Rattle.layouts.proofs.machine.MachineEnds.{Unfolding, unfolds}
 use Rattle.layouts.proofs.machine.MachineLines.{FirstLargest, emitted-lines}
 use Rattle.layouts.proofs.offcuts.AreaBalance.{offcuts-room, area-balance}
@@ -66,11 +67,13 @@ first-largest job sided =
 
 module _ (job : Job) (l : Listing) (m : Model job l) (sided : Sided job) where
   -- the layouts of trees of cuts keep the rules
-  roots-ok : (ts : List Tree) → Roots l ts → SetOk job (map (layoutOf l) ts)
+  roots-ok : (ts : List Tree) → Roots l ts → SetOk job (map (sheetOf l) ts)
   roots-ok [] h = tt
   roots-ok (t ∷ ts) h =
-      let p = root-pattern job l m t (h .0) in
-      (pattern-ok job sided (itemTree l t) (p .1) (p .0), roots-ok ts (h .1))
+      let p = root-pattern job l m t (h .0) in (
+        (omega (arith, root-below l t (h .0), m .sized), pattern-ok job sided (sizeAt job (rootSize l t)) (itemTree l t) (p .1) (p .0)),
+        roots-ok ts (h .1),
+      )
 
   module _ (ns : List ℕ) (plan : Accepted job l ns) where
     abbrev r : Run
@@ -86,8 +89,8 @@ module _ (job : Job) (l : Listing) (m : Model job l) (sided : Sided job) where
     u = unfolds job l m sided ns past balanced
 
     -- the set of layouts of the unfolding
-    abbrev set : List Board
-    set = map (layoutOf l) (u .trees)
+    abbrev set : List Sheet
+    set = map (sheetOf l) (u .trees)
 
     ok : SetOk job set
     ok = roots-ok (u .trees) (u .roots)
@@ -106,6 +109,25 @@ module _ (job : Job) (l : Listing) (m : Model job l) (sided : Sided job) where
         ∙ u .sums (weight (ofItem i) l)
         ∙ sym (countOf-wsum (ofItem i) l ns past)
 
+    -- of each size as many boards as the plan opens, at its cost
+    each-size : (j : ℕ) → j < length (job .sizes) → sheetsOf j set ≡ boardsOf l j ns
+    unfolding sheetsOf boardsOf
+    each-size j p =
+        occurs-sum j (map sheetSize set)
+        ∙ sumOf-map (λ k. bit (eqb k j)) sheetSize set
+        ∙ sumOf-map (λ b. bit (eqb (sheetSize b) j)) (sheetOf l) (u .trees)
+        ∙ sym (size-set job l m j (omega (arith, m .sized)) (u .trees) (u .roots))
+        ∙ u .sums (weight (onPlate j) l)
+        ∙ sym (countOf-wsum (onPlate j) l ns past)
+
+    same-cost : setCost job set ≡ planCost job l ns
+    unfolding setCost planCost
+    same-cost =
+        sumOf-map (λ b. costAt job (sheetSize b)) (sheetOf l) (u .trees)
+        ∙ sym (cost-set job l m (u .trees) (u .roots))
+        ∙ u .sums (λ c. costAt job (cutAt l c .plate))
+        ∙ sym (weighed-wsum (λ c. costAt job (c .plate)) l ns past)
+
     turns-as-often : (q : ℕ) → occurs q (itemsOfSet set) ≡ countOf (ofPosition q) (l .cuts) ns
     unfolding ofPosition
     turns-as-often q =
@@ -121,7 +143,7 @@ module _ (job : Job) (l : Listing) (m : Model job l) (sided : Sided job) where
         (λ c h. u .all-0 c ∙ sym (getD-replicate (length ns) c 0 0 (omega arith)))
 
     number : length set ≡ length (u .trees)
-    number = length-map (u .trees) (layoutOf l)
+    number = length-map (u .trees) (sheetOf l)
 
     -- the set is read from the words of the placements
     read : setOf (placementWords (r .placements)) ≡ set
@@ -145,7 +167,7 @@ module _ (job : Job) (l : Listing) (m : Model job l) (sided : Sided job) where
     back : filled (length ns) (folded job l set) ≡ ns
     back =
         ap (filled (length ns))
-        (fold-back job l m sided (ordered-pattern job sided (job .width) (job .height)) ns r u (plan .counted))
+        (fold-back job l m sided (λ z. ordered-pattern job sided (z .width) (z .height)) ns r u (plan .counted))
         ∙ whole
 
     -- as many pieces as lines
@@ -164,7 +186,10 @@ module _ (job : Job) (l : Listing) (m : Model job l) (sided : Sided job) where
           inside-boards = rules-inside job set rules;
           all-apart = rules-apart job set rules;
           as-many = number ∙ u .opens;
-          none-empty = decides-all decides-filled set .1 (every-map (λ b (h : BoardOk job b). h .filled) set ok);
+          none-empty = decides-all (λ b. decides-filled (stripsOf b)) set .1 (every-map (λ b (h : SheetOk job b). h .1 .filled) set ok);
+          as-many-each = each-size;
+          size-by-size = rw (tree-sizes l (u .trees)) (grows-rise l (u .greedy) past);
+          same-cost = same-cost;
           all-pieces = sym pieces ∙ u .pieces;
           as-often = as-often;
           turns-as-often = turns-as-often;

@@ -7,7 +7,8 @@ use lib.Dec.{eqb}
 use lib.ListN.{length, getD, take}
 use lib.Seq.{ext-getD, length-take-le, getD-take}
 use Rattle.job.specs.Lists.{tally}
-use Rattle.job.specs.Job.{Job}
+use Rattle.job.specs.declared.size.Size.{Size}
+use Rattle.job.specs.Job.{Job, sizeAt}
 use Rattle.job.specs.Admitted.{Sided}
 use Rattle.job.proofs.Sums.{bit, occurs-sum, tally-length, tally-at}
 use Rattle.listing.specs.Plate.{board}
@@ -17,9 +18,9 @@ use Rattle.layouts.specs.Unfold.{Run}
 use Rattle.layouts.specs.Fold.{ordered, boardCuts, setCuts, folded}
 use Rattle.layouts.proofs.trees.Tree.{Tree}
 use Rattle.layouts.proofs.trees.Pattern.{Pattern, boardOf}
-use Rattle.layouts.proofs.trees.Balance.{Roots}
+use Rattle.layouts.proofs.trees.Balance.{Roots, rootSize}
 use Rattle.layouts.proofs.trees.CutTree.{itemTree, root-pattern}
-use Rattle.layouts.proofs.trees.TreeItems.{layoutOf}
+use Rattle.layouts.proofs.trees.TreeItems.{sheetOf}
 use Rattle.layouts.proofs.machine.MachineEnds.{Unfolding}
 use Rattle.layouts.proofs.trees.Tally.{allLabels, all-labels-sum}
 use Rattle.layouts.proofs.fold.FoldCuts.{root-cuts}
@@ -42,16 +43,16 @@ labels-back job l ns r u h =
 
 -- Where the layout of a pattern is in folding's order already:
 module _ (job : Job) (l : Listing) (m : Model job l) (sided : Sided job)
-    (in-order : (x : Tree) → Pattern job (board job) x → map (ordered job) (boardOf x) ≡ boardOf x) where
+    (in-order : (z : Size) (x : Tree) → Pattern job (board z) x → map (ordered job) (boardOf x) ≡ boardOf x) where
   -- the cuts of the layouts of some boards' trees are the trees' labels
-  pub cuts-back : (ts : List Tree) → Roots l ts → setCuts job l (map (layoutOf l) ts) ≡ allLabels ts
+  pub cuts-back : (ts : List Tree) → Roots l ts → setCuts job l (map (sheetOf l) ts) ≡ allLabels ts
   unfolding setCuts
   cuts-back [] h = refl
   cuts-back (t ∷ ts) h =
       ap₂ (λ (ks ms : List ℕ). ks ++ ms)
-      (ap (boardCuts l 0) (in-order (itemTree l t) (root-pattern job l m t (h .0) .0)) ∙ root-cuts job l m sided t (h .0)) (cuts-back ts (h .1))
+      (ap (boardCuts l (rootSize l t)) (in-order (sizeAt job (rootSize l t)) (itemTree l t) (root-pattern job l m t (h .0) .0)) ∙ root-cuts job l m sided t (h .0)) (cuts-back ts (h .1))
 
   -- folding the layouts of an unfolding gives back the counts
-  pub fold-back : (ns : List ℕ) (r : Run) (u : Unfolding job l ns r) → length (l .cuts) ≤ length ns → folded job l (map (layoutOf l) (u .trees)) ≡ take (length (l .cuts)) ns
+  pub fold-back : (ns : List ℕ) (r : Run) (u : Unfolding job l ns r) → length (l .cuts) ≤ length ns → folded job l (map (sheetOf l) (u .trees)) ≡ take (length (l .cuts)) ns
   unfolding folded
   fold-back ns r u h = ap (tally (length (l .cuts)) 1) (cuts-back (u .trees) (u .roots)) ∙ labels-back job l ns r u h

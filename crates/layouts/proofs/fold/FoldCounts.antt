@@ -8,46 +8,51 @@ use mathlib.Core.List.{List, [], _∷_, _++_, map}
 use lib.Dec.{eqb}
 use lib.ListN.{length, List·getD-eq-default}
 use Rattle.job.specs.Lists.{sumOf, occurs}
-use Rattle.job.specs.Job.{Job, itemAt, typeOf, maxPieces}
+use Rattle.job.specs.declared.size.Size.{Size}
+use Rattle.job.specs.Job.{Job, itemAt, sizeAt, typeOf, maxPieces}
 use Rattle.job.specs.Admitted.{Sided}
-use Rattle.job.proofs.Sums.{bit, length-sum, occurs-sum, tally-length}
+use Rattle.job.proofs.Sums.{bit, length-sum, sumOf-map, occurs-sum, tally-length}
 use Rattle.listing.specs.Plate.{board}
 use Rattle.listing.specs.Listing.{Cut, Listing, cutAt}
 use Rattle.listing.specs.Model.{Model}
-use Rattle.plan.specs.Plan.{countOf, ofItem, ofPosition, onPlate, leavesPlate, boards, total}
+use Rattle.plan.specs.Plan.{countOf, ofItem, ofPosition, onPlate, onSize, leavesPlate, boards, boardsOf, costAt, planCost, total}
 use Rattle.plan.specs.Feasible.{Feasible, NonePast}
-use Rattle.layouts.specs.Layout.{Board}
-use Rattle.layouts.specs.Placement.{itemsOfSet, typesOfSet}
+use Rattle.layouts.specs.Layout.{Board, Sheet, sheet, sheetSize}
+use Rattle.layouts.specs.Placement.{itemsOfSet, sheetsOf, setCost, typesOfSet}
 use Rattle.layouts.specs.Fold.{ordered, boardCuts, setCuts, folded}
 use Rattle.layouts.proofs.trees.Tree.{Tree, leaf, node, fsum, labels}
 use Rattle.layouts.proofs.trees.Pattern.{Pattern, branchOf, restOf, boardOf, boardTree}
-use Rattle.layouts.proofs.trees.WeightedSums.{wsum, weight, total-wsum, countOf-wsum}
-use Rattle.layouts.proofs.trees.Balance.{Ok, Root, Roots, balance-set, boards-set}
+use Rattle.layouts.proofs.trees.WeightedSums.{wsum, weight, total-wsum, countOf-wsum, weighed-wsum}
+use Rattle.layouts.proofs.trees.Balance.{Ok, Root, rootSize, Roots, balance-set, boards-set, size-set, cost-set}
 use Rattle.layouts.proofs.trees.CutTree.{root-tree}
-use Rattle.layouts.proofs.trees.TreeItems.{types-occur, layoutOf, roots-items}
+use Rattle.layouts.proofs.trees.TreeItems.{types-occur, layoutOf, sheetOf, roots-items}
 use Rattle.layouts.proofs.trees.Tally.{tally-sum, Ranged, ranged-append, allLabels, all-labels-sum}
 use Rattle.layouts.proofs.fold.FoldCuts.{root-cuts}
 
--- a board whose order for folding is the layout of a pattern of the board
-pub record InOrder (job : Job) (b : Board) : Type 0 where
-  pub pattern : Pattern job (board job) (boardTree (map (ordered job) b))
+-- a board whose order for folding is the layout of a pattern of its size
+pub record InOrder (job : Job) (z : Size) (b : Board) : Type 0 where
+  pub pattern : Pattern job (board z) (boardTree (map (ordered job) b))
   pub some-cut : boardTree (map (ordered job) b) ≢ leaf
   pub same : boardOf (boardTree (map (ordered job) b)) ≡ map (ordered job) b
 
 -- every board of a set is so
-abbrev pub AllInOrder : Job → List Board → Type 0
+abbrev pub AllInOrder : Job → List Sheet → Type 0
 AllInOrder job [] = Unit {0}
-AllInOrder job (b ∷ bs) = InOrder job b × AllInOrder job bs
+AllInOrder job (sheet j b ∷ bs) = ((j < length (job .sizes)) × InOrder job (sizeAt job j) b) × AllInOrder job bs
 
 -- the boards of a set in folding's order
-abbrev pub allOrdered : Job → List Board → List Board
-allOrdered job bs = map (map (ordered job)) bs
+abbrev pub orderedSheet : Job → Sheet → Sheet
+orderedSheet job (sheet j b) = sheet j (map (ordered job) b)
 
--- a tree of cuts for each board of a set: their layouts are the boards in order, their labels the cuts of the set
-pub record Trees (job : Job) (l : Listing) (bs : List Board) : Type 0 where
+abbrev pub allOrdered : Job → List Sheet → List Sheet
+allOrdered job bs = map (orderedSheet job) bs
+
+-- a tree of cuts for each board of a set: their layouts are the boards in order, their sizes the boards' sizes, their labels the cuts of the set
+pub record Trees (job : Job) (l : Listing) (bs : List Sheet) : Type 0 where
   pub trees : List Tree
   pub roots : Roots l trees
-  pub layouts : map (layoutOf l) trees ≡ allOrdered job bs
+  pub layouts : map (sheetOf l) trees ≡ allOrdered job bs
+  pub sizes : map (rootSize l) trees ≡ map sheetSize bs
   pub number : length trees ≡ length bs
   pub cuts : setCuts job l bs ≡ allLabels trees
 
@@ -76,23 +81,24 @@ roots-ranged l (t ∷ ts) h =
 
 module _ (job : Job) (l : Listing) (m : Model job l) (sided : Sided job) where
   -- boards in order have trees of cuts
-  pub fold-trees : (bs : List Board) → AllInOrder job bs → Trees job l bs
+  pub fold-trees : (bs : List Sheet) → AllInOrder job bs → Trees job l bs
   unfolding setCuts
-  fold-trees [] h = record { trees = []; roots = tt; layouts = refl; number = refl; cuts = refl }
-  fold-trees (b ∷ bs) h =
-      let o = h .0 in
-      let (t, ok, e) = root-tree job l m (boardTree (map (ordered job) b)) (o .some-cut) (o .pattern) in
+  fold-trees [] h = record { trees = []; roots = tt; layouts = refl; sizes = refl; number = refl; cuts = refl }
+  fold-trees (sheet j b ∷ bs) h =
+      let o = h .0 .1 in
+      let (t, ok, e, k) = root-tree job l m j (h .0 .0) (boardTree (map (ordered job) b)) (o .some-cut) (o .pattern) in
       let rest = fold-trees bs (h .1) in
       let f : layoutOf l t ≡ map (ordered job) b = ap boardOf e ∙ o .same in
       record {
         trees = t ∷ rest .trees;
         roots = (ok, rest .roots);
-        layouts = ap₂ (λ (u : Board) (us : List Board). u ∷ us) f (rest .layouts);
+        layouts = ap₂ (λ (u : Sheet) (us : List Sheet). u ∷ us) (ap₂ sheet k f) (rest .layouts);
+        sizes = ap₂ (λ (u : ℕ) (us : List ℕ). u ∷ us) k (rest .sizes);
         number = ap suc (rest .number);
-        cuts = ap₂ (λ (ks ms : List ℕ). ks ++ ms) (ap (boardCuts l 0) (sym f) ∙ root-cuts job l m sided t ok) (rest .cuts);
+        cuts = ap₂ (λ (ks ms : List ℕ). ks ++ ms) (ap₂ (boardCuts l) (sym k) (sym f) ∙ root-cuts job l m sided t ok) (rest .cuts);
       }
 
-  module _ (bs : List Board) (fold : Trees job l bs) where
+  module _ (bs : List Sheet) (fold : Trees job l bs) where
     abbrev ns : List ℕ
     ns = folded job l bs
 
@@ -120,17 +126,42 @@ module _ (job : Job) (l : Listing) (m : Model job l) (sided : Sided job) where
     -- the boards that the counts open are the set's boards
     pub folded-boards : boards l ns ≡ length bs
     unfolding boards
-    folded-boards = folded-count (onPlate 0) ∙ boards-set job l m ts (fold .roots) ∙ fold .number
+    folded-boards = folded-count (onSize (l .sizes)) ∙ boards-set job l m ts (fold .roots) ∙ fold .number
+
+    -- those of each size are the set's of that size
+    pub folded-each : (j : ℕ) → j < length (job .sizes) → boardsOf l j ns ≡ sheetsOf j bs
+    unfolding boardsOf sheetsOf
+    folded-each j p =
+        folded-count (onPlate j)
+        ∙ size-set job l m j (omega (arith, m .sized)) ts (fold .roots)
+        ∙ sym (sumOf-map (λ k. bit (eqb k j)) (rootSize l) ts)
+        ∙ ap (sumOf (λ k. bit (eqb k j))) (fold .sizes)
+        ∙ sym (occurs-sum j (map sheetSize bs))
+
+    -- the trees' sizes cost what the set's boards cost, ..
+    pub trees-cost : sumOf (λ t. costAt job (rootSize l t)) ts ≡ setCost job bs
+    unfolding setCost
+    trees-cost =
+        sym (sumOf-map (costAt job) (rootSize l) ts) ∙ ap (sumOf (costAt job)) (fold .sizes) ∙ sumOf-map (costAt job) sheetSize bs
+
+    -- .. and so do the boards that the counts open
+    pub folded-cost : planCost job l ns ≡ setCost job bs
+    unfolding planCost
+    folded-cost =
+        weighed-wsum (λ c. costAt job (c .plate)) l ns folded-past
+        ∙ folded-sum (λ c. costAt job (cutAt l c .plate))
+        ∙ cost-set job l m ts (fold .roots)
+        ∙ trees-cost
 
     -- no residual type is cut more often than it arises
-    pub folded-balance : (j : ℕ) → 0 < j → countOf (onPlate j) (l .cuts) ns ≤ countOf (leavesPlate j) (l .cuts) ns
+    pub folded-balance : (j : ℕ) → l .sizes ≤ j → countOf (onPlate j) (l .cuts) ns ≤ countOf (leavesPlate j) (l .cuts) ns
     folded-balance j h =
         omega (arith, folded-count (onPlate j), folded-count (leavesPlate j), balance-set job l m j h ts (fold .roots))
 
     -- sums over the items that the counts cut are sums over the items of the set in order
     pub folded-items : (f : ℕ → ℕ) → wsum (λ c. f (cutAt l c .item)) 1 ns ≡ sumOf f (itemsOfSet (allOrdered job bs))
     folded-items f =
-        folded-sum (λ c. f (cutAt l c .item)) ∙ sym (roots-items f job l m sided ts (fold .roots)) ∙ ap (λ (us : List Board). sumOf f (itemsOfSet us)) (fold .layouts)
+        folded-sum (λ c. f (cutAt l c .item)) ∙ sym (roots-items f job l m sided ts (fold .roots)) ∙ ap (λ (us : List Sheet). sumOf f (itemsOfSet us)) (fold .layouts)
 
     -- Where ordering keeps the items: each type is cut as often as it lies in the set, and the counts come to the number of items.
     module _ (kept : (f : ℕ → ℕ) → sumOf f (itemsOfSet (allOrdered job bs)) ≡ sumOf f (itemsOfSet bs)) where

@@ -19,7 +19,7 @@ use Rattle.layouts.proofs.trees.Tree.{Tree, leaf, node, labels}
 use Rattle.layouts.proofs.trees.Pattern.{branchOf, restOf, stackOf, stripOf, boardOf}
 use Rattle.layouts.proofs.trees.Cuts.{IsCut, plateOf, one-cut}
 use Rattle.layouts.proofs.trees.Stages.{cut-stage, board-stage, branch-1, rest-1, branch-2, rest-2, rest-3, branch-stage-1, rest-stage-1, branch-stage-2, rest-stage-2, branch-stage-3, rest-stage-3}
-use Rattle.layouts.proofs.trees.Balance.{Ok, Root, ok-none}
+use Rattle.layouts.proofs.trees.Balance.{Ok, Root, rootSize, ok-none}
 use Rattle.layouts.proofs.trees.CutTree.{itemTree}
 
 -- the cut is on plate type j and of position i
@@ -96,8 +96,8 @@ module _ (job : Job) (l : Listing) (m : Model job l) where
         cuts-node j c a b (h .1) (h .2) e (h .3) (cuts-1 (restOf l c) b (h .4) (rest-stage-1 job l m sided c (h .1) e))
 
     -- the cuts of the layout of a board's tree
-    pub root-cuts : (t : Tree) → Root l t → boardCuts l 0 (boardOf (itemTree l t)) ≡ labels t
+    pub root-cuts : (t : Tree) → Root l t → boardCuts l (rootSize l t) (boardOf (itemTree l t)) ≡ labels t
     root-cuts leaf h = absurd h
     root-cuts (node c a b) h =
         let e : plateOf l c .stage ≡ 1 = board-stage job l m c (h .1) in
-        cuts-node 0 c a b (h .0) (h .1) e (h .2) (cuts-1 (restOf l c) b (h .3) (rest-stage-1 job l m sided c (h .0) e))
+        cuts-node (cutAt l c .plate) c a b (h .0) refl e (h .2) (cuts-1 (restOf l c) b (h .3) (rest-stage-1 job l m sided c (h .0) e))

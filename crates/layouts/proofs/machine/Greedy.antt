@@ -3,6 +3,7 @@
 use Prim.Native.Nat.{ℕ, zero, suc, _+_, _≤_, _<_}
 use native.Mathlib.Omega.{arith}
 use mathlib.Core.Path.{_≡_, refl, _∙_, ap}
+use mathlib.Core.Logic.{_⊎_, inl, inr, _≢_}
 use mathlib.Core.List.{List, [], _∷_}
 use mathlib.Core.Option.{Option, none, some}
 use lib.Dec.{eqb}
@@ -10,6 +11,7 @@ use lib.ListN.{length}
 use Rattle.job.specs.Lists.{sumOf}
 use Rattle.job.specs.Job.{Job}
 use Rattle.job.specs.Admitted.{Sided}
+use Rattle.job.proofs.Tests.{equal-or-not}
 use Rattle.job.proofs.Sums.{bit, bit-diff}
 use Rattle.listing.specs.Listing.{Listing, cutAt}
 use Rattle.listing.specs.Model.{Model}
@@ -34,10 +36,10 @@ module _ (l : Listing) where
     over : {j : ℕ} {ns : List ℕ} → pick (suc j) ns ≡ none → Grow (suc j) ns leaf ns
     cut : {j c : ℕ} {ns ns₁ ns₂ : List ℕ} {a b : Tree} → pick (suc j) ns ≡ some c → Grow (branchOf l c) (spent ns c) a ns₁ → Grow (restOf l c) ns₁ b ns₂ → Grow (suc j) ns (node c a b) ns₂
 
-  -- what is cut from the boards, one after another, until the counts on type 0 are spent
+  -- what is cut from the boards, one after another, always of the lowest size with a count left, until the counts on the sizes are spent
   pub data Grows : List ℕ → List Tree → List ℕ → Type 0 where
-    ended : {ns : List ℕ} → pick 0 ns ≡ none → Grows ns [] ns
-    opened : {c : ℕ} {ns ns₁ ns₂ ns₃ : List ℕ} {a b : Tree} {ts : List Tree} → pick 0 ns ≡ some c → Grow (branchOf l c) (spent ns c) a ns₁ → Grow (restOf l c) ns₁ b ns₂ → Grows ns₂ ts ns₃ → Grows ns (node c a b ∷ ts) ns₃
+    ended : {ns : List ℕ} → ((j : ℕ) → j < l .sizes → pick j ns ≡ none) → Grows ns [] ns
+    boarded : {c : ℕ} {ns ns₁ ns₂ ns₃ : List ℕ} {a b : Tree} {ts : List Tree} → cutAt l c .plate < l .sizes → ((i : ℕ) → i < cutAt l c .plate → pick i ns ≡ none) → pick (cutAt l c .plate) ns ≡ some c → Grow (branchOf l c) (spent ns c) a ns₁ → Grow (restOf l c) ns₁ b ns₂ → Grows ns₂ ts ns₃ → Grows ns (node c a b ∷ ts) ns₃
 
   -- the cuts done and the counts left make the counts before
   pub grow-sum : {j : ℕ} {ns ns′ : List ℕ} {t : Tree} → Grow j ns t ns′ → (f : ℕ → ℕ) → wsum f 1 ns ≡ tsum f t + wsum f 1 ns′
@@ -48,7 +50,7 @@ module _ (l : Listing) where
   pub grows-sum : {ns ns′ : List ℕ} {ts : List Tree} → Grows ns ts ns′ → (f : ℕ → ℕ) → wsum f 1 ns ≡ fsum f ts + wsum f 1 ns′
   unfolding sumOf
   grows-sum (ended e) f = omega arith
-  grows-sum (opened {c} {ns} e p q r) f = omega (arith, spent-sum l 0 ns c e f, grow-sum p f, grow-sum q f, grows-sum r f)
+  grows-sum (boarded {c} {ns} b u e p q r) f = omega (arith, spent-sum l (cutAt l c .plate) ns c e f, grow-sum p f, grow-sum q f, grows-sum r f)
 
   -- there are as many counts as before
   grow-length : {j : ℕ} {ns ns′ : List ℕ} {t : Tree} → Grow j ns t ns′ → length ns′ ≡ length ns
@@ -58,7 +60,7 @@ module _ (l : Listing) where
 
   pub grows-length : {ns ns′ : List ℕ} {ts : List Tree} → Grows ns ts ns′ → length ns′ ≡ length ns
   grows-length (ended e) = refl
-  grows-length (opened {c} {ns} e p q r) = grows-length r ∙ grow-length q ∙ grow-length p ∙ spent-length l ns c
+  grows-length (boarded {c} {ns} b u e p q r) = grows-length r ∙ grow-length q ∙ grow-length p ∙ spent-length l ns c
 
   -- words past the last cut stay 0
   pub grow-past : {j : ℕ} {ns ns′ : List ℕ} {t : Tree} → Grow j ns t ns′ → NonePast l ns → NonePast l ns′
@@ -68,12 +70,12 @@ module _ (l : Listing) where
 
   pub grows-past : {ns ns′ : List ℕ} {ts : List Tree} → Grows ns ts ns′ → NonePast l ns → NonePast l ns′
   grows-past (ended e) h = h
-  grows-past (opened {c} {ns} e p q r) h = grows-past r (grow-past q (grow-past p (spent-past l 0 ns c e h)))
+  grows-past (boarded {c} {ns} b u e p q r) h = grows-past r (grow-past q (grow-past p (spent-past l (cutAt l c .plate) ns c e h)))
 
-  -- in the end no cut on type 0 has a count left
-  pub grows-ended : {ns ns′ : List ℕ} {ts : List Tree} → Grows ns ts ns′ → pick 0 ns′ ≡ none
+  -- in the end no cut on a size has a count left
+  pub grows-ended : {ns ns′ : List ℕ} {ts : List Tree} → Grows ns ts ns′ → (j : ℕ) → j < l .sizes → pick j ns′ ≡ none
   grows-ended (ended e) = e
-  grows-ended (opened e p q r) = grows-ended r
+  grows-ended (boarded b u e p q r) = grows-ended r
 
   -- the trees are trees of the listing
   grow-ok : {j : ℕ} {ns ns′ : List ℕ} {t : Tree} → Grow j ns t ns′ → Ok l j t
@@ -84,8 +86,8 @@ module _ (l : Listing) where
 
   pub grows-ok : {ns ns′ : List ℕ} {ts : List Tree} → Grows ns ts ns′ → Roots l ts
   grows-ok (ended e) = tt
-  grows-ok (opened {c} {ns} e p q r) =
-      let (i, on) = found-cut l 0 ns c e in ((i, on, grow-ok p, grow-ok q), grows-ok r)
+  grows-ok (boarded {c} {ns} b u e p q r) =
+      let (i, on) = found-cut l (cutAt l c .plate) ns c e in ((i, b, grow-ok p, grow-ok q), grows-ok r)
 
 module _ (job : Job) (l : Listing) (m : Model job l) where
   -- where a count is left on a residual type, each piece of it that arose was cut
@@ -108,9 +110,9 @@ module _ (job : Job) (l : Listing) (m : Model job l) where
       → fsum (weight (leavesPlate k) l) ts ≤ fsum (weight (onPlate k) l) ts
   unfolding sumOf
   taken-all k p (ended e) h pos = omega arith
-  taken-all k p (opened {c} {ns} {ns₁} {ns₂} e g r s) h pos =
-      let (i, on) = found-cut l 0 ns c e in
-      let h₁ = spent-past l 0 ns c e h in
+  taken-all k p (boarded {c} {ns} {ns₁} {ns₂} b u e g r s) h pos =
+      let (i, on) = found-cut l (cutAt l c .plate) ns c e in
+      let h₁ = spent-past l (cutAt l c .plate) ns c e h in
       let h₂ = grow-past l g h₁ in
       let pos₂ : 0 < onSum l k ns₂ = omega (arith, grows-sum l s (weight (onPlate k) l)) in
       let pos₁ : 0 < onSum l k ns₁ = omega (arith, grow-sum l r (weight (onPlate k) l)) in
@@ -138,16 +140,39 @@ module _ (job : Job) (l : Listing) (m : Model job l) where
             let (b, ns₂, q) = sub rec (restOf l c) ns₁ (λ q. omega (arith, rest-smaller job l m sided c i q)) in
             (node c a b, ns₂, cut {ns₁ = ns₁} {ns₂ = ns₂} {a = a} {b = b} e p q)
 
+    -- no cut on a size has a count left, or the lowest size of such a cut
+    abbrev Lowest : List ℕ → Type 0
+    Lowest ns =
+        ((j : ℕ) → j < l .sizes → pick l j ns ≡ none)
+        ⊎ ((j c : ℕ) × (j < l .sizes) × ((i : ℕ) → i < j → pick l i ns ≡ none) × (pick l j ns ≡ some c))
+
+    lowest : (n j : ℕ) (ns : List ℕ) → n + j ≡ l .sizes → ((i : ℕ) → i < j → pick l i ns ≡ none) → Lowest ns
+    lowest zero j ns e h = inl (λ i p. h i (omega arith))
+    lowest (suc n) j ns e h = go (pick l j ns) refl (lowest n (suc j) ns (omega arith))
+      where
+        go : (o : Option ℕ) → pick l j ns ≡ o → (((i : ℕ) → i < suc j → pick l i ns ≡ none) → Lowest ns) → Lowest ns
+        go none q rec = rec (λ i p. at i p (equal-or-not i j))
+          where
+            at : (i : ℕ) → i < suc j → (i ≡ j) ⊎ (i ≢ j) → pick l i ns ≡ none
+            at i p (inl e) = ap (λ (z : ℕ). pick l z ns) e ∙ q
+            at i p (inr d) = h i (omega arith)
+        go (some c) q rec = inr (j, c, omega arith, h, q)
+
     -- .. and by the counts
     pub grows : (n : ℕ) (ns : List ℕ) → wsum (λ _. 1) 1 ns < n → (ts : List Tree) × (ns′ : List ℕ) × Grows l ns ts ns′
     grows zero ns s = absurd (omega arith)
-    grows (suc n) ns s = go (pick l 0 ns) refl (λ ms. grows n ms)
+    grows (suc n) ns s = go (lowest (l .sizes) 0 ns (omega arith) (λ i p. absurd (omega arith))) (λ ms. grows n ms)
       where
-        go : (o : Option ℕ) → pick l 0 ns ≡ o → ((ms : List ℕ) → wsum (λ _. 1) 1 ms < n → (ts : List Tree) × (ms′ : List ℕ) × Grows l ms ts ms′)
+        go : Lowest ns → ((ms : List ℕ) → wsum (λ _. 1) 1 ms < n → (ts : List Tree) × (ms′ : List ℕ) × Grows l ms ts ms′)
             → (ts : List Tree) × (ns′ : List ℕ) × Grows l ns ts ns′
-        go none e rec = ([], ns, ended e)
-        go (some c) e rec =
+        go (inl e) rec = ([], ns, ended e)
+        go (inr (j, c, b, u, f)) rec =
+            let (i, on) = found-cut l j ns c f in
+            let e : pick l (cutAt l c .plate) ns ≡ some c = ap (λ (z : ℕ). pick l z ns) on ∙ f in
             let (a, ns₁, p) = grow (suc (sizeOf l (branchOf l c))) (branchOf l c) (spent ns c) (omega arith) in
-            let (b, ns₂, q) = grow (suc (sizeOf l (restOf l c))) (restOf l c) ns₁ (omega arith) in
-            let (ts, ns₃, r) = rec ns₂ (omega (arith, spent-sum l 0 ns c e (λ _. 1), grow-sum l p (λ _. 1), grow-sum l q (λ _. 1))) in
-            (node c a b ∷ ts, ns₃, opened {ns₁ = ns₁} {ns₂ = ns₂} {ns₃ = ns₃} {a = a} {b = b} {ts = ts} e p q r)
+            let (d, ns₂, q) = grow (suc (sizeOf l (restOf l c))) (restOf l c) ns₁ (omega arith) in
+            let (ts, ns₃, r) = rec ns₂ (omega (arith, spent-sum l j ns c f (λ _. 1), grow-sum l p (λ _. 1), grow-sum l q (λ _. 1))) in (
+              node c a d ∷ ts,
+              ns₃,
+              boarded {c = c} {ns₁ = ns₁} {ns₂ = ns₂} {ns₃ = ns₃} {a = a} {b = d} {ts = ts} (omega arith) (λ i p. u i (omega arith)) e p q r,
+            )

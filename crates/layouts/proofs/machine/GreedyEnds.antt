@@ -42,8 +42,12 @@ module _ (job : Job) (l : Listing) (m : Model job l) where
   unfolding plateAt
   cut-size c p = maxOf-at sides (l .plates) (cutAt l c .plate) waste (cut-plate job l m c p)
 
-  -- the counts of an accepted plan are balanced on every number from 1, also where there is no such plate type
-  pub balanced : (ns : List ℕ) → NonePast l ns → Feasible job l ns → (k : ℕ) → 0 < k → onSum l k ns ≤ leftSum l k ns
+  -- numbers above the sizes are positive
+  positive : (k : ℕ) → l .sizes ≤ k → 0 < k
+  positive k p = omega (arith, m .some-size, m .sized)
+
+  -- the counts of an accepted plan are balanced on every number above the sizes, also where there is no such plate type
+  pub balanced : (ns : List ℕ) → NonePast l ns → Feasible job l ns → (k : ℕ) → l .sizes ≤ k → onSum l k ns ≤ leftSum l k ns
   balanced ns past a k p = go (at-most-or-above (length (l .plates)) k)
     where
       go : (length (l .plates) ≤ k) ⊎ (k < length (l .plates)) → onSum l k ns ≤ leftSum l k ns
@@ -59,14 +63,14 @@ module _ (job : Job) (l : Listing) (m : Model job l) where
 
   -- Every count is spent, whatever the order: F sums over the cuts that were done, from the counts ns, which left the counts ns′.
   module _ (sided : Sided job) (ns ns′ : List ℕ) (past : NonePast l ns′) (F : (ℕ → ℕ) → ℕ)
-      (keep : (f : ℕ → ℕ) → wsum f 1 ns ≡ F f + wsum f 1 ns′) (opened : onSum l 0 ns′ ≡ 0)
-      (took : (k : ℕ) → 0 < k → 0 < onSum l k ns′ → F (weight (leavesPlate k) l) ≤ F (weight (onPlate k) l))
-      (even : (k : ℕ) → 0 < k → onSum l k ns ≤ leftSum l k ns) where
+      (keep : (f : ℕ → ℕ) → wsum f 1 ns ≡ F f + wsum f 1 ns′) (opened : (j : ℕ) → j < l .sizes → onSum l j ns′ ≡ 0)
+      (took : (k : ℕ) → l .sizes ≤ k → 0 < onSum l k ns′ → F (weight (leavesPlate k) l) ≤ F (weight (onPlate k) l))
+      (even : (k : ℕ) → l .sizes ≤ k → onSum l k ns ≤ leftSum l k ns) where
     there : (c : ℕ) → onSum l (cutAt l (1 + c) .plate) ns′ ≡ 0 → getD ns′ c 0 ≡ 0
     there c e = wsum-zero (weight (onPlate (cutAt l (1 + c) .plate)) l) 1 ns′ e c (omega (arith, on-own l (1 + c)))
 
     -- nothing is left of the cuts that leave k, if nothing is left on the larger plate types
-    none-left : (k : ℕ) → 0 < k → ((c : ℕ) → IsCut l c → sizeOf l k < sizeOf l (cutAt l c .plate) → onSum l (cutAt l c .plate) ns′ ≡ 0) → leftSum l k ns′ ≡ 0
+    none-left : (k : ℕ) → l .sizes ≤ k → ((c : ℕ) → IsCut l c → sizeOf l k < sizeOf l (cutAt l c .plate) → onSum l (cutAt l c .plate) ns′ ≡ 0) → leftSum l k ns′ ≡ 0
     none-left k p rec = wsum-none (weight (leavesPlate k) l) 1 ns′ (λ c h. at c h (at-most-or-above (length (l .cuts)) c))
       where
         at : (c : ℕ) → 0 < weight (leavesPlate k) l (1 + c) → (length (l .cuts) ≤ c) ⊎ (c < length (l .cuts)) → getD ns′ c 0 ≡ 0
@@ -74,11 +78,11 @@ module _ (job : Job) (l : Listing) (m : Model job l) where
         at c h (inr q) = cases (omega arith, omega arith) (equal-or-not (branchOf l (1 + c)) k) (equal-or-not (restOf l (1 + c)) k)
           where
             cases : IsCut l (1 + c) → (branchOf l (1 + c) ≡ k) ⊎ (branchOf l (1 + c) ≢ k) → (restOf l (1 + c) ≡ k) ⊎ (restOf l (1 + c) ≢ k) → getD ns′ c 0 ≡ 0
-            cases i (inl e) d = there c (rec (1 + c) i (omega (arith, ap (sizeOf l) e, branch-smaller job l m sided (1 + c) i (omega arith))))
-            cases i (inr e) (inl d) = there c (rec (1 + c) i (omega (arith, ap (sizeOf l) d, rest-smaller job l m sided (1 + c) i (omega arith))))
-            cases i (inr e) (inr d) = absurd (omega (arith, leaves-once job l m k p (1 + c) i, bit-diff e, bit-diff d))
+            cases i (inl e) d = there c (rec (1 + c) i (omega (arith, ap (sizeOf l) e, branch-smaller job l m sided (1 + c) i (omega (arith, positive k p)))))
+            cases i (inr e) (inl d) = there c (rec (1 + c) i (omega (arith, ap (sizeOf l) d, rest-smaller job l m sided (1 + c) i (omega (arith, positive k p)))))
+            cases i (inr e) (inr d) = absurd (omega (arith, leaves-once job l m k (positive k p) (1 + c) i, bit-diff e, bit-diff d))
 
-    one-type : (k : ℕ) → 0 < k → ((c : ℕ) → IsCut l c → sizeOf l k < sizeOf l (cutAt l c .plate) → onSum l (cutAt l c .plate) ns′ ≡ 0) → onSum l k ns′ ≡ 0
+    one-type : (k : ℕ) → l .sizes ≤ k → ((c : ℕ) → IsCut l c → sizeOf l k < sizeOf l (cutAt l c .plate) → onSum l (cutAt l c .plate) ns′ ≡ 0) → onSum l k ns′ ≡ 0
     one-type k p rec = go (equal-or-not (onSum l k ns′) 0)
       where
         go : (onSum l k ns′ ≡ 0) ⊎ (onSum l k ns′ ≢ 0) → onSum l k ns′ ≡ 0
@@ -87,8 +91,11 @@ module _ (job : Job) (l : Listing) (m : Model job l) where
             omega (arith, none-left k p rec, even k p, keep (weight (onPlate k) l), keep (weight (leavesPlate k) l), took k p (omega arith))
 
     any-type : (k : ℕ) → ((c : ℕ) → IsCut l c → sizeOf l k < sizeOf l (cutAt l c .plate) → onSum l (cutAt l c .plate) ns′ ≡ 0) → onSum l k ns′ ≡ 0
-    any-type zero rec = opened
-    any-type (suc k) rec = one-type (suc k) (omega arith) rec
+    any-type k rec = go (at-most-or-above (l .sizes) k)
+      where
+        go : (l .sizes ≤ k) ⊎ (k < l .sizes) → onSum l k ns′ ≡ 0
+        go (inl p) = one-type k p rec
+        go (inr p) = opened k p
 
     type-spent : (n k : ℕ) → largest ≤ sizeOf l k + n → onSum l k ns′ ≡ 0
     type-spent zero k h = any-type k (λ c i s. absurd (omega (arith, cut-size c i)))
@@ -109,12 +116,12 @@ module _ (job : Job) (l : Listing) (m : Model job l) where
     -- every count ends at 0
     pub all-spent : (c : ℕ) → getD ns′ c 0 ≡ 0
     all-spent =
-        spends sided ns ns′ past′ (λ f. fsum f ts) (grows-sum l g) (not-found l 0 ns′ past′ (grows-ended l g)) (λ k p h. taken-all job l m k p g past h) (balanced ns past a)
+        spends sided ns ns′ past′ (λ f. fsum f ts) (grows-sum l g) (λ j p. not-found l j ns′ past′ (grows-ended l g j p)) (λ k p h. taken-all job l m k (positive k p) g past h) (balanced ns past a)
 
     -- each cut is done as often as it is counted
     pub done-sum : (f : ℕ → ℕ) → fsum f ts ≡ wsum f 1 ns
     done-sum =
-        spends-sum sided ns ns′ past′ (λ f. fsum f ts) (grows-sum l g) (not-found l 0 ns′ past′ (grows-ended l g)) (λ k p h. taken-all job l m k p g past h) (balanced ns past a)
+        spends-sum sided ns ns′ past′ (λ f. fsum f ts) (grows-sum l g) (λ j p. not-found l j ns′ past′ (grows-ended l g j p)) (λ k p h. taken-all job l m k (positive k p) g past h) (balanced ns past a)
 
     -- the cuts done of one number
     pub done-each : (c : ℕ) → fsum (λ d. bit (eqb d (1 + c))) ts ≡ getD ns c 0

@@ -9,32 +9,33 @@ use Rattle.job.specs.Admitted.{Sided}
 use Rattle.listing.specs.Listing.{Listing, plateAt, cutAt}
 use Rattle.listing.specs.Model.{Model}
 use Rattle.layouts.specs.Layout.{widthOf, heightOf}
-use Rattle.layouts.specs.Placement.{turn, Placement, stackLines}
+use Rattle.layouts.specs.Placement.{Opened, opened, turn, Placement, stackLines}
 use Rattle.layouts.specs.Unfold.{Piece, spent}
 use Rattle.layouts.proofs.trees.Tree.{Tree, leaf, node, tsum}
 use Rattle.layouts.proofs.trees.Pattern.{branchOf, restOf, stackOf}
 use Rattle.layouts.proofs.trees.Cuts.{IsCut, plateOf}
 use Rattle.layouts.proofs.trees.Stages.{cut-stage, branch-1, rest-1, branch-2, rest-2, rest-3, top-1, right-1, top-2, right-2, top-3, right-3, branch-stage-1, rest-stage-1, branch-stage-2, rest-stage-2, branch-stage-3, rest-stage-3}
+use Rattle.layouts.proofs.trees.Balance.{rootSize}
 use Rattle.layouts.proofs.trees.CutTree.{itemTree}
 use Rattle.layouts.proofs.machine.Search.{found-cut}
 use Rattle.layouts.proofs.machine.Greedy.{pick, Grow, wasted, over, cut}
 use Rattle.layouts.proofs.machine.MachineSteps.{_and-then_, state, piece, slot, placement, Leads, no-step, more-steps, step-placed, step-over, over-1, over-2, over-3, cut-1, cut-2, cut-3}
 
 -- the items of a tree of stage 2, a stack for each node, from stack k on, from x rightwards
-abbrev pub emitStrip : Job → ℕ → ℕ → ℕ → ℕ → ℕ → Tree → List Placement
+abbrev pub emitStrip : Job → Opened → ℕ → ℕ → ℕ → ℕ → Tree → List Placement
 emitStrip job bd s k x y leaf = []
 emitStrip job bd s k x y (node i a b) = stackLines job bd s k 1 x y (i ∷ stackOf a) ++ emitStrip job bd s (suc k) (x + widthOf job i + job .blade) y b
 
 -- the items of a tree of stage 1, a strip for each node, from strip s on, from y upwards
-abbrev pub emitBoard : Job → ℕ → ℕ → ℕ → Tree → List Placement
+abbrev pub emitBoard : Job → Opened → ℕ → ℕ → Tree → List Placement
 emitBoard job bd s y leaf = []
 emitBoard job bd s y (node i a b) =
     placement (turn bd s 1 1) i 0 y ∷ (emitStrip job bd s 2 (0 + widthOf job i + job .blade) y a ++ emitBoard job bd (suc s) (y + heightOf job i + job .blade) b)
 
--- the items of the boards' trees, from board bd on
-abbrev pub emitSet : Job → ℕ → List Tree → List Placement
-emitSet job bd [] = []
-emitSet job bd (t ∷ ts) = emitBoard job bd 1 0 t ++ emitSet job (suc bd) ts
+-- the items of the boards' trees of cuts, from board bd on
+abbrev pub emitSet : Job → Listing → ℕ → List Tree → List Placement
+emitSet job l bd [] = []
+emitSet job l bd (t ∷ ts) = emitBoard job (opened bd (rootSize l t)) 1 0 (itemTree l t) ++ emitSet job l (suc bd) ts
 
 -- the number of cuts of a tree
 abbrev pub cutsIn : Tree → ℕ
@@ -48,7 +49,7 @@ grow-none l (cut q g h) e = absurd (omega arith)
 
 module _ (job : Job) (l : Listing) (m : Model job l) (sided : Sided job) where
   -- One cut: its branch and its rest wait, each in the place of its stage.
-  module _ (u v : Option Piece) (j x y bd s k p : ℕ) (ns : List ℕ) (c : ℕ) (q : pick l j ns ≡ some c) where
+  module _ (u v : Option Piece) (j x y : ℕ) (bd : Opened) (s k p : ℕ) (ns : List ℕ) (c : ℕ) (q : pick l j ns ≡ some c) where
     abbrev i : ℕ
     i = cutAt l c .item
 
@@ -78,7 +79,7 @@ module _ (job : Job) (l : Listing) (m : Model job l) (sided : Sided job) where
         (rw (rest-1 l c e, branch-1 l c e) (cut-1 job l u v j x y bd s k p ns c q (top-1 job l m sided c is-cut e) (right-1 job l m sided c is-cut e)))
 
   -- a piece of stage 3: its stack goes on after place p
-  reach-3 : {j : ℕ} {ns ns′ : List ℕ} {t : Tree} → Grow l j ns t ns′ → (0 < j → plateAt l j .stage ≡ 3) → (u v : Option Piece) (x y bd s k p : ℕ)
+  reach-3 : {j : ℕ} {ns ns′ : List ℕ} {t : Tree} → Grow l j ns t ns′ → (0 < j → plateAt l j .stage ≡ 3) → (u v : Option Piece) (x y : ℕ) (bd : Opened) (s k p : ℕ)
       → (p′ : ℕ) × Leads job l (suc (3 * cutsIn t)) (state u v (slot j x y) (turn bd s k p) ns) (stackLines job bd s k (suc p) x y (stackOf (itemTree l t))) (state u v none (turn bd s k p′) ns′)
   unfolding stackLines
   reach-3 wasted h u v x y bd s k p = (p, more-steps job l (omega arith) (no-step job l _))
@@ -93,7 +94,7 @@ module _ (job : Job) (l : Listing) (m : Model job l) (sided : Sided job) where
       )
 
   -- a piece of stage 2: its strip goes on after stack k
-  pub reach-2 : {j : ℕ} {ns ns′ : List ℕ} {t : Tree} → Grow l j ns t ns′ → (0 < j → plateAt l j .stage ≡ 2) → (u : Option Piece) (x y bd s k p : ℕ)
+  pub reach-2 : {j : ℕ} {ns ns′ : List ℕ} {t : Tree} → Grow l j ns t ns′ → (0 < j → plateAt l j .stage ≡ 2) → (u : Option Piece) (x y : ℕ) (bd : Opened) (s k p : ℕ)
       → (k′ p′ : ℕ) × Leads job l (suc (3 * cutsIn t)) (state u (slot j x y) none (turn bd s k p) ns) (emitStrip job bd s (suc k) x y (itemTree l t)) (state u none none (turn bd s k′ p′) ns′)
   unfolding stackLines
   reach-2 wasted h u x y bd s k p = (k, p, more-steps job l (omega arith) (no-step job l _))
@@ -110,7 +111,7 @@ module _ (job : Job) (l : Listing) (m : Model job l) (sided : Sided job) where
       )
 
   -- a piece of stage 1: its board goes on after strip s
-  pub reach-1 : {j : ℕ} {ns ns′ : List ℕ} {t : Tree} → Grow l j ns t ns′ → (0 < j → plateAt l j .stage ≡ 1) → (y bd s k p : ℕ)
+  pub reach-1 : {j : ℕ} {ns ns′ : List ℕ} {t : Tree} → Grow l j ns t ns′ → (0 < j → plateAt l j .stage ≡ 1) → (y : ℕ) (bd : Opened) (s k p : ℕ)
       → (s′ k′ p′ : ℕ) × Leads job l (suc (3 * cutsIn t)) (state (slot j 0 y) none none (turn bd s k p) ns) (emitBoard job bd (suc s) y (itemTree l t)) (state none none none (turn bd s′ k′ p′) ns′)
   reach-1 wasted h y bd s k p = (s, k, p, more-steps job l (omega arith) (no-step job l _))
   reach-1 (over {j} {ns} q) h y bd s k p = (s, k, p, step-over job l _ _ _ (over-1 job l none none (suc j) 0 y (turn bd s k p) ns q))

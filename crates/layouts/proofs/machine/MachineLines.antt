@@ -4,19 +4,19 @@ use Prim.Native.Nat.{ℕ, suc, _+_}
 use mathlib.Core.Path.{_≡_, refl, sym, _∙_, ap, ap₂}
 use mathlib.Core.List.{List, [], _∷_, _++_, map}
 use lib.Dec.{eqb}
-use Rattle.job.specs.Job.{Job, positionAt}
+use Rattle.job.specs.Job.{Job, sizeAt, positionAt}
 use Rattle.listing.specs.declared.plate.Plate.{Plate}
 use Rattle.listing.specs.Plate.{board}
 use Rattle.listing.specs.Listing.{Listing}
 use Rattle.listing.specs.Model.{Model}
 use Rattle.listing.proofs.Residuals.{stages-1, stages-2}
 use Rattle.layouts.specs.Layout.{widthOf, heightOf, stackWidth, stripHeight}
-use Rattle.layouts.specs.Placement.{turn, Placement, stackLines, stripLines, boardLines, setLines, linesOf}
+use Rattle.layouts.specs.Placement.{Opened, opened, turn, Placement, stackLines, stripLines, boardLines, setLines, linesOf}
 use Rattle.layouts.proofs.trees.Tree.{Tree, leaf, node}
 use Rattle.layouts.proofs.trees.Pattern.{branch, rest, Pattern, stackOf, stripOf, boardOf}
-use Rattle.layouts.proofs.trees.Balance.{Roots}
+use Rattle.layouts.proofs.trees.Balance.{Roots, rootSize}
 use Rattle.layouts.proofs.trees.CutTree.{itemTree, root-pattern}
-use Rattle.layouts.proofs.trees.TreeItems.{layoutOf}
+use Rattle.layouts.proofs.trees.TreeItems.{sheetOf}
 use Rattle.layouts.proofs.patterns.PatternRules.{single-wide}
 use Rattle.layouts.proofs.machine.MachineSteps.{placement}
 use Rattle.layouts.proofs.machine.Machine.{emitStrip, emitBoard, emitSet}
@@ -37,7 +37,7 @@ along-stage : (job : Job) (p : Plate) (i : ℕ) → p .stage ≡ 2 → rest job 
 along-stage job p i e = rw (ap (λ (z : ℕ). eqb z 2) e) (stages-2 (job .mode) (job .blade) (positionAt job i) p e .1)
 
 module _ (job : Job) (first : FirstLargest job) where
-  strip-lines : (p : Plate) → p .stage ≡ 2 → (t : Tree) → Pattern job p t → (bd s k x y : ℕ) → emitStrip job bd s k x y t ≡ stripLines job bd s k x y (stripOf t)
+  strip-lines : (p : Plate) → p .stage ≡ 2 → (t : Tree) → Pattern job p t → (bd : Opened) (s k x y : ℕ) → emitStrip job bd s k x y t ≡ stripLines job bd s k x y (stripOf t)
   unfolding stripLines
   strip-lines p e leaf h bd s k x y = refl
   strip-lines p e (node i a b) h bd s k x y =
@@ -45,7 +45,7 @@ module _ (job : Job) (first : FirstLargest job) where
       (strip-lines (rest job p i) (along-stage job p i e) b (h .2) bd s (suc k) (x + widthOf job i + job .blade) y
       ∙ ap (λ (w : ℕ). stripLines job bd s (suc k) (x + w + job .blade) y (stripOf b)) (sym (first .wide p e i a b h)))
 
-  board-lines : (p : Plate) → p .stage ≡ 1 → (t : Tree) → Pattern job p t → (bd s y : ℕ) → emitBoard job bd s y t ≡ boardLines job bd s y (boardOf t)
+  board-lines : (p : Plate) → p .stage ≡ 1 → (t : Tree) → Pattern job p t → (bd : Opened) (s y : ℕ) → emitBoard job bd s y t ≡ boardLines job bd s y (boardOf t)
   unfolding boardLines stripLines stackLines
   board-lines p e leaf h bd s y = refl
   board-lines p e (node i a b) h bd s y =
@@ -56,14 +56,14 @@ module _ (job : Job) (first : FirstLargest job) where
       ∙ ap (λ (z : ℕ). boardLines job bd (suc s) (y + z + job .blade) (boardOf b)) (sym (first .high p e i a b h)))
 
   module _ (l : Listing) (m : Model job l) where
-    set-lines : (ts : List Tree) → Roots l ts → (bd : ℕ) → emitSet job bd (map (itemTree l) ts) ≡ setLines job bd (map (layoutOf l) ts)
+    set-lines : (ts : List Tree) → Roots l ts → (bd : ℕ) → emitSet job l bd ts ≡ setLines job bd (map (sheetOf l) ts)
     unfolding setLines
     set-lines [] h bd = refl
     set-lines (t ∷ ts) h bd =
         ap₂ (λ (ps qs : List Placement). ps ++ qs)
-        (board-lines (board job) refl (itemTree l t) (root-pattern job l m t (h .0) .0) bd 1 0) (set-lines ts (h .1) (suc bd))
+        (board-lines (board (sizeAt job (rootSize l t))) refl (itemTree l t) (root-pattern job l m t (h .0) .0) (opened bd (rootSize l t)) 1 0) (set-lines ts (h .1) (suc bd))
 
     -- the items of the boards' trees are the lines of their layouts
-    pub emitted-lines : (ts : List Tree) → Roots l ts → emitSet job 1 (map (itemTree l) ts) ≡ linesOf job (map (layoutOf l) ts)
+    pub emitted-lines : (ts : List Tree) → Roots l ts → emitSet job l 1 ts ≡ linesOf job (map (sheetOf l) ts)
     unfolding linesOf
     emitted-lines ts h = set-lines ts h 1

@@ -5,13 +5,12 @@ use native.Mathlib.Nat.{zero-add, add-assoc}
 use mathlib.Core.Path.{_≡_, refl, _∙_, ap}
 use mathlib.Core.List.{List, [], _∷_, _++_, append-assoc}
 use mathlib.Core.Option.{Option, none, some}
-use borrow.Author.Tests.{lt-ltb, le-ltb}
+use lib.ListN.{length}
 use Rattle.job.specs.Job.{Job}
 use Rattle.listing.specs.Listing.{Listing, plateAt, cutAt}
-use Rattle.plan.specs.Plan.{boards}
 use Rattle.layouts.specs.Layout.{widthOf, heightOf}
-use Rattle.layouts.specs.Placement.{Turn, turn, Placement}
-use Rattle.layouts.specs.Unfold.{Piece, Waiting, waiting, State, spent, search, highest, waitAt, wait, nextTurn, Step, placed, leftOver, idle, done, step, openBoard, Run, placing, run}
+use Rattle.layouts.specs.Placement.{Opened, Turn, turn, Placement}
+use Rattle.layouts.specs.Unfold.{Piece, Waiting, waiting, State, spent, search, highest, waitAt, wait, nextTurn, Step, placed, leftOver, idle, done, step, nextSize, openBoard, Run, placing, run}
 
 -- a state: the pieces that wait, by stage, where the last item was placed, and the counts left
 abbrev pub state : Option Piece → Option Piece → Option Piece → Turn → List ℕ → State
@@ -75,22 +74,22 @@ module _ (job : Job) (l : Listing) where
       record { steps = 1; few = omega arith; runs = λ fuel. let s : 1 + fuel ≡ suc fuel = omega arith in rw (s, e, run) }
 
   -- a step that opens a board, once nothing waits
-  pub step-open : (st : State) → step job l st ≡ idle → 0 < boards l (st .counts) → Leads 1 st [] (openBoard st)
+  pub step-open : (st : State) (j : ℕ) → step job l st ≡ idle → nextSize (length (job .sizes)) 0 l (st .counts) ≡ some j → Leads 1 st [] (openBoard j st)
   unfolding run
-  step-open st e p =
+  step-open st j e p =
       record {
         steps = 1;
         few = omega arith;
         runs = λ fuel.
             let s : 1 + fuel ≡ suc fuel = omega arith in
-            rw (s, e, lt-ltb 0 (boards l (st .counts)) p, run);
+            rw (s, e, p, run);
       }
 
-  -- where nothing waits and no counts on type 0 are left, the unfolding stays
-  pub step-ends : (st : State) → step job l st ≡ idle → boards l (st .counts) ≡ 0 → (fuel : ℕ) → run fuel job l st ≡ stays st
+  -- where nothing waits and no counts on sizes are left, the unfolding stays
+  pub step-ends : (st : State) → step job l st ≡ idle → nextSize (length (job .sizes)) 0 l (st .counts) ≡ none → (fuel : ℕ) → run fuel job l st ≡ stays st
   unfolding run
   step-ends st e p zero = refl
-  step-ends st e p (suc fuel) = rw (e, le-ltb 0 (boards l (st .counts)) (omega arith), run)
+  step-ends st e p (suc fuel) = rw (e, p, run)
 
   module _ (a b : Option Piece) (j x y : ℕ) (t : Turn) (ns : List ℕ) where
     -- the piece of the highest stage is left over where no cut on its type has a count left
@@ -132,7 +131,7 @@ module _ (job : Job) (l : Listing) where
   wait-3 zero x y a b h = refl
   wait-3 (suc j) x y a b h = ap (λ (z : ℕ). waitAt z (piece (suc j) x y) (waiting a b none)) (h (omega arith))
 
-  module _ (a b : Option Piece) (j x y bd s k p : ℕ) (ns : List ℕ) (c : ℕ) (found : search j 1 (l .cuts) ns ≡ some c) where
+  module _ (a b : Option Piece) (j x y : ℕ) (bd : Opened) (s k p : ℕ) (ns : List ℕ) (c : ℕ) (found : search j 1 (l .cuts) ns ≡ some c) where
     -- the item, the top and the right of the cut
     abbrev i : ℕ
     i = cutAt l c .item

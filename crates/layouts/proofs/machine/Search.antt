@@ -19,7 +19,7 @@ use Rattle.layouts.specs.Unfold.{search, spent}
 use Rattle.layouts.proofs.trees.WeightedSums.{wsum, wsum-dec, wsum-none, weight}
 use Rattle.layouts.proofs.trees.Cuts.{IsCut}
 
-none-no-some : {c : ℕ} → _≡_ {A = Option ℕ} none (some c) → ⊥
+pub none-no-some : {c : ℕ} → _≡_ {A = Option ℕ} none (some c) → ⊥
 none-no-some e = let z : _≡_ {A = ℕ} 0 1 = cc in omega arith
 
 -- the count at a place is that of the lowest cut on plate type j with a count left

@@ -1,9 +1,9 @@
--- Requests Two and Four: for every accepted plan and every board, item areas, offcuts, waste and the blade's swath make W×H; what is left over of a type; the
--- number of offcuts.
-use Prim.Native.Nat.{ℕ, zero, suc, _+_, _*_, _≤_, _<_}
+-- Requests Two and Four: for every accepted plan and every board, item areas, offcuts, waste and the blade's swath make the W×H of its size (request Six); what
+-- is left over of a type; the number of offcuts.
+use Prim.Native.Nat.{ℕ, zero, suc, _+_, _*_, _-_, _≤_, _<_}
 use native.Mathlib.Omega.{arith}
 use mathlib.Core.Path.{_≡_, refl, sym, _∙_, ap, subst}
-use mathlib.Core.Logic.{_⊎_, inl, inr}
+use mathlib.Core.Logic.{inl, inr}
 use mathlib.Core.Bool.{Bool, true, false, cond}
 use mathlib.Core.List.{List, [], _∷_, map}
 use lib.Dec.{ltb, eqb}
@@ -13,7 +13,6 @@ use Rattle.job.specs.Lists.{sumOf, occurs}
 use Rattle.job.specs.Sizes.{wordsOfOffcut, maxOffcuts, offcutsSize}
 use Rattle.job.specs.Job.{Job}
 use Rattle.job.specs.Admitted.{Sided}
-use Rattle.job.proofs.Tests.{equal-or-not}
 use Rattle.job.proofs.Sums.{bit, bit-diff, occurs-cons}
 use Rattle.job.proofs.Records.{words-length}
 use Rattle.listing.specs.declared.plate.Plate.{Plate}
@@ -21,32 +20,33 @@ use Rattle.listing.specs.Listing.{Cut, Listing, plateAt, cutAt}
 use Rattle.listing.specs.Model.{Model, Numbered, itemOf, leftBy}
 use Rattle.listing.specs.Waste.{area, itemArea, wasteOf, swathOf}
 use Rattle.listing.proofs.Waste.{keptArea, cut-balance}
-use Rattle.plan.specs.Plan.{countOf, onPlate, leavesPlate, boards, total}
+use Rattle.plan.specs.Plan.{countOf, onPlate, onSize, leavesPlate, boards, total}
 use Rattle.plan.specs.Feasible.{Feasible, NonePast}
-use Rattle.layouts.specs.Unfold.{Piece, Waiting, State, stepsFor, unfolded}
+use Rattle.layouts.specs.Placement.{Opened, opened}
+use Rattle.layouts.specs.Rules.{Every}
+use Rattle.layouts.specs.Unfold.{Piece, Waiting, State, stepsFor, startOf, unfolded}
 use Rattle.layouts.specs.Offcuts.{Event, did, over, eventsOf, placedIn, cutsIn, cutsOn, typesOver, Offcut, offcut, offcutsIn, offcutWords}
-use Rattle.layouts.specs.Balance.{onBoard, itemsOn, offcutsOn, wasteBy, swathBy, keepsTop, keepsRight, AreaBalance}
+use Rattle.layouts.specs.Balance.{onBoard, itemsOn, offcutsOn, sizeOn, sizeArea, wasteBy, swathBy, keepsTop, keepsRight, AreaBalance}
+use Rattle.layouts.proofs.lists.Every.{every-at}
 use Rattle.layouts.proofs.trees.WeightedSums.{wsum, wsum-none, wsum-at, weight, total-wsum, countOf-wsum}
 use Rattle.layouts.proofs.trees.Cuts.{IsCut, plateOf, cut-fits, top-number, right-number, leaves-once}
-use Rattle.layouts.proofs.machine.MachineEnds.{unfolds, start}
+use Rattle.layouts.proofs.machine.MachineEnds.{unfolds}
 use Rattle.layouts.proofs.offcuts.Events.{Runs, stays, leaves as leavesOver, cuts, opens, waits, same-items, run-follows}
-use Rattle.layouts.proofs.offcuts.Flow.{didSum, overSum, waitSum, ifKept, openedSum, didSum-le, didSum-add, didSum-none, runs-sum, flow}
+use Rattle.layouts.proofs.offcuts.Flow.{didSum, overSum, waitSum, ifKept, openedSum, openedIn, didSum-le, didSum-add, didSum-none, runs-sum, flow}
+use Rattle.layouts.proofs.offcuts.Sized.{opened-sized, size-met, none-over}
 
 -- the boards opened, of which one is board b
-opened-below : (b k n : ℕ) (f : ℕ → ℕ) → b ≤ k → openedSum (λ c j. onBoard b c (f j)) k n ≡ 0
-opened-below b k zero f h = refl
-opened-below b k (suc n) f h =
+opened-below : (b k : ℕ) (zs : List ℕ) (f : ℕ → ℕ) → b ≤ k → openedSum (λ c j. onBoard b c (f j)) k zs ≡ 0
+opened-below b k [] f h = refl
+opened-below b k (z ∷ zs) f h =
     let e : eqb (suc k) b ≡ false = ne-eqb (suc k) b (λ (q : suc k ≡ b). omega arith) in
-    rw e (omega (arith, opened-below b (suc k) n f (omega arith)))
+    rw e (omega (arith, opened-below b (suc k) zs f (omega arith)))
 
-opened-at : (b k n : ℕ) (f : ℕ → ℕ) → k < b → b ≤ k + n → openedSum (λ c j. onBoard b c (f j)) k n ≡ f 0
-opened-at b k zero f p q = absurd (omega arith)
-opened-at b k (suc n) f p q = go (equal-or-not (suc k) b) (λ h. opened-at b (suc k) n f h (omega arith))
-  where
-    go : (suc k ≡ b) ⊎ (suc k ≡ b → ⊥) → (suc k < b → openedSum (λ c j. onBoard b c (f j)) (suc k) n ≡ f 0)
-        → onBoard b (suc k) (f 0) + openedSum (λ c j. onBoard b c (f j)) (suc k) n ≡ f 0
-    go (inl e) rec = rw (eq-eqb (suc k) b e) (omega (arith, opened-below b (suc k) n f (omega arith)))
-    go (inr d) rec = rw (ne-eqb (suc k) b d) (omega (arith, rec (omega arith)))
+opened-at : (b k i : ℕ) (zs : List ℕ) (f : ℕ → ℕ) → b ≡ suc (k + i) → i < length zs → openedSum (λ c j. onBoard b c (f j)) k zs ≡ f (getD zs i 0)
+opened-at b k i [] f e h = absurd (omega arith)
+opened-at b k zero (z ∷ zs) f e h = rw (eq-eqb (suc k) b (omega arith)) (omega (arith, opened-below b (suc k) zs f (omega arith)))
+opened-at b k (suc i) (z ∷ zs) f e h =
+    rw (ne-eqb (suc k) b (λ (q : suc k ≡ b). omega arith)) (omega (arith, opened-at b (suc k) i zs f (omega arith) (omega arith)))
 
 -- how often a cut is done
 did-often : (k : ℕ) (es : List Event) → didSum (λ _ c. bit (eqb c k)) es ≡ occurs k (cutsIn es)
@@ -74,9 +74,10 @@ over-number l [] = refl
 over-number l (did c p ∷ es) = over-number l es
 over-number l (over c p ∷ es) = omega (arith, over-number l es)
 
-opened-count : (f : ℕ → ℕ → ℕ) (k : ℕ) → ((b : ℕ) → f b 0 ≡ k) → (b n : ℕ) → openedSum f b n ≡ n * k
-opened-count f k h b zero = omega arith
-opened-count f k h b (suc n) = omega (arith, h (suc b), opened-count f k h (suc b) n)
+-- boards that count for k each
+opened-count : (f : ℕ → ℕ → ℕ) (P : ℕ → Type 0) (k : ℕ) → ((b j : ℕ) → P j → f b j ≡ k) → (b : ℕ) (zs : List ℕ) → Every P zs → openedSum f b zs ≡ length zs * k
+opened-count f P k h b [] q = omega arith
+opened-count f P k h b (z ∷ zs) q = omega (arith, h (suc b) z (q .0), opened-count f P k h (suc b) zs (q .1))
 
 module _ (job : Job) (l : Listing) where
   -- the waste and the swath of one cut
@@ -87,14 +88,14 @@ module _ (job : Job) (l : Listing) where
   sawn c = swathOf job (itemOf job (cutAt l c)) (plateOf l c)
 
   -- what is done on board b: the items placed, the waste and the swath
-  done-on : (b : ℕ) {ps qs : List Piece} {a a′ : ℕ} {ns ns′ : List ℕ} {es : List Event} → Runs job l ps a ns es a′ ns′ qs
+  done-on : (b : ℕ) {ps qs : List Piece} {a a′ : Opened} {ns ns′ : List ℕ} {es : List Event} → Runs job l ps a ns es a′ ns′ qs
       → didSum (λ d c. onBoard b d (itemArea (itemOf job (cutAt l c)) + wastes c + sawn c)) es
       ≡ itemsOn job b (placedIn es) + wasteBy job l (cutsOn b es) + swathBy job l (cutsOn b es)
   unfolding itemsOn wasteBy swathBy placedIn cutsOn sumOf
   done-on b stays = refl
   done-on b (leavesOver e r) = done-on b r
-  done-on b (opens r) = done-on b r
-  done-on b (cuts {b = d} {c = c} {es = es} e r) = go (eqb d b) (done-on b r)
+  done-on b (opens z e r) = done-on b r
+  done-on b (cuts {c = c} {b = d} {es = es} e r) = go (eqb (d .number) b) (done-on b r)
     where
       go : (t : Bool)
           → didSum (λ d c. onBoard b d (itemArea (itemOf job (cutAt l c)) + wastes c + sawn c)) es ≡ itemsOn job b (placedIn es) + wasteBy job l (cutsOn b es) + swathBy job l (cutsOn b es)
@@ -104,12 +105,12 @@ module _ (job : Job) (l : Listing) where
       go false rec = omega arith
 
   -- each item placed is that of its cut
-  items-of-cuts : {ps qs : List Piece} {a a′ : ℕ} {ns ns′ : List ℕ} {es : List Event} → Runs job l ps a ns es a′ ns′ qs → map (λ k. cutAt l k .item) (cutsIn es) ≡ map (λ p. p .item) (placedIn es)
+  items-of-cuts : {ps qs : List Piece} {a a′ : Opened} {ns ns′ : List ℕ} {es : List Event} → Runs job l ps a ns es a′ ns′ qs → map (λ k. cutAt l k .item) (cutsIn es) ≡ map (λ p. p .item) (placedIn es)
   unfolding cutsIn placedIn
   items-of-cuts stays = refl
   items-of-cuts (leavesOver e r) = items-of-cuts r
   items-of-cuts (cuts {c = c} e r) = ap (λ (is : List ℕ). cutAt l c .item ∷ is) (items-of-cuts r)
-  items-of-cuts (opens r) = items-of-cuts r
+  items-of-cuts (opens z e r) = items-of-cuts r
 
 module _ (job : Job) (l : Listing) (m : Model job l) where
   -- the area of a residual that is kept is that of its plate type
@@ -159,36 +160,37 @@ module _ (job : Job) (l : Listing) (m : Model job l) where
       swapped true = refl
       swapped false = omega arith
 
-  -- no cut leaves a board
-  board-law : (b c : ℕ) → IsCut l c → bit (eqb (cutAt l c .plate) 0) + 0 ≡ bit (onPlate 0 (cutAt l c))
-      + (ifKept (λ j. bit (eqb j 0)) (cutAt l c .top) + ifKept (λ j. bit (eqb j 0)) (cutAt l c .right))
-  unfolding onPlate
-  board-law b c i = omega (arith, numbered (cutAt l c .top), numbered (cutAt l c .right))
-    where
-      numbered : (j : ℕ) → ifKept (λ j. bit (eqb j 0)) j ≡ 0
-      numbered zero = refl
-      numbered (suc j) = bit-diff {a = suc j} {b = 0} (λ (e : suc j ≡ 0). omega arith)
-
   -- In any run from its beginning: of a residual type, what is left over, what is cut and what waits still is what arose.
-  type-flow : (k : ℕ) → 0 < k → {qs : List Piece} {b : ℕ} {ns ns′ : List ℕ} {es : List Event} → Runs job l [] 0 ns es b ns′ qs
-      → occurs k (typesOver es) + didSum (λ _ c. weight (onPlate k) l c) es + waitSum (λ _ j. bit (eqb j k)) b qs ≡ didSum (λ _ c. weight (leavesPlate k) l c) es
+  type-flow : (k : ℕ) → l .sizes ≤ k → {qs : List Piece} {b : Opened} {ns ns′ : List ℕ} {es : List Event} → Runs job l [] (opened 0 0) ns es b ns′ qs
+      → occurs k (typesOver es) + didSum (λ _ c. weight (onPlate k) l c) es + waitSum (λ _ j. bit (eqb j k)) (b .number) qs ≡ didSum (λ _ c. weight (leavesPlate k) l c) es
   unfolding sumOf
   type-flow k p {es = es} r =
-      let (n, d, s) = flow job l (λ _ j. bit (eqb j k)) (λ _ c. weight (leavesPlate k) l c) (λ _ c. weight (onPlate k) l c) (type-law k p) r in
-      let z : bit (eqb 0 k) ≡ 0 = bit-diff (λ (e : 0 ≡ k). omega arith) in
-      omega (arith, over-types k es, opened-count (λ _ j. bit (eqb j k)) 0 (λ _. z) 0 n)
+      let (d, s) = flow job l (λ _ j. bit (eqb j k)) (λ _ c. weight (leavesPlate k) l c) (λ _ c. weight (onPlate k) l c) (type-law k (omega (arith, m .sized, m .some-size))) r in
+      let none : (b j : ℕ) → j < length (job .sizes) → bit (eqb j k) ≡ 0 = λ b j h. bit-diff (λ (e : j ≡ k). omega (arith, m .sized)) in
+      omega (arith, over-types k es, opened-count (λ _ j. bit (eqb j k)) (λ j. j < length (job .sizes)) 0 none 0 (openedIn job l r) (opened-sized job l r))
 
   module _ (sided : Sided job) (ns : List ℕ) (past : NonePast l ns) (a : Feasible job l ns) where
     abbrev last : State
     last = unfolded job l ns .last
 
     -- the unfolding as a run: it opens the plan's boards, and nothing waits in the end
-    runs : Runs job l [] 0 ns (eventsOf job l ns) (boards l ns) (last .counts) []
+    runs : Runs job l [] (opened 0 0) ns (eventsOf job l ns) (last .turn .board) (last .counts) []
     unfolding eventsOf unfolded
     runs =
-        subst (λ (b : ℕ). Runs job l [] 0 ns (eventsOf job l ns) b (last .counts) []) (unfolds job l m sided ns past a .last-board ∙ unfolds job l m sided ns past a .opens)
-        (subst (λ (w : Waiting). Runs job l [] 0 ns (eventsOf job l ns) (last .turn .board) (last .counts) (waits job l (record { counts = last .counts; waiting = w; turn = last .turn }))) (unfolds job l m sided ns past a .none-left)
-        (run-follows job l m sided (stepsFor ns) ns))
+        subst (λ (w : Waiting). Runs job l [] (opened 0 0) ns (eventsOf job l ns) (last .turn .board) (last .counts) (waits job l (record { counts = last .counts; waiting = w; turn = last .turn }))) (unfolds job l m sided ns past a .none-left)
+        (run-follows job l m sided (stepsFor ns) ns)
+
+    last-number : last .turn .board .number ≡ boards l ns
+    last-number = unfolds job l m sided ns past a .last-board ∙ unfolds job l m sided ns past a .opens
+
+    -- the sizes of the boards opened
+    sizes : List ℕ
+    sizes = openedIn job l runs
+
+    -- the area of a board is that of its size
+    size-area : (i : ℕ) → i < length sizes → area (plateAt l (getD sizes i 0)) ≡ sizeArea job (getD sizes i 0)
+    unfolding sizeArea sizes
+    size-area i h = ap area (m .first (getD sizes i 0) (every-at (λ z. z < length (job .sizes)) sizes (opened-sized job l runs) 0 i h))
 
     -- each cut is done as often as it is counted
     each-done : (f : ℕ → ℕ) → didSum (λ _ c. f c) (eventsOf job l ns) ≡ wsum f 1 ns
@@ -201,26 +203,29 @@ module _ (job : Job) (l : Listing) (m : Model job l) where
 
     same : placedIn (eventsOf job l ns) ≡ unfolded job l ns .placements
     unfolding eventsOf unfolded
-    same = same-items (stepsFor ns) job l (start ns)
+    same = same-items (stepsFor ns) job l (startOf ns)
 
     -- items, offcuts, waste and the swath of the job's blade make the board
     each-board : (b : ℕ) → 1 ≤ b → b ≤ boards l ns
-        → itemsOn job b (unfolded job l ns .placements) + offcutsOn b (offcutsIn l (eventsOf job l ns)) + wasteBy job l (cutsOn b (eventsOf job l ns)) + swathBy job l (cutsOn b (eventsOf job l ns)) ≡ job .width * job .height
-    unfolding sumOf
+        → itemsOn job b (unfolded job l ns .placements) + offcutsOn b (offcutsIn l (eventsOf job l ns)) + wasteBy job l (cutsOn b (eventsOf job l ns)) + swathBy job l (cutsOn b (eventsOf job l ns)) ≡ sizeArea job (sizeOn b (unfolded job l ns .placements))
+    unfolding sumOf sizes
     each-board b p q =
         let es : List Event = eventsOf job l ns in
-        let (n, d, s) = flow job l (λ d j. onBoard b d (area (plateAt l j))) (λ _ _. 0) (λ d c. onBoard b d (itemArea (itemOf job (cutAt l c)) + wastes job l c + sawn job l c)) (λ d c i. areas-on b d c i) runs in
-        let o : openedSum (λ d j. onBoard b d (area (plateAt l j))) 0 n ≡ area (plateAt l 0) = opened-at b 0 n (λ j. area (plateAt l j)) (omega arith) (omega arith) in
+        let (d, s) = flow job l (λ d j. onBoard b d (area (plateAt l j))) (λ _ _. 0) (λ d c. onBoard b d (itemArea (itemOf job (cutAt l c)) + wastes job l c + sawn job l c)) (λ d c i. areas-on b d c i) runs in
+        let below : b - 1 < length sizes = omega (arith, last-number) in
+        let o : openedSum (λ d j. onBoard b d (area (plateAt l j))) 0 sizes ≡ area (plateAt l (getD sizes (b - 1) 0)) = opened-at b 0 (b - 1) sizes (λ j. area (plateAt l j)) (omega arith) below in
+        let named : sizeOn b (placedIn es) ≡ getD sizes (b - 1) 0 = size-met job l runs (b - 1) b (omega arith) below in
         omega (
           arith,
           done-on job l b runs,
           over-areas l b es,
           didSum-none es,
           ap (itemsOn job b) same,
-          ap area (m .first),
+          size-area (b - 1) below,
+          ap (sizeArea job) (sym named ∙ ap (sizeOn b) same),
         )
 
-    left-over : (j : ℕ) → 1 ≤ j → occurs j (typesOver (eventsOf job l ns)) + countOf (onPlate j) (l .cuts) ns ≡ countOf (leavesPlate j) (l .cuts) ns
+    left-over : (j : ℕ) → l .sizes ≤ j → occurs j (typesOver (eventsOf job l ns)) + countOf (onPlate j) (l .cuts) ns ≡ countOf (leavesPlate j) (l .cuts) ns
     unfolding sumOf
     left-over j p =
         omega (
@@ -232,12 +237,8 @@ module _ (job : Job) (l : Listing) (m : Model job l) where
           countOf-wsum (leavesPlate j) l ns past,
         )
 
-    no-board-over : occurs 0 (typesOver (eventsOf job l ns)) ≡ 0
-    unfolding sumOf boards
-    no-board-over =
-        let es : List Event = eventsOf job l ns in
-        let (n, d, s) = flow job l (λ _ j. bit (eqb j 0)) (λ _ _. 0) (λ _ c. weight (onPlate 0) l c) board-law runs in
-        omega (arith, over-types 0 es, opened-count (λ _ j. bit (eqb j 0)) 1 (λ _. refl) 0 n, each-done (weight (onPlate 0) l), countOf-wsum (onPlate 0) l ns past, didSum-none es)
+    no-board-over : (j : ℕ) → j < l .sizes → occurs j (typesOver (eventsOf job l ns)) ≡ 0
+    no-board-over = none-over job l m runs
 
     -- a residual counts as one, if it is kept
     kept-one : (j : ℕ) → ifKept (λ _. 1) j ≡ bit (ltb 0 j)
@@ -250,11 +251,12 @@ module _ (job : Job) (l : Listing) (m : Model job l) where
     offcuts-number =
         let es : List Event = eventsOf job l ns in
         let keeps : ℕ → ℕ → ℕ = λ _ c. weight keepsTop l c + weight keepsRight l c in
-        let (n, d, s) = flow job l (λ _ _. 1) keeps (λ _ _. 1) (λ b c i. omega (arith, kept-one (cutAt l c .top), kept-one (cutAt l c .right))) runs in
+        let (d, s) = flow job l (λ _ _. 1) keeps (λ _ _. 1) (λ b c i. omega (arith, kept-one (cutAt l c .top), kept-one (cutAt l c .right))) runs in
         omega (
           arith,
           over-number l es,
-          opened-count (λ _ _. 1) 1 (λ _. refl) 0 n,
+          opened-count (λ _ _. 1) (λ j. j < length (job .sizes)) 1 (λ _ _ _. refl) 0 (openedIn job l runs) (opened-sized job l runs),
+          last-number,
           didSum-add (λ _ c. weight keepsTop l c) (λ _ c. weight keepsRight l c) es,
           each-done (weight keepsTop l),
           each-done (weight keepsRight l),
@@ -277,7 +279,7 @@ module _ (job : Job) (l : Listing) (m : Model job l) where
 
     few-offcuts : length (offcutsIn l (eventsOf job l ns)) ≤ maxOffcuts
     unfolding boards
-    few-offcuts = omega (arith, offcuts-number, of-all keepsTop, of-all keepsRight, of-all (onPlate 0), a .few)
+    few-offcuts = omega (arith, offcuts-number, of-all keepsTop, of-all keepsRight, of-all (onSize (l .sizes)), a .few)
 
     -- six words for each
     pub offcuts-room : (first second : ℕ) → length (offcutWords first second (offcutsIn l (eventsOf job l ns))) ≤ offcutsSize

@@ -2,23 +2,25 @@
 use Prim.Native.Nat.{ℕ, zero, suc, _+_, _<_}
 use native.Mathlib.Omega.{arith}
 use mathlib.Core.Path.{_≡_, refl, sym, ap, subst}
-use mathlib.Core.Bool.{Bool, true, false, cond}
+use mathlib.Core.Bool.{cond}
 use mathlib.Core.List.{List, [], _∷_, _++_, append-nil, append-assoc}
 use mathlib.Core.Option.{Option, none, some}
-use lib.Dec.{eqb, ltb}
+use lib.Dec.{eqb}
+use lib.ListN.{length}
 use Rattle.job.specs.Job.{Job}
 use Rattle.job.specs.Admitted.{Sided}
 use Rattle.listing.specs.declared.plate.Plate.{Plate}
 use Rattle.listing.specs.Listing.{Listing, plateAt, cutAt}
 use Rattle.listing.specs.Model.{Model}
-use Rattle.plan.specs.Plan.{boards}
+use Rattle.plan.specs.Plan.{boardsOf}
 use Rattle.layouts.specs.Layout.{widthOf, heightOf}
-use Rattle.layouts.specs.Placement.{Turn, turn, Placement}
-use Rattle.layouts.specs.Unfold.{Piece, State, spent, highest, Step, placed, leftOver, idle, step, openBoard, placing, run}
+use Rattle.layouts.specs.Placement.{Opened, opened, Turn, turn, Placement}
+use Rattle.layouts.specs.Unfold.{Piece, State, spent, highest, Step, placed, leftOver, idle, step, nextSize, openBoard, placing, run, startOf}
 use Rattle.layouts.specs.Offcuts.{Event, did, over, chosen, events, placedIn}
 use Rattle.layouts.proofs.trees.Cuts.{plateOf}
 use Rattle.layouts.proofs.trees.Stages.{cut-stage, top-1, right-1, top-2, right-2, top-3, right-3}
 use Rattle.layouts.proofs.machine.Search.{found-cut}
+use Rattle.layouts.proofs.machine.NextSize.{next-open}
 use Rattle.layouts.proofs.machine.Greedy.{pick}
 use Rattle.layouts.proofs.machine.MachineSteps.{state, piece, slot, placement, over-1, over-2, over-3, cut-1, cut-2, cut-3, none-waits}
 
@@ -26,14 +28,14 @@ use Rattle.layouts.proofs.machine.MachineSteps.{state, piece, slot, pla
 pub same-items : (fuel : ℕ) (job : Job) (l : Listing) (st : State) → placedIn (events fuel job l st) ≡ run fuel job l st .placements
 unfolding events run placing placedIn
 same-items zero job l st = refl
-same-items (suc fuel) job l st = go (step job l st) refl (ltb 0 (boards l (st .counts))) refl (λ s. same-items fuel job l s)
+same-items (suc fuel) job l st = go (step job l st) refl (nextSize (length (job .sizes)) 0 l (st .counts)) refl (λ s. same-items fuel job l s)
   where
-    go : (s : Step) → step job l st ≡ s → (t : Bool) → ltb 0 (boards l (st .counts)) ≡ t → ((s : State) → placedIn (events fuel job l s) ≡ run fuel job l s .placements)
+    go : (s : Step) → step job l st ≡ s → (t : Option ℕ) → nextSize (length (job .sizes)) 0 l (st .counts) ≡ t → ((s : State) → placedIn (events fuel job l s) ≡ run fuel job l s .placements)
         → placedIn (events (suc fuel) job l st) ≡ run (suc fuel) job l st .placements
     go (placed p st′) e t f rec = rw (e, events, run, placedIn) (ap (λ (qs : List Placement). p ∷ qs) (rec st′))
     go (leftOver p st′) e t f rec = rw (e, events, run, placedIn) (rec st′)
-    go idle e true f rec = rw (e, f, events, run) (rec (openBoard st))
-    go idle e false f rec = rw (e, f, events, run, placedIn) refl
+    go idle e (some j) f rec = rw (e, f, events, run) (rec (openBoard j st))
+    go idle e none f rec = rw (e, f, events, run, placedIn) refl
 
 -- a piece that waits, or none
 abbrev pub maybe : Option Piece → List Piece
@@ -57,17 +59,17 @@ kids job l c x y = cond (eqb (plateOf l c .stage) 1) (rightAt job l c x y ++ top
 
 module _ (job : Job) (l : Listing) where
   -- From the pieces that wait, the board and the counts, the events lead to a board, counts and pieces that wait still.
-  pub data Runs : List Piece → ℕ → List ℕ → List Event → ℕ → List ℕ → List Piece → Type 0 where
-    stays : {ps : List Piece} {b : ℕ} {ns : List ℕ} → Runs ps b ns [] b ns ps
-    leaves : {j x y b b′ : ℕ} {ps qs : List Piece} {ns ns′ : List ℕ} {es : List Event} → pick l j ns ≡ none
+  pub data Runs : List Piece → Opened → List ℕ → List Event → Opened → List ℕ → List Piece → Type 0 where
+    stays : {ps : List Piece} {b : Opened} {ns : List ℕ} → Runs ps b ns [] b ns ps
+    leaves : {j x y : ℕ} {b b′ : Opened} {ps qs : List Piece} {ns ns′ : List ℕ} {es : List Event} → pick l j ns ≡ none
         → Runs ps b ns es b′ ns′ qs → Runs (piece j x y ∷ ps) b ns (over b (piece j x y) ∷ es) b′ ns′ qs
-    cuts : {j x y b b′ c s k p : ℕ} {ps qs : List Piece} {ns ns′ : List ℕ} {es : List Event} → pick l j ns ≡ some c
+    cuts : {j x y c s k p : ℕ} {b b′ : Opened} {ps qs : List Piece} {ns ns′ : List ℕ} {es : List Event} → pick l j ns ≡ some c
         → Runs (kids job l c x y ++ ps) b (spent ns c) es b′ ns′ qs
         → Runs (piece j x y ∷ ps) b ns (did c (placement (turn b s k p) (cutAt l c .item) x y) ∷ es) b′ ns′ qs
-    opens : {b b′ : ℕ} {qs : List Piece} {ns ns′ : List ℕ} {es : List Event}
-        → Runs (piece 0 0 0 ∷ []) (suc b) ns es b′ ns′ qs → Runs [] b ns es b′ ns′ qs
+    opens : {j : ℕ} {b b′ : Opened} {qs : List Piece} {ns ns′ : List ℕ} {es : List Event} → j < length (job .sizes) → 0 < boardsOf l j ns
+        → Runs (piece j 0 0 ∷ []) (opened (suc (b .number)) j) ns es b′ ns′ qs → Runs [] b ns es b′ ns′ qs
 
-  from-same : {b b′ : ℕ} {ps ps′ qs : List Piece} {ns ns′ : List ℕ} {es : List Event} → ps ≡ ps′ → Runs ps′ b ns es b′ ns′ qs → Runs ps b ns es b′ ns′ qs
+  from-same : {b b′ : Opened} {ps ps′ qs : List Piece} {ns ns′ : List ℕ} {es : List Event} → ps ≡ ps′ → Runs ps′ b ns es b′ ns′ qs → Runs ps b ns es b′ ns′ qs
   from-same {b} {b′} {ps} {ps′} {qs} {ns} {ns′} {es} e r = subst (λ (z : List Piece). Runs z b ns es b′ ns′ qs) (sym e) r
 
   -- what a cut leaves, by its stage
@@ -113,12 +115,12 @@ module _ (job : Job) (l : Listing) (m : Model job l) (sided : Sided job) where
     unfolding chosen highest
     chosen-1 = rw (found, chosen)
 
-  follows : (fuel : ℕ) (a b c : Option Piece) (bd s k p : ℕ) (ns : List ℕ) → AtStage l 1 a → AtStage l 2 b → AtStage l 3 c → Follows fuel (state a b c (turn bd s k p) ns)
+  follows : (fuel : ℕ) (a b c : Option Piece) (bd : Opened) (s k p : ℕ) (ns : List ℕ) → AtStage l 1 a → AtStage l 2 b → AtStage l 3 c → Follows fuel (state a b c (turn bd s k p) ns)
   unfolding events run placing openBoard
   follows zero a b c bd s k p ns f g h = stays
   follows (suc fuel) a b (some q) bd s k p ns f g h = go (pick l (q .plate) ns) refl (λ u w bd s k p ms f g h. follows fuel u b w bd s k p ms f g h)
     where
-      go : (o : Option ℕ) → pick l (q .plate) ns ≡ o → ((u w : Option Piece) (bd s k p : ℕ) (ms : List ℕ) → AtStage l 1 u → AtStage l 2 b → AtStage l 3 w → Follows fuel (state u b w (turn bd s k p) ms))
+      go : (o : Option ℕ) → pick l (q .plate) ns ≡ o → ((u w : Option Piece) (bd : Opened) (s k p : ℕ) (ms : List ℕ) → AtStage l 1 u → AtStage l 2 b → AtStage l 3 w → Follows fuel (state u b w (turn bd s k p) ms))
           → Follows (suc fuel) (state a b (some q) (turn bd s k p) ns)
       go none e rec =
           rw (over-3 job l a b (q .plate) (q .x) (q .y) (turn bd s k p) ns e, events, run)
@@ -134,7 +136,7 @@ module _ (job : Job) (l : Listing) (m : Model job l) (sided : Sided job) where
           (rec a (slot (cutAt l c .top) (q .x) (q .y + heightOf job (cutAt l c .item) + job .blade)) bd s k (suc p) (spent ns c) f g (slot-stage l 3 (cutAt l c .top) _ _ top))))
   follows (suc fuel) a (some q) none bd s k p ns f g h = go (pick l (q .plate) ns) refl (λ u v w bd s k p ms f g h. follows fuel u v w bd s k p ms f g h)
     where
-      go : (o : Option ℕ) → pick l (q .plate) ns ≡ o → ((u v w : Option Piece) (bd s k p : ℕ) (ms : List ℕ) → AtStage l 1 u → AtStage l 2 v → AtStage l 3 w → Follows fuel (state u v w (turn bd s k p) ms))
+      go : (o : Option ℕ) → pick l (q .plate) ns ≡ o → ((u v w : Option Piece) (bd : Opened) (s k p : ℕ) (ms : List ℕ) → AtStage l 1 u → AtStage l 2 v → AtStage l 3 w → Follows fuel (state u v w (turn bd s k p) ms))
           → Follows (suc fuel) (state a (some q) none (turn bd s k p) ns)
       go none e rec =
           rw (over-2 job l a none (q .plate) (q .x) (q .y) (turn bd s k p) ns e, events, run)
@@ -150,7 +152,7 @@ module _ (job : Job) (l : Listing) (m : Model job l) (sided : Sided job) where
           (rec a (slot (cutAt l c .right) (q .x + widthOf job (cutAt l c .item) + job .blade) (q .y)) (slot (cutAt l c .top) (q .x) (q .y + heightOf job (cutAt l c .item) + job .blade)) bd s (suc k) 1 (spent ns c) f (slot-stage l 2 (cutAt l c .right) _ _ right) (slot-stage l 3 (cutAt l c .top) _ _ top))))
   follows (suc fuel) (some q) none none bd s k p ns f g h = go (pick l (q .plate) ns) refl (λ u v w bd s k p ms f g h. follows fuel u v w bd s k p ms f g h)
     where
-      go : (o : Option ℕ) → pick l (q .plate) ns ≡ o → ((u v w : Option Piece) (bd s k p : ℕ) (ms : List ℕ) → AtStage l 1 u → AtStage l 2 v → AtStage l 3 w → Follows fuel (state u v w (turn bd s k p) ms))
+      go : (o : Option ℕ) → pick l (q .plate) ns ≡ o → ((u v w : Option Piece) (bd : Opened) (s k p : ℕ) (ms : List ℕ) → AtStage l 1 u → AtStage l 2 v → AtStage l 3 w → Follows fuel (state u v w (turn bd s k p) ms))
           → Follows (suc fuel) (state (some q) none none (turn bd s k p) ns)
       go none e rec =
           rw (over-1 job l none none (q .plate) (q .x) (q .y) (turn bd s k p) ns e, events, run)
@@ -164,12 +166,19 @@ module _ (job : Job) (l : Listing) (m : Model job l) (sided : Sided job) where
           (cuts e
           (from-same job l (kids-1 job l c (q .x) (q .y) st)
           (rec (slot (cutAt l c .top) (q .x) (q .y + heightOf job (cutAt l c .item) + job .blade)) (slot (cutAt l c .right) (q .x + widthOf job (cutAt l c .item) + job .blade) (q .y)) none bd (suc s) 1 1 (spent ns c) (slot-stage l 1 (cutAt l c .top) _ _ top) (slot-stage l 2 (cutAt l c .right) _ _ right) tt)))
-  follows (suc fuel) none none none bd s k p ns f g h = go (ltb 0 (boards l ns)) refl (follows fuel (some (piece 0 0 0)) none none (suc bd) 0 0 0 ns (ap (λ (q : Plate). q .stage) (m .first)) tt tt)
+  follows (suc fuel) none none none bd s k p ns f g h =
+      go (nextSize (length (job .sizes)) 0 l ns) refl
+      (λ j e. follows fuel (some (piece j 0 0)) none none (opened (suc (bd .number)) j) 0 0 0 ns e tt tt)
     where
-      go : (t : Bool) → ltb 0 (boards l ns) ≡ t → Follows fuel (state (some (piece 0 0 0)) none none (turn (suc bd) 0 0 0) ns) → Follows (suc fuel) (state none none none (turn bd s k p) ns)
-      go true e rec = rw (none-waits job l (turn bd s k p) ns, e, events, run) (opens rec)
-      go false e rec = rw (none-waits job l (turn bd s k p) ns, e, events, run) stays
+      go : (o : Option ℕ) → nextSize (length (job .sizes)) 0 l ns ≡ o
+          → ((j : ℕ) → plateAt l j .stage ≡ 1 → Follows fuel (state (some (piece j 0 0)) none none (turn (opened (suc (bd .number)) j) 0 0 0) ns))
+          → Follows (suc fuel) (state none none none (turn bd s k p) ns)
+      go (some j) e rec =
+          let (_, below, left) = next-open l (length (job .sizes)) 0 j ns e in
+          let size : j < length (job .sizes) = omega arith in
+          rw (none-waits job l (turn bd s k p) ns, e, events, run) (opens size left (rec j (ap (λ (q : Plate). q .stage) (m .first j size))))
+      go none e rec = rw (none-waits job l (turn bd s k p) ns, e, events, run) stays
 
   -- the run of any counts from its beginning
-  pub run-follows : (fuel : ℕ) (ns : List ℕ) → Follows fuel (state none none none (turn 0 0 0 0) ns)
-  run-follows fuel ns = follows fuel none none none 0 0 0 0 ns tt tt tt
+  pub run-follows : (fuel : ℕ) (ns : List ℕ) → Follows fuel (startOf ns)
+  run-follows fuel ns = follows fuel none none none (opened 0 0) 0 0 0 ns tt tt tt

@@ -6,11 +6,13 @@ use mathlib.Core.Path.{_≡_, refl, ap}
 use mathlib.Core.Bool.{Bool, true, false, cond}
 use mathlib.Core.List.{List, [], _∷_, _++_}
 use lib.Dec.{eqb}
+use lib.ListN.{length}
 use Rattle.job.specs.Lists.{sumOf}
 use Rattle.job.specs.Job.{Job}
 use Rattle.job.proofs.Sums.{sumOf-append}
 use Rattle.listing.specs.Listing.{Listing, cutAt}
 use Rattle.layouts.specs.Layout.{widthOf, heightOf}
+use Rattle.layouts.specs.Placement.{Opened}
 use Rattle.layouts.specs.Unfold.{Piece}
 use Rattle.layouts.specs.Offcuts.{Event, did, over}
 use Rattle.layouts.proofs.trees.WeightedSums.{wsum}
@@ -22,13 +24,13 @@ use Rattle.layouts.proofs.offcuts.Events.{Runs, stays, leaves, cuts, op
 -- sums over the cuts done, by board and cut, and over the pieces left over, by board and plate type
 abbrev pub didSum : (ℕ → ℕ → ℕ) → List Event → ℕ
 didSum f [] = 0
-didSum f (did c p ∷ es) = f (p .turn .board) c + didSum f es
+didSum f (did c p ∷ es) = f (p .turn .board .number) c + didSum f es
 didSum f (over b p ∷ es) = didSum f es
 
 abbrev pub overSum : (ℕ → ℕ → ℕ) → List Event → ℕ
 overSum f [] = 0
 overSum f (did c p ∷ es) = overSum f es
-overSum f (over b p ∷ es) = f b (p .plate) + overSum f es
+overSum f (over b p ∷ es) = f (b .number) (p .plate) + overSum f es
 
 -- the sum over the pieces that wait on board b
 abbrev pub waitSum : (ℕ → ℕ → ℕ) → ℕ → List Piece → ℕ
@@ -39,14 +41,14 @@ abbrev pub ifKept : (ℕ → ℕ) → ℕ → ℕ
 ifKept f zero = 0
 ifKept f (suc j) = f (suc j)
 
--- the next n boards that are opened after board b
-abbrev pub openedSum : (ℕ → ℕ → ℕ) → ℕ → ℕ → ℕ
-openedSum f b zero = 0
-openedSum f b (suc n) = f (suc b) 0 + openedSum f (suc b) n
+-- the next boards that are opened after board b, of the sizes zs (request Six)
+abbrev pub openedSum : (ℕ → ℕ → ℕ) → ℕ → List ℕ → ℕ
+openedSum f b [] = 0
+openedSum f b (z ∷ zs) = f (suc b) z + openedSum f (suc b) zs
 
 pub didSum-le : (f g : ℕ → ℕ → ℕ) → ((b c : ℕ) → f b c ≤ g b c) → (es : List Event) → didSum f es ≤ didSum g es
 didSum-le f g h [] = omega arith
-didSum-le f g h (did c p ∷ es) = omega (arith, h (p .turn .board) c, didSum-le f g h es)
+didSum-le f g h (did c p ∷ es) = omega (arith, h (p .turn .board .number) c, didSum-le f g h es)
 didSum-le f g h (over b p ∷ es) = didSum-le f g h es
 
 pub didSum-add : (f g : ℕ → ℕ → ℕ) (es : List Event) → didSum (λ b c. f b c + g b c) es ≡ didSum f es + didSum g es
@@ -60,12 +62,19 @@ didSum-none (did c p ∷ es) = omega (arith, didSum-none es)
 didSum-none (over b p ∷ es) = didSum-none es
 
 module _ (job : Job) (l : Listing) where
+  -- the sizes of the boards that a run opens, in order
+  abbrev pub openedIn : {ps qs : List Piece} {b b′ : Opened} {ns ns′ : List ℕ} {es : List Event} → Runs job l ps b ns es b′ ns′ qs → List ℕ
+  openedIn stays = []
+  openedIn (leaves e r) = openedIn r
+  openedIn (cuts e r) = openedIn r
+  openedIn (opens {j = j} z e r) = j ∷ openedIn r
+
   -- the cuts done and the counts left make the counts before
-  pub runs-sum : {ps qs : List Piece} {b b′ : ℕ} {ns ns′ : List ℕ} {es : List Event} → Runs job l ps b ns es b′ ns′ qs → (f : ℕ → ℕ) → wsum f 1 ns ≡ didSum (λ _ c. f c) es + wsum f 1 ns′
+  pub runs-sum : {ps qs : List Piece} {b b′ : Opened} {ns ns′ : List ℕ} {es : List Event} → Runs job l ps b ns es b′ ns′ qs → (f : ℕ → ℕ) → wsum f 1 ns ≡ didSum (λ _ c. f c) es + wsum f 1 ns′
   runs-sum stays f = omega arith
   runs-sum (leaves e r) f = runs-sum r f
   runs-sum (cuts {j = j} {c = c} {ns = ns} e r) f = omega (arith, spent-sum l j ns c e f, runs-sum r f)
-  runs-sum (opens r) f = runs-sum r f
+  runs-sum (opens z e r) f = runs-sum r f
 
   slot-sum : (f : ℕ → ℕ → ℕ) (b j x y : ℕ) → waitSum f b (maybe (slot j x y)) ≡ ifKept (f b) j
   unfolding sumOf
@@ -100,13 +109,14 @@ module _ (job : Job) (l : Listing) where
 
   -- f by board and plate type; g and h by board and cut: a cut takes f of its plate and g, and gives h and f of what it leaves
   module _ (f g h : ℕ → ℕ → ℕ) (law : (b c : ℕ) → IsCut l c → f b (cutAt l c .plate) + g b c ≡ h b c + (ifKept (f b) (cutAt l c .top) + ifKept (f b) (cutAt l c .right))) where
-    pub flow : {ps qs : List Piece} {b b′ : ℕ} {ns ns′ : List ℕ} {es : List Event} → Runs job l ps b ns es b′ ns′ qs
-        → (n : ℕ) × (b′ ≡ b + n) × (didSum h es + overSum f es + waitSum f b′ qs ≡ waitSum f b ps + didSum g es + openedSum f b n)
+    pub flow : {ps qs : List Piece} {b b′ : Opened} {ns ns′ : List ℕ} {es : List Event} (r : Runs job l ps b ns es b′ ns′ qs)
+        → (b′ .number ≡ b .number + length (openedIn r))
+        × (didSum h es + overSum f es + waitSum f (b′ .number) qs ≡ waitSum f (b .number) ps + didSum g es + openedSum f (b .number) (openedIn r))
     unfolding sumOf
-    flow stays = (0, omega arith, omega arith)
-    flow (leaves e r) = let (n, d, s) = flow r in (n, d, omega arith)
-    flow (cuts {j = j} {x = x} {y = y} {b = b} {c = c} {ps = ps} {ns = ns} e r) =
+    flow stays = (omega arith, omega arith)
+    flow (leaves e r) = let (d, s) = flow r in (d, omega arith)
+    flow (cuts {j = j} {x = x} {y = y} {c = c} {b = b} {ps = ps} {ns = ns} e r) =
         let (i, on) = found-cut l j ns c e in
-        let (n, d, s) = flow r in
-        (n, d, omega (arith, law b c i, ap (f b) on, kids-sum f b c x y ps))
-    flow (opens r) = let (n, d, s) = flow r in (suc n, omega arith, omega arith)
+        let (d, s) = flow r in
+        (d, omega (arith, law (b .number) c i, ap (f (b .number)) on, kids-sum f (b .number) c x y ps))
+    flow (opens z e r) = let (d, s) = flow r in (omega arith, omega arith)

@@ -18,7 +18,7 @@ use Rattle.listing.proofs.Plates.{may-cut}
 use Rattle.listing.proofs.Kept.{kept-sides}
 use Rattle.listing.proofs.Residuals.{leaves-by}
 use Rattle.layouts.specs.Layout.{widthOf, heightOf}
-use Rattle.layouts.specs.Placement.{turn}
+use Rattle.layouts.specs.Placement.{Opened, turn}
 use Rattle.layouts.specs.Unfold.{Piece}
 use Rattle.layouts.specs.Rules.{Every}
 use Rattle.layouts.specs.Offcuts.{Offcut, offcut}
@@ -50,8 +50,8 @@ in-trans {r} {s} {t} p q =
       up = omega (arith, p .up, q .up);
     }
 
-pub in-board : (job : Job) (r s : Offcut) → In r s → InBoard job s → InBoard job r
-in-board job r s p q = record { across = omega (arith, p .right, q .across); up = omega (arith, p .up, q .up) }
+pub in-board : (job : Job) (r s : Offcut) → r .board .size ≡ s .board .size → In r s → InBoard job s → InBoard job r
+in-board job r s e p q = record { across = rw e (omega (arith, p .right, q .across)); up = rw e (omega (arith, p .up, q .up)) }
 
 -- parts of what is apart are apart
 pub apart-in : (g : ℕ) (r r′ s s′ : Offcut) → In r r′ → In s s′ → ApartBy g r′ s′ → ApartBy g r s
@@ -98,11 +98,11 @@ slot-pairs R zero x y = tt
 slot-pairs R (suc r) x y = (tt, tt)
 
 -- two pieces of board b that are apart
-abbrev pub Off : Job → Listing → ℕ → Piece → Piece → Type 0
+abbrev pub Off : Job → Listing → Opened → Piece → Piece → Type 0
 Off job l b p q = ApartBy (job .blade) (offcut l b p) (offcut l b q)
 
 module _ (job : Job) (l : Listing) (m : Model job l) (sided : Sided job) where
-  module _ (b j x y c : ℕ) (i : IsCut l c) (on : cutAt l c .plate ≡ j) where
+  module _ (b : Opened) (j x y c : ℕ) (i : IsCut l c) (on : cutAt l c .plate ≡ j) where
     abbrev whole : Offcut
     whole = offcut l b (piece j x y)
 

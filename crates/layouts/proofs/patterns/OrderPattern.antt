@@ -7,6 +7,7 @@ use mathlib.Core.Bool.{Bool, true, false}
 use mathlib.Core.List.{[], _∷_, map}
 use Rattle.job.specs.Lists.{sumOf, gapSum, maxOf}
 use Rattle.job.specs.Mode.{three, exact}
+use Rattle.job.specs.declared.size.Size.{Size}
 use Rattle.job.specs.Job.{Job}
 use Rattle.job.proofs.Sums.{sumOf-map, sumOf-same}
 use Rattle.listing.specs.Plate.{plate, board}
@@ -24,7 +25,7 @@ use Rattle.layouts.proofs.patterns.PatternSteps.{Within, cut-1, cut-2-t
 use Rattle.layouts.proofs.patterns.OrderForm.{Formed, formed-back, formed-items, formed-node}
 use Rattle.layouts.proofs.patterns.Order.{ordered-three, ordered-two, ordered-filled, ordered-board-sum}
 
-module _ (job : Job) where
+module _ (job : Job) (sz : Size) where
   -- items that fall in width are a pattern of a stage 3 plate
   pattern-stack :
       three (job .mode) ≡ true
@@ -132,7 +133,7 @@ module _ (job : Job) where
   Ready h [] = ⊥
   Ready h ([] ∷ s) = ⊥
   Ready h ((i ∷ is) ∷ s) =
-      (is ≡ []) × Within job (job .width) h i × Pattern job (plate (job .width - widthOf job i - job .blade) (heightOf job i) 2) (stripTree s)
+      (is ≡ []) × Within job (sz .width) h i × Pattern job (plate (sz .width - widthOf job i - job .blade) (heightOf job i) 2) (stripTree s)
 
   -- two stages: single items in falling height, in an exact mode all of one height c
   ready-items :
@@ -144,7 +145,7 @@ module _ (job : Job) where
       → Every (λ k. stackHeight job k ≤ h) s
       → (exact (job .mode) ≡ true → Every (λ k. stackHeight job k ≡ c) s)
       → Falling (stackHeight job) s
-      → stripWidth job s ≤ job .width
+      → stripWidth job s ≤ sz .width
       → Ready h s
   unfolding stripWidth stackWidth stackHeight gapSum sumOf maxOf
   ready-items t h c [] fi si ty lo le fa cr = absurd fi
@@ -153,7 +154,7 @@ module _ (job : Job) where
   ready-items t h c ((i ∷ []) ∷ s) fi si ty lo le fa cr = (
     refl,
     record { type = ty .0 .0; wide = omega arith; high = omega (arith, lo .0) },
-    pattern-singles t (job .width - widthOf job i - job .blade) (heightOf job i) s
+    pattern-singles t (sz .width - widthOf job i - job .blade) (heightOf job i) s
         (level s (si .1) (ty .1) (fa .0) (λ e. le e .1) (λ e. le e .0)) (fa .1) (omega arith),
   )
     where
@@ -171,7 +172,7 @@ module _ (job : Job) where
         level m (a .1) (b .1) (f .1) (λ x. d x .1) e,
       )
 
-  ready-two : (s : Strip) → three (job .mode) ≡ false → StripOk job s → Ready (stripHeight job s) (falling (stackHeight job) s)
+  ready-two : (s : Strip) → three (job .mode) ≡ false → StripOk job sz s → Ready (stripHeight job s) (falling (stackHeight job) s)
   unfolding stripHeight stripWidth gapSum
   ready-two s t k =
       ready-items t (stripHeight job s) (maxOf (heightOf job) (itemsOfStrip s)) (falling (stackHeight job) s)
@@ -192,7 +193,7 @@ module _ (job : Job) where
       → (h : ℕ) (s : Strip)
       → HeadPasses (fullStack job h) s
       → Every (InOrder h) s
-      → stripWidth job s ≤ job .width
+      → stripWidth job s ≤ sz .width
       → Ready h s
   unfolding stripWidth stackWidth stackHeight gapSum sumOf maxOf
   ready-stacks t h [] hp g cr = absurd hp
@@ -202,13 +203,13 @@ module _ (job : Job) where
       let z : heightOf job i ≡ h = omega (arith, full-exact job h (i ∷ []) .0 hp .1) in (
         refl,
         record { type = g .0 .types .0; wide = omega arith; high = omega arith },
-        rw z (pattern-stacks t (job .width - widthOf job i - job .blade) h s (g .1) (omega arith)),
+        rw z (pattern-stacks t (sz .width - widthOf job i - job .blade) h s (g .1) (omega arith)),
       )
 
   ready-three :
       (s : Strip)
       → three (job .mode) ≡ true
-      → StripOk job s
+      → StripOk job sz s
       → Ready (stripHeight job s) (toFront (fullStack job (stripHeight job s)) (map (falling (widthOf job)) s))
   unfolding stripHeight stripWidth gapSum
   ready-three s t k =
@@ -250,7 +251,7 @@ module _ (job : Job) where
         in-order m (a .1) (b .1) (λ e. c e .1) (d .1),
       )
 
-  ready : (s : Strip) → StripOk job s → Ready (stripHeight job s) (ordered job s)
+  ready : (s : Strip) → StripOk job sz s → Ready (stripHeight job s) (ordered job s)
   ready s k = go (three (job .mode)) refl
     where
       go : (t : Bool) → three (job .mode) ≡ t → Ready (stripHeight job s) (ordered job s)
@@ -258,7 +259,7 @@ module _ (job : Job) where
       go false t = rw (ordered-two job s t) (ready-two s t k)
 
   -- a strip that keeps the rules, in order: a single item first, nothing empty
-  ordered-formed : (s : Strip) → StripOk job s → Formed (ordered job s)
+  ordered-formed : (s : Strip) → StripOk job sz s → Formed (ordered job s)
   ordered-formed s k = go (ordered job s) (ready s k) (ordered-filled job s (k .stacks))
     where
       go : (m : Strip) → Ready (stripHeight job s) m → Every Filled m → Formed m
@@ -266,15 +267,15 @@ module _ (job : Job) where
       go ([] ∷ m) q f = absurd q
       go ((i ∷ is) ∷ m) q f = (q .0, f .1)
 
-  board-formed : (b : Board) → Every (StripOk job) b → Every Formed (map (ordered job) b)
+  board-formed : (b : Board) → Every (StripOk job sz) b → Every Formed (map (ordered job) b)
   board-formed b k = every-of-map Formed (ordered job) b (every-map ordered-formed b k)
 
   -- strips that keep the rules, in order, are a pattern of a stage 1 plate
   ordered-strips :
       (h : ℕ) (b : Board)
-      → Every (StripOk job) b
+      → Every (StripOk job sz) b
       → boardHeight job b ≤ h
-      → Pattern job (plate (job .width) h 1) (boardTree (map (ordered job) b))
+      → Pattern job (plate (sz .width) h 1) (boardTree (map (ordered job) b))
   unfolding boardHeight gapSum sumOf
   ordered-strips h [] k up = tt
   ordered-strips h (s ∷ b) k up = go (ordered job s) (ready s (k .0)) (λ m. ordered-strips m b (k .1))
@@ -282,13 +283,13 @@ module _ (job : Job) where
       go :
           (m : Strip)
           → Ready (stripHeight job s) m
-          → ((n : ℕ) → boardHeight job b ≤ n → Pattern job (plate (job .width) n 1) (boardTree (map (ordered job) b)))
-          → Pattern job (plate (job .width) h 1) (boardTree (m ∷ map (ordered job) b))
+          → ((n : ℕ) → boardHeight job b ≤ n → Pattern job (plate (sz .width) n 1) (boardTree (map (ordered job) b)))
+          → Pattern job (plate (sz .width) h 1) (boardTree (m ∷ map (ordered job) b))
       go [] q rec = tt
       go ([] ∷ m) q rec = tt
       go ((i ∷ is) ∷ m) q rec =
           let f = q .1 in
-          cut-1 job (job .width) h i (stripTree m) (boardTree (map (ordered job) b)) .1 (
+          cut-1 job (sz .width) h i (stripTree m) (boardTree (map (ordered job) b)) .1 (
             record { type = f .type; wide = f .wide; high = omega (arith, f .high) },
             q .2,
             rec (h - heightOf job i - job .blade) (omega (arith, f .high)),
@@ -303,17 +304,17 @@ module _ (job : Job) where
   pub record Cuttable (b : Board) : Type 0 where
     pub formed : Every Formed (map (ordered job) b)
     pub back : boardOf (boardTree (map (ordered job) b)) ≡ map (ordered job) b
-    pub pattern : Pattern job (board job) (boardTree (map (ordered job) b))
+    pub pattern : Pattern job (board sz) (boardTree (map (ordered job) b))
     pub some : boardTree (map (ordered job) b) ≢ leaf
     pub items : (f : ℕ → ℕ) → tsum f (boardTree (map (ordered job) b)) ≡ sumOf f (itemsOfBoard b)
 
   -- every board that keeps the rules becomes so
-  pub board-cuttable : (b : Board) → BoardOk job b → Cuttable b
+  pub board-cuttable : (b : Board) → BoardOk job sz b → Cuttable b
   board-cuttable b k =
       record {
         formed = board-formed b (k .strips);
         back = formed-back (map (ordered job) b) (board-formed b (k .strips));
-        pattern = ordered-strips (job .height) b (k .strips) (k .up);
+        pattern = ordered-strips (sz .height) b (k .strips) (k .up);
         some = formed-node (map (ordered job) b) (filled-ordered b (k .filled)) (board-formed b (k .strips));
         items = λ f. formed-items f (map (ordered job) b) (board-formed b (k .strips)) ∙ ordered-board-sum job f b;
       }

@@ -8,6 +8,7 @@ use mathlib.Core.List.{[], _∷_}
 use lib.ListN.{length}
 use Rattle.job.specs.Lists.{sumOf, gapsAfter, gapSum, maxOf}
 use Rattle.job.specs.Mode.{three, exact}
+use Rattle.job.specs.declared.size.Size.{Size}
 use Rattle.job.specs.Job.{Job}
 use Rattle.job.specs.Admitted.{Sided}
 use Rattle.listing.specs.Plate.{plate, board}
@@ -46,7 +47,7 @@ module _ (job : Job) where
 
   -- what a pattern of a stage 1 plate makes of the strips, where h remains above the strips below, the blade's gap with it
   pub record Over (w h : ℕ) (b : Board) : Type 0 where
-    pub strips : w ≡ job .width → Every (StripOk job) b
+    pub strips : (sz : Size) → w ≡ sz .width → Every (StripOk job sz) b
     pub up : gapsAfter (job .blade) (stripHeight job) b ≤ h
 
   -- a stack that is one item
@@ -199,14 +200,14 @@ module _ (job : Job) where
     -- stage 1: the strips, on a plate of the board's width
     pub over : (w h : ℕ) (x : Tree) → Pattern job (plate w (h - job .blade) 1) x → Over w h (boardOf x)
     unfolding sumOf
-    over w h leaf p = record { strips = λ e. tt; up = omega arith }
+    over w h leaf p = record { strips = λ sz e. tt; up = omega arith }
     over w h (node i a b) p =
         let q = cut-1 job w (h - job .blade) i a b .0 p in
         let f = q .0 in
         let u = beside (w - widthOf job i) (heightOf job i) a (q .1) in
         let r = over w (h - job .blade - heightOf job i) b (q .2) in
         record {
-          strips = λ e. (
+          strips = λ sz e. (
             record {
               filled = tt;
               stacks = (tt, u .stacks);
@@ -214,19 +215,19 @@ module _ (job : Job) where
               staged = strip-staged w i a u;
               across = omega (arith, strip-across w i a u (f .wide));
             },
-            r .strips e,
+            r .strips sz e,
           );
           up = omega (arith, strip-high w i a u, f .high, laid-sides job sided i (f .type), r .up);
         }
 
     -- the layout of a pattern of the board keeps the rules
-    pub pattern-ok : (x : Tree) → x ≢ leaf → Pattern job (board job) x → BoardOk job (boardOf x)
+    pub pattern-ok : (sz : Size) (x : Tree) → x ≢ leaf → Pattern job (board sz) x → BoardOk job sz (boardOf x)
     unfolding boardHeight gapSum
-    pattern-ok leaf d p = absurd (d refl)
-    pattern-ok (node i a b) d p =
-        let e : job .height + job .blade - job .blade ≡ job .height = omega arith in
-        let r = over (job .width) (job .height + job .blade) (node i a b) (rw e p) in
-        record { filled = tt; strips = r .strips refl; up = omega (arith, r .up) }
+    pattern-ok sz leaf d p = absurd (d refl)
+    pattern-ok sz (node i a b) d p =
+        let e : sz .height + job .blade - job .blade ≡ sz .height = omega arith in
+        let r = over (sz .width) (sz .height + job .blade) (node i a b) (rw e p) in
+        record { filled = tt; strips = r .strips sz refl; up = omega (arith, r .up) }
 
     -- the sides of what a cut begins: at stage 2 a stack as wide as its first item, at stage 1 a strip as high as its first item
     pub stack-width : (w h i : ℕ) (a b : Tree) → Pattern job (plate w h 2) (node i a b) → stackWidth job (i ∷ stackOf a) ≡ widthOf job i

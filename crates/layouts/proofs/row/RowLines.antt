@@ -10,8 +10,8 @@ use Rattle.job.specs.Sizes.{wordsOfPlacement}
 use Rattle.job.specs.Job.{Job, typeOf, turnOf}
 use Rattle.job.proofs.Positions.{type-turn, type-of, turn-of}
 use Rattle.job.proofs.Records.{words-length as records-length}
-use Rattle.layouts.specs.Layout.{Stack, Strip, Board, heightOf, stackWidth, stripHeight}
-use Rattle.layouts.specs.Placement.{Placement, placementWords, stackLines, stripLines, boardLines, setLines, linesOf, itemsOfStrip, itemsOfBoard, itemsOfSet, typesOfSet}
+use Rattle.layouts.specs.Layout.{Stack, Strip, Board, Sheet, sheet, stripsOf, heightOf, stackWidth, stripHeight}
+use Rattle.layouts.specs.Placement.{Opened, opened, Placement, placementWords, stackLines, stripLines, boardLines, setLines, linesOf, itemsOfStrip, itemsOfBoard, itemsOfSet, typesOfSet}
 use Rattle.layouts.specs.Lines.{Line, linesIn, rowsOf}
 use Rattle.layouts.specs.Rules.{Every}
 use Rattle.layouts.proofs.lists.Every.{every-map, every-of-parts, parts-every}
@@ -21,58 +21,58 @@ abbrev pub lineItem : Placement → ℕ
 lineItem r = r .item
 
 -- what holds of every item of a set holds of every item of every stack of every strip of every board
-pub items-every : (P : ℕ → Type 0) (bs : List Board) → Every P (itemsOfSet bs) ↔ Every (Every (Every (Every P))) bs
+pub items-every : (P : ℕ → Type 0) (bs : List Sheet) → Every P (itemsOfSet bs) ↔ Every (λ b. Every (Every (Every P)) (stripsOf b)) bs
 unfolding itemsOfSet itemsOfBoard itemsOfStrip
 items-every P bs = (
   λ h.
-      every-map (λ b (q : Every P (itemsOfBoard b)).
-      every-map (λ s (r : Every P (itemsOfStrip s)). parts-every P (λ k. k) s r) b (parts-every P itemsOfStrip b q))
-      bs (parts-every P itemsOfBoard bs h),
+      every-map (λ b (q : Every P (itemsOfBoard (stripsOf b))).
+      every-map (λ s (r : Every P (itemsOfStrip s)). parts-every P (λ k. k) s r) (stripsOf b) (parts-every P itemsOfStrip (stripsOf b) q))
+      bs (parts-every P (λ b. itemsOfBoard (stripsOf b)) bs h),
   λ h.
-      every-of-parts P itemsOfBoard bs
-      (every-map (λ b (q : Every (Every (Every P)) b).
-      every-of-parts P itemsOfStrip b (every-map (λ s (r : Every (Every P) s). every-of-parts P (λ k. k) s r) b q))
+      every-of-parts P (λ b. itemsOfBoard (stripsOf b)) bs
+      (every-map (λ b (q : Every (Every (Every P)) (stripsOf b)).
+      every-of-parts P itemsOfStrip (stripsOf b) (every-map (λ s (r : Every (Every P) s). every-of-parts P (λ k. k) s r) (stripsOf b) q))
       bs h),
 )
 
 module _ (job : Job) where
-  stack-items : (b s k p x y : ℕ) (st : Stack) → map lineItem (stackLines job b s k p x y st) ≡ st
+  stack-items : (b : Opened) (s k p x y : ℕ) (st : Stack) → map lineItem (stackLines job b s k p x y st) ≡ st
   unfolding stackLines
   stack-items b s k p x y [] = refl
   stack-items b s k p x y (i ∷ is) = ap (λ (r : Stack). i ∷ r) (stack-items b s k (suc p) x (y + heightOf job i + job .blade) is)
 
-  strip-items : (b s k x y : ℕ) (st : Strip) → map lineItem (stripLines job b s k x y st) ≡ itemsOfStrip st
+  strip-items : (b : Opened) (s k x y : ℕ) (st : Strip) → map lineItem (stripLines job b s k x y st) ≡ itemsOfStrip st
   unfolding stripLines itemsOfStrip flatMap
   strip-items b s k x y [] = refl
   strip-items b s k x y (l ∷ ls) =
       map-append lineItem (stackLines job b s k 1 x y l) (stripLines job b s (suc k) (x + stackWidth job l + job .blade) y ls)
       ∙ ap₂ (λ (a c : List ℕ). a ++ c) (stack-items b s k 1 x y l) (strip-items b s (suc k) (x + stackWidth job l + job .blade) y ls)
 
-  board-items : (b s y : ℕ) (bd : Board) → map lineItem (boardLines job b s y bd) ≡ itemsOfBoard bd
+  board-items : (b : Opened) (s y : ℕ) (bd : Board) → map lineItem (boardLines job b s y bd) ≡ itemsOfBoard bd
   unfolding boardLines itemsOfBoard flatMap
   board-items b s y [] = refl
   board-items b s y (st ∷ sts) =
       map-append lineItem (stripLines job b s 1 0 y st) (boardLines job b (suc s) (y + stripHeight job st + job .blade) sts)
       ∙ ap₂ (λ (a c : List ℕ). a ++ c) (strip-items b s 1 0 y st) (board-items b (suc s) (y + stripHeight job st + job .blade) sts)
 
-  set-items : (b : ℕ) (bs : List Board) → map lineItem (setLines job b bs) ≡ itemsOfSet bs
+  set-items : (b : ℕ) (bs : List Sheet) → map lineItem (setLines job b bs) ≡ itemsOfSet bs
   unfolding setLines itemsOfSet flatMap
   set-items b [] = refl
-  set-items b (bd ∷ bs) =
-      map-append lineItem (boardLines job b 1 0 bd) (setLines job (suc b) bs)
-      ∙ ap₂ (λ (a c : List ℕ). a ++ c) (board-items b 1 0 bd) (set-items (suc b) bs)
+  set-items b (sheet z bd ∷ bs) =
+      map-append lineItem (boardLines job (opened b z) 1 0 bd) (setLines job (suc b) bs)
+      ∙ ap₂ (λ (a c : List ℕ). a ++ c) (board-items (opened b z) 1 0 bd) (set-items (suc b) bs)
 
   -- the lines of a set hold its items, in order
-  pub lines-items : (bs : List Board) → map lineItem (linesOf job bs) ≡ itemsOfSet bs
+  pub lines-items : (bs : List Sheet) → map lineItem (linesOf job bs) ≡ itemsOfSet bs
   unfolding linesOf
   lines-items bs = set-items 1 bs
 
   -- and so their types
-  pub lines-types : (bs : List Board) → map (λ r. typeOf (r .item)) (linesOf job bs) ≡ typesOfSet bs
+  pub lines-types : (bs : List Sheet) → map (λ r. typeOf (r .item)) (linesOf job bs) ≡ typesOfSet bs
   unfolding typesOfSet
   lines-types bs = sym (map-map typeOf lineItem (linesOf job bs)) ∙ ap (map typeOf) (lines-items bs)
 
-  pub lines-length : (bs : List Board) → length (linesOf job bs) ≡ length (itemsOfSet bs)
+  pub lines-length : (bs : List Sheet) → length (linesOf job bs) ≡ length (itemsOfSet bs)
   lines-length bs = sym (length-map (linesOf job bs) lineItem) ∙ ap length (lines-items bs)
 
 -- a placement as a line of layout words
@@ -96,16 +96,17 @@ pub rows-words : (ws : List ℕ) → length ws % wordsOfPlacement ≡ 0 → Ever
 unfolding linesIn rowsOf placementWords flatMap
 rows-words [] e h = refl
 rows-words (b ∷ []) e h = absurd (omega arith)
-rows-words (b ∷ s ∷ []) e h = absurd (omega arith)
-rows-words (b ∷ s ∷ k ∷ []) e h = absurd (omega arith)
-rows-words (b ∷ s ∷ k ∷ p ∷ []) e h = absurd (omega arith)
-rows-words (b ∷ s ∷ k ∷ p ∷ i ∷ []) e h = absurd (omega arith)
-rows-words (b ∷ s ∷ k ∷ p ∷ i ∷ x ∷ []) e h = absurd (omega arith)
-rows-words (b ∷ s ∷ k ∷ p ∷ i ∷ x ∷ y ∷ []) e h = absurd (omega arith)
-rows-words (b ∷ s ∷ k ∷ p ∷ i ∷ x ∷ y ∷ t ∷ ws) e h =
-    rw (type-of i t (h .0), turn-of i t (h .0)) (ap (λ (r : List ℕ). b ∷ s ∷ k ∷ p ∷ i ∷ x ∷ y ∷ t ∷ r) (rows-words ws (omega arith) (h .1)))
+rows-words (b ∷ z ∷ []) e h = absurd (omega arith)
+rows-words (b ∷ z ∷ s ∷ []) e h = absurd (omega arith)
+rows-words (b ∷ z ∷ s ∷ k ∷ []) e h = absurd (omega arith)
+rows-words (b ∷ z ∷ s ∷ k ∷ p ∷ []) e h = absurd (omega arith)
+rows-words (b ∷ z ∷ s ∷ k ∷ p ∷ i ∷ []) e h = absurd (omega arith)
+rows-words (b ∷ z ∷ s ∷ k ∷ p ∷ i ∷ x ∷ []) e h = absurd (omega arith)
+rows-words (b ∷ z ∷ s ∷ k ∷ p ∷ i ∷ x ∷ y ∷ []) e h = absurd (omega arith)
+rows-words (b ∷ z ∷ s ∷ k ∷ p ∷ i ∷ x ∷ y ∷ t ∷ ws) e h =
+    rw (type-of i t (h .0), turn-of i t (h .0)) (ap (λ (r : List ℕ). b ∷ z ∷ s ∷ k ∷ p ∷ i ∷ x ∷ y ∷ t ∷ r) (rows-words ws (omega arith) (h .1)))
 
--- eight words for each
+-- nine words for each
 pub words-length : (ps : List Placement) → length (placementWords ps) ≡ wordsOfPlacement * length ps
 unfolding placementWords
 words-length ps = records-length _ wordsOfPlacement (λ p. refl) ps

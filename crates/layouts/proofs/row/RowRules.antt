@@ -11,11 +11,12 @@ use borrow.Author.Tests.{ltb-false, le-ltb, leb-true, le-leb, not-false}
 use Rattle.job.specs.declared.item.Item.{Item}
 use Rattle.job.specs.Lists.{sumOf, gapsAfter, gapSum, occurs}
 use Rattle.job.specs.Verdict.{pass, refuse, lowest}
-use Rattle.job.specs.Job.{Job, typeOf}
+use Rattle.job.specs.declared.size.Size.{Size}
+use Rattle.job.specs.Job.{Job, sizeAt, typeOf}
 use Rattle.job.proofs.Decides.{Passes}
 use Rattle.job.proofs.Tests.{and-left, and-right, and-both, or-left, or-right, or-neither}
 use Rattle.job.proofs.Verdicts.{pass-not-refuse}
-use Rattle.layouts.specs.Layout.{Strip, Board, stripWidth, stripHeight, boardHeight, stageRule}
+use Rattle.layouts.specs.Layout.{Strip, Board, Sheet, sheet, sheetSize, stripsOf, stripWidth, stripHeight, boardHeight, stageRule}
 use Rattle.layouts.specs.Placement.{Placement, itemsOfStrip, itemsOfBoard, meetsFrom}
 use Rattle.layouts.specs.LayoutsRow.{Laid, laidBoard, laidSet, lowestStrip, breaksStage, pastBoard, lacks}
 use Rattle.layouts.specs.Rules.{Every}
@@ -50,20 +51,20 @@ passes-strip {bad} {P} number d ls = (
 module _ (job : Job) where
   -- 16: a statement of each strip
   module _ (P : Strip → Type 0) where
-    laid-board : (line y : ℕ) (b : Board) → Every P b ↔ Every (λ l. P (l .strip)) (laidBoard job line y b)
+    laid-board : (z line y : ℕ) (b : Board) → Every P b ↔ Every (λ l. P (l .strip)) (laidBoard job z line y b)
     unfolding laidBoard
-    laid-board line y [] = (λ h. tt, λ h. tt)
-    laid-board line y (s ∷ ss) =
-        let r = laid-board (line + length (itemsOfStrip s)) (y + stripHeight job s + job .blade) ss in
+    laid-board z line y [] = (λ h. tt, λ h. tt)
+    laid-board z line y (s ∷ ss) =
+        let r = laid-board z (line + length (itemsOfStrip s)) (y + stripHeight job s + job .blade) ss in
         (λ h. (h .0, r .0 (h .1)), λ h. (h .0, r .1 (h .1)))
 
-    laid-set : (line : ℕ) (bs : List Board) → Every (Every P) bs ↔ Every (λ l. P (l .strip)) (laidSet job line bs)
+    laid-set : (line : ℕ) (bs : List Sheet) → Every (λ b. Every P (stripsOf b)) bs ↔ Every (λ l. P (l .strip)) (laidSet job line bs)
     unfolding laidSet
     laid-set line [] = (λ h. tt, λ h. tt)
-    laid-set line (b ∷ bs) =
-        let q = laid-board line 0 b in
+    laid-set line (sheet z b ∷ bs) =
+        let q = laid-board z line 0 b in
         let r = laid-set (line + length (itemsOfBoard b)) bs in
-        let here = laidBoard job line 0 b in
+        let here = laidBoard job z line 0 b in
         let after = laidSet job (line + length (itemsOfBoard b)) bs in (
           λ h. every-append (λ l. P (l .strip)) here after (q .0 (h .0)) (r .0 (h .1)),
           λ h. let z = append-every (λ l. P (l .strip)) here after h in (q .1 (z .0), r .1 (z .1)),
@@ -74,69 +75,72 @@ module _ (job : Job) where
   breaks-exact l = (not-false (stageRule job (l .strip)), ap not)
 
   pub stage-pass :
-      (line : ℕ) (bs : List Board)
+      (line : ℕ) (bs : List Sheet)
       → (lowestStrip 16 (breaksStage job) (laidSet job line bs) ≡ pass)
-      ↔ Every (Every (λ s. stageRule job s ≡ true)) bs
+      ↔ Every (λ b. Every (λ s. stageRule job s ≡ true) (stripsOf b)) bs
   stage-pass line bs =
       Iff·trans (passes-strip 16 breaks-exact (laidSet job line bs)) (Iff·symm (laid-set (λ s. stageRule job s ≡ true) line bs))
 
   -- 17: a strip that stays within the board
   abbrev Fitting : Laid → Type 0
-  Fitting l = (stripWidth job (l .strip) ≤ job .width) × (l .below + stripHeight job (l .strip) ≤ job .height)
+  Fitting l = (stripWidth job (l .strip) ≤ sizeAt job (l .size) .width) × (l .below + stripHeight job (l .strip) ≤ sizeAt job (l .size) .height)
 
   fitting-exact : (l : Laid) → (pastBoard job l ≡ false) ↔ Fitting l
   unfolding pastBoard
   fitting-exact l = (
     λ e.
-        let wide = ltb (job .width) (stripWidth job (l .strip)) in
-        let high = ltb (job .height) (l .below + stripHeight job (l .strip)) in
-        (ltb-false (job .width) (stripWidth job (l .strip)) (or-left wide high e), ltb-false (job .height) (l .below + stripHeight job (l .strip)) (or-right wide high e)),
+        let sz : Size = sizeAt job (l .size) in
+        let wide = ltb (sz .width) (stripWidth job (l .strip)) in
+        let high = ltb (sz .height) (l .below + stripHeight job (l .strip)) in
+        (ltb-false (sz .width) (stripWidth job (l .strip)) (or-left wide high e), ltb-false (sz .height) (l .below + stripHeight job (l .strip)) (or-right wide high e)),
     λ q.
-        or-neither (ltb (job .width) (stripWidth job (l .strip))) (ltb (job .height) (l .below + stripHeight job (l .strip)))
-        (le-ltb (job .width) (stripWidth job (l .strip)) (q .0)) (le-ltb (job .height) (l .below + stripHeight job (l .strip)) (q .1)),
+        let sz : Size = sizeAt job (l .size) in
+        or-neither (ltb (sz .width) (stripWidth job (l .strip))) (ltb (sz .height) (l .below + stripHeight job (l .strip)))
+        (le-ltb (sz .width) (stripWidth job (l .strip)) (q .0)) (le-ltb (sz .height) (l .below + stripHeight job (l .strip)) (q .1)),
   )
 
   -- the strips of a board from y upwards, b after each of them
   board-fits :
-      (line y : ℕ) (b : Board)
-      → Every (λ s. stripWidth job s ≤ job .width) b
-      → y + gapsAfter (job .blade) (stripHeight job) b ≤ job .height + job .blade
-      → Every Fitting (laidBoard job line y b)
+      (z line y : ℕ) (b : Board)
+      → Every (λ s. stripWidth job s ≤ sizeAt job z .width) b
+      → y + gapsAfter (job .blade) (stripHeight job) b ≤ sizeAt job z .height + job .blade
+      → Every Fitting (laidBoard job z line y b)
   unfolding laidBoard sumOf
-  board-fits line y [] a u = tt
-  board-fits line y (s ∷ ss) a u =
-      ((a .0, omega arith), board-fits (line + length (itemsOfStrip s)) (y + stripHeight job s + job .blade) ss (a .1) (omega arith))
+  board-fits z line y [] a u = tt
+  board-fits z line y (s ∷ ss) a u =
+      ((a .0, omega arith), board-fits z (line + length (itemsOfStrip s)) (y + stripHeight job s + job .blade) ss (a .1) (omega arith))
 
   fits-board :
-      (line y : ℕ) (b : Board)
-      → y ≤ job .height + job .blade
-      → Every Fitting (laidBoard job line y b)
-      → Every (λ s. stripWidth job s ≤ job .width) b × (y + gapsAfter (job .blade) (stripHeight job) b ≤ job .height + job .blade)
+      (z line y : ℕ) (b : Board)
+      → y ≤ sizeAt job z .height + job .blade
+      → Every Fitting (laidBoard job z line y b)
+      → Every (λ s. stripWidth job s ≤ sizeAt job z .width) b × (y + gapsAfter (job .blade) (stripHeight job) b ≤ sizeAt job z .height + job .blade)
   unfolding laidBoard sumOf
-  fits-board line y [] h a = (tt, omega arith)
-  fits-board line y (s ∷ ss) h a =
-      let r = fits-board (line + length (itemsOfStrip s)) (y + stripHeight job s + job .blade) ss (omega (arith, a .0 .1)) (a .1) in
+  fits-board z line y [] h a = (tt, omega arith)
+  fits-board z line y (s ∷ ss) h a =
+      let r = fits-board z (line + length (itemsOfStrip s)) (y + stripHeight job s + job .blade) ss (omega (arith, a .0 .1)) (a .1) in
       ((a .0 .0, r .0), omega (arith, r .1))
 
   -- a board whose strips do
-  abbrev pub WithinBoard : Board → Type 0
-  WithinBoard b = Every (λ s. stripWidth job s ≤ job .width) b × (boardHeight job b ≤ job .height)
+  abbrev pub WithinBoard : Sheet → Type 0
+  WithinBoard b =
+      Every (λ s. stripWidth job s ≤ sizeAt job (sheetSize b) .width) (stripsOf b) × (boardHeight job (stripsOf b) ≤ sizeAt job (sheetSize b) .height)
 
-  set-fits : (line : ℕ) (bs : List Board) → Every WithinBoard bs ↔ Every Fitting (laidSet job line bs)
+  set-fits : (line : ℕ) (bs : List Sheet) → Every WithinBoard bs ↔ Every Fitting (laidSet job line bs)
   unfolding laidSet boardHeight gapSum
   set-fits line [] = (λ h. tt, λ h. tt)
-  set-fits line (b ∷ bs) =
+  set-fits line (sheet j b ∷ bs) =
       let r = set-fits (line + length (itemsOfBoard b)) bs in
-      let here = laidBoard job line 0 b in
+      let here = laidBoard job j line 0 b in
       let after = laidSet job (line + length (itemsOfBoard b)) bs in (
-        λ h. every-append Fitting here after (board-fits line 0 b (h .0 .0) (omega (arith, h .0 .1))) (r .0 (h .1)),
+        λ h. every-append Fitting here after (board-fits j line 0 b (h .0 .0) (omega (arith, h .0 .1))) (r .0 (h .1)),
         λ h.
             let z = append-every Fitting here after h in
-            let q = fits-board line 0 b (omega arith) (z .0) in
+            let q = fits-board j line 0 b (omega arith) (z .0) in
             ((q .0, omega (arith, q .1)), r .1 (z .1)),
       )
 
-  pub past-pass : (line : ℕ) (bs : List Board) → (lowestStrip 17 (pastBoard job) (laidSet job line bs) ≡ pass) ↔ Every WithinBoard bs
+  pub past-pass : (line : ℕ) (bs : List Sheet) → (lowestStrip 17 (pastBoard job) (laidSet job line bs) ≡ pass) ↔ Every WithinBoard bs
   past-pass line bs = Iff·trans (passes-strip 17 fitting-exact (laidSet job line bs)) (Iff·symm (set-fits line bs))
 
 -- 11: the demands, over the items of the lines

@@ -6,14 +6,17 @@ use mathlib.Core.Logic.{_↔_}
 use mathlib.Core.Bool.{Bool, true, false, not, _&&_, false≢true, _||_}
 use mathlib.Core.List.{List, [], _∷_, flatMap}
 use lib.Dec.{leb, eqb}
+use lib.ListN.{length}
+use borrow.Author.Tests.{ltb-true, lt-ltb}
+use Rattle.job.specs.declared.size.Size.{Size}
 use Rattle.job.specs.Lists.{any, all, sumOf, gapSum, maxOf}
 use Rattle.job.specs.Mode.{three, exact}
-use Rattle.job.specs.Job.{Job, permitted}
+use Rattle.job.specs.Job.{Job, sizeAt, permitted}
 use Rattle.job.proofs.Positions.{permitted-exact}
 use Rattle.job.proofs.Decides.{Decides, decides-le, decides-eq, decides-self, decides-then, decides-and, decides-seven, decides-if}
-use Rattle.layouts.specs.Layout.{Stack, Strip, Board, widthOf, heightOf, stackWidth, stackHeight, stripWidth, stripHeight, boardHeight, single, fullStack, sameHeights, sameWidths, stageRule, boardRules, layoutRules}
+use Rattle.layouts.specs.Layout.{Stack, Strip, Board, Sheet, sheetSize, stripsOf, widthOf, heightOf, stackWidth, stackHeight, stripWidth, stripHeight, boardHeight, single, fullStack, sameHeights, sameWidths, stageRule, boardRules, sheetRules, layoutRules}
 use Rattle.layouts.specs.Placement.{itemsOfStrip}
-use Rattle.layouts.specs.Rules.{Every, Some, Filled, Alike, Single, OfJob, Staged, StripOk, BoardOk, SetOk}
+use Rattle.layouts.specs.Rules.{Every, Some, Filled, Alike, Single, OfJob, Staged, StripOk, BoardOk, SheetOk, SetOk}
 use Rattle.layouts.proofs.lists.Every.{every-map, every-both, max-above, max-least, decides-filled, decides-all, decides-any}
 
 -- all have the greatest value of f exactly where any two have the same
@@ -118,67 +121,74 @@ module _ (job : Job) where
   types-exact s = decides-all (decides-all (permitted-exact job)) s
 
   -- the sums of a strip and of a board
-  pub across-exact : (s : Strip) → (leb (stripWidth job s) (job .width) ≡ true) ↔ (stripWidth job s ≤ job .width)
-  across-exact s = decides-le (stripWidth job s) (job .width)
+  pub across-exact : (sz : Size) (s : Strip) → (leb (stripWidth job s) (sz .width) ≡ true) ↔ (stripWidth job s ≤ sz .width)
+  across-exact sz s = decides-le (stripWidth job s) (sz .width)
 
-  pub up-exact : (b : Board) → (leb (boardHeight job b) (job .height) ≡ true) ↔ (boardHeight job b ≤ job .height)
-  up-exact b = decides-le (boardHeight job b) (job .height)
+  pub up-exact : (sz : Size) (b : Board) → (leb (boardHeight job b) (sz .height) ≡ true) ↔ (boardHeight job b ≤ sz .height)
+  up-exact sz b = decides-le (boardHeight job b) (sz .height)
 
   -- strips that keep each rule
   pub strips-ok :
-      (b : Board)
+      (sz : Size) (b : Board)
       → Every Filled b
       → Every (Every Filled) b
       → Every (Every (Every (OfJob job))) b
       → Every (Staged job) b
-      → Every (λ s. stripWidth job s ≤ job .width) b
-      → Every (StripOk job) b
-  strips-ok [] f k t g a = tt
-  strips-ok (s ∷ b) f k t g a = (
+      → Every (λ s. stripWidth job s ≤ sz .width) b
+      → Every (StripOk job sz) b
+  strips-ok sz [] f k t g a = tt
+  strips-ok sz (s ∷ b) f k t g a = (
     record { filled = f .0; stacks = k .0; types = t .0; staged = g .0; across = a .0 },
-    strips-ok b (f .1) (k .1) (t .1) (g .1) (a .1),
+    strips-ok sz b (f .1) (k .1) (t .1) (g .1) (a .1),
   )
 
   -- one board
   board-tests :
-      (b : Board)
-      → (boardRules job b ≡ true)
+      (sz : Size) (b : Board)
+      → (boardRules job sz b ≡ true)
       ↔ (Filled b
       × Every Filled b
       × Every (Every Filled) b
       × Every (Every (Every (OfJob job))) b
       × Every (Staged job) b
-      × Every (λ s. stripWidth job s ≤ job .width) b
-      × (boardHeight job b ≤ job .height))
+      × Every (λ s. stripWidth job s ≤ sz .width) b
+      × (boardHeight job b ≤ sz .height))
   unfolding boardRules
-  board-tests b =
+  board-tests sz b =
       decides-seven
       (decides-filled b)
       (decides-all decides-filled b)
       (decides-all (decides-all decides-filled) b)
       (decides-all types-exact b)
       (decides-all stage-exact b)
-      (decides-all across-exact b)
-      (up-exact b)
+      (decides-all (across-exact sz) b)
+      (up-exact sz b)
 
-  pub board-exact : (b : Board) → (boardRules job b ≡ true) ↔ BoardOk job b
-  board-exact b = (
+  pub board-exact : (sz : Size) (b : Board) → (boardRules job sz b ≡ true) ↔ BoardOk job sz b
+  board-exact sz b = (
     λ e.
-        let q = board-tests b .0 e in
-        record { filled = q .0; strips = strips-ok b (q .1) (q .2) (q .3) (q .4) (q .5); up = q .6 },
+        let q = board-tests sz b .0 e in
+        record { filled = q .0; strips = strips-ok sz b (q .1) (q .2) (q .3) (q .4) (q .5); up = q .6 },
     λ h.
-        board-tests b .1 (
+        board-tests sz b .1 (
           h .filled,
-          every-map (λ s (k : StripOk job s). k .filled) b (h .strips),
-          every-map (λ s (k : StripOk job s). k .stacks) b (h .strips),
-          every-map (λ s (k : StripOk job s). k .types) b (h .strips),
-          every-map (λ s (k : StripOk job s). k .staged) b (h .strips),
-          every-map (λ s (k : StripOk job s). k .across) b (h .strips),
+          every-map (λ s (k : StripOk job sz s). k .filled) b (h .strips),
+          every-map (λ s (k : StripOk job sz s). k .stacks) b (h .strips),
+          every-map (λ s (k : StripOk job sz s). k .types) b (h .strips),
+          every-map (λ s (k : StripOk job sz s). k .staged) b (h .strips),
+          every-map (λ s (k : StripOk job sz s). k .across) b (h .strips),
           h .up,
         ),
   )
 
+  -- a board of a size of the job
+  pub sheet-exact : (b : Sheet) → (sheetRules job b ≡ true) ↔ SheetOk job b
+  unfolding sheetRules
+  sheet-exact b =
+      let j = sheetSize b in
+      decides-and (ltb-true j (length (job .sizes)), lt-ltb j (length (job .sizes))) (board-exact (sizeAt job j) (stripsOf b))
+
   -- a set of layouts: every board
-  pub set-exact : (bs : List Board) → (layoutRules job bs ≡ true) ↔ SetOk job bs
+  pub set-exact : (bs : List Sheet) → (layoutRules job bs ≡ true) ↔ SetOk job bs
   unfolding layoutRules
-  set-exact bs = decides-all board-exact bs
+  set-exact bs = decides-all sheet-exact bs

@@ -10,10 +10,10 @@ use lib.ListN.{length, getD}
 use borrow.Author.Tests.{leb-true, le-leb}
 use Rattle.job.specs.declared.item.Item.{Item}
 use Rattle.job.specs.Lists.{all, occurs}
-use Rattle.job.specs.Job.{Job, noItem, itemAt}
+use Rattle.job.specs.Job.{Job, noItem, itemAt, sizeAt}
 use Rattle.job.proofs.Tests.{and-left, and-right, and-both}
 use Rattle.job.proofs.Decides.{decides-le, decides-eq, decides-self, decides-and, decides-four, decides-if}
-use Rattle.layouts.specs.Layout.{Board}
+use Rattle.layouts.specs.Layout.{Sheet}
 use Rattle.layouts.specs.Placement.{Placement, noPlacement, meetsFrom, meetsDemands, typesOfSet}
 use Rattle.layouts.specs.Rectangle.{endX, endY, inside, apart, clear, allApart}
 use Rattle.layouts.specs.Rules.{Every, MeetsDemands, Inside, Apart, AllApart}
@@ -49,7 +49,7 @@ module _ (is : List ℕ) where
 
 module _ (job : Job) where
   -- each item type lies in the set as often as demanded
-  pub demands-exact : (bs : List Board) → (meetsDemands job bs ≡ true) ↔ MeetsDemands job bs
+  pub demands-exact : (bs : List Sheet) → (meetsDemands job bs ≡ true) ↔ MeetsDemands job bs
   unfolding meetsDemands itemAt
   demands-exact bs = (to, λ h. each-meets (typesOfSet bs) 1 (job .items) (back h))
     where
@@ -68,7 +68,8 @@ module _ (job : Job) where
   -- one rectangle is inside its board
   pub inside-exact : (p : Placement) → (inside job p ≡ true) ↔ Inside job p
   unfolding inside endX endY
-  inside-exact p = decides-and (decides-le (endX job p) (job .width)) (decides-le (endY job p) (job .height))
+  inside-exact p =
+      let z = sizeAt job (p .turn .board .size) in decides-and (decides-le (endX job p) (z .width)) (decides-le (endY job p) (z .height))
 
   pub all-inside-exact : (ps : List Placement) → (all (inside job) ps ≡ true) ↔ Every (Inside job) ps
   all-inside-exact ps = decides-all inside-exact ps
@@ -85,11 +86,11 @@ module _ (job : Job) where
 
   -- .. where they are of one board
   abbrev pub Clear : Placement → Placement → Type 0
-  Clear p q = p .turn .board ≡ q .turn .board → Apart job p q
+  Clear p q = p .turn .board .number ≡ q .turn .board .number → Apart job p q
 
   pub clear-exact : (p q : Placement) → (clear job p q ≡ true) ↔ Clear p q
   unfolding clear
-  clear-exact p q = decides-if (decides-eq (p .turn .board) (q .turn .board)) (apart-exact p q)
+  clear-exact p q = decides-if (decides-eq (p .turn .board .number) (q .turn .board .number)) (apart-exact p q)
 
   -- any two rectangles of a list are clear of each other: the first of the others, and any two of these
   first-exact : (p : Placement) (ps : List Placement) → (allApart job (p ∷ ps) ≡ true) ↔ (Every (Clear p) ps × (allApart job ps ≡ true))

@@ -1,9 +1,10 @@
 -- Trees of cuts and patterns: the items of a tree of cuts are a pattern, and each pattern of the board has exactly one tree of cuts.
-use Prim.Native.Nat.{ℕ, suc}
+use Prim.Native.Nat.{ℕ, suc, _<_}
 use native.Mathlib.Omega.{arith}
 use mathlib.Core.Path.{_≡_, refl, _∙_, ap, subst}
 use mathlib.Core.Logic.{inl, inr, _≢_}
-use Rattle.job.specs.Job.{Job}
+use lib.ListN.{length}
+use Rattle.job.specs.Job.{Job, sizeAt}
 use Rattle.listing.specs.declared.plate.Plate.{Plate}
 use Rattle.listing.specs.Plate.{board}
 use Rattle.listing.specs.Listing.{Listing, plateAt, cutAt}
@@ -12,7 +13,7 @@ use Rattle.listing.proofs.Kept.{not-kept}
 use Rattle.layouts.proofs.trees.Tree.{Tree, leaf, node, tmap}
 use Rattle.layouts.proofs.trees.Pattern.{branch, rest, Pattern, branchOf, restOf}
 use Rattle.layouts.proofs.trees.Cuts.{IsCut, cut-fits, branch-number, rest-number}
-use Rattle.layouts.proofs.trees.Balance.{Ok, Root}
+use Rattle.layouts.proofs.trees.Balance.{Ok, Root, rootSize}
 
 -- the positions of a tree of cuts
 abbrev pub itemTree : Listing → Tree → Tree
@@ -45,14 +46,15 @@ module _ (job : Job) (l : Listing) (m : Model job l) where
       )
 
   -- the items of a board's tree are a pattern of the board, and not none
-  pub root-pattern : (t : Tree) → Root l t → Pattern job (board job) (itemTree l t) × (itemTree l t ≢ leaf)
+  pub root-pattern : (t : Tree) → Root l t → Pattern job (board (sizeAt job (rootSize l t))) (itemTree l t) × (itemTree l t ≢ leaf)
   root-pattern leaf h = absurd h
   root-pattern (node c a b) h =
-      let e : plateAt l (cutAt l c .plate) ≡ board job = ap (plateAt l) (h .1) ∙ m .first in (
+      let p : Plate = board (sizeAt job (cutAt l c .plate)) in
+      let e : plateAt l (cutAt l c .plate) ≡ p = m .first (cutAt l c .plate) (omega (arith, h .1, m .sized)) in (
         (
           rw e at (cut-fits job l m c (h .0)),
-          to-pattern (branchOf l c) (branch job (board job) (cutAt l c .item)) (branch-at c (h .0) (board job) (cutAt l c .item) e refl) a (h .2),
-          to-pattern (restOf l c) (rest job (board job) (cutAt l c .item)) (rest-at c (h .0) (board job) (cutAt l c .item) e refl) b (h .3),
+          to-pattern (branchOf l c) (branch job p (cutAt l c .item)) (branch-at c (h .0) p (cutAt l c .item) e refl) a (h .2),
+          to-pattern (restOf l c) (rest job p (cutAt l c .item)) (rest-at c (h .0) p (cutAt l c .item) e refl) b (h .3),
         ),
         node-not-leaf,
       )
@@ -71,15 +73,17 @@ module _ (job : Job) (l : Listing) (m : Model job l) where
       let (v, ov, ev) = from-pattern (restOf l c) (rest job q i) (rest-at c cC q i e ei) b (p .2) in
       (node c u v, (z .1, cC, ec, ou, ov), (λ s. node (ei s) (eu s) (ev s)))
 
-  -- each pattern of the board that is not none has a tree of cuts
-  pub root-tree : (x : Tree) → x ≢ leaf → Pattern job (board job) x → (t : Tree) × Root l t × (itemTree l t ≡ x)
-  root-tree leaf d p = absurd (d refl)
-  root-tree (node i a b) d p =
+  -- each pattern of a size that is not none has a tree of cuts
+  pub root-tree : (k : ℕ) → k < length (job .sizes) → (x : Tree) → x ≢ leaf → Pattern job (board (sizeAt job k)) x
+      → (t : Tree) × Root l t × (itemTree l t ≡ x) × (rootSize l t ≡ k)
+  root-tree k s leaf d p = absurd (d refl)
+  root-tree k s (node i a b) d p =
       let f = p .0 in
-      let (d, dC, ec, ei) = m .each 0 i (m .some-plate) (f .from-one) (f .to-last) (rw (m .first) (f .allowed)) in
+      let q : Plate = board (sizeAt job k) in
+      let (d, dC, ec, ei) = m .each k i (omega (arith, m .size-plates)) (f .from-one) (f .to-last) (rw (m .first k s) (f .allowed)) in
       let c : ℕ = suc d in
       let cC : IsCut l c = omega arith in
-      let e : plateAt l (cutAt l c .plate) ≡ board job = ap (plateAt l) ec ∙ m .first in
-      let (u, ou, eu) = from-pattern (branchOf l c) (branch job (board job) i) (branch-at c cC (board job) i e ei) a (p .1) in
-      let (v, ov, ev) = from-pattern (restOf l c) (rest job (board job) i) (rest-at c cC (board job) i e ei) b (p .2) in
-      (node c u v, (cC, ec, ou, ov), (λ s. node (ei s) (eu s) (ev s)))
+      let e : plateAt l (cutAt l c .plate) ≡ q = ap (plateAt l) ec ∙ m .first k s in
+      let (u, ou, eu) = from-pattern (branchOf l c) (branch job q i) (branch-at c cC q i e ei) a (p .1) in
+      let (v, ov, ev) = from-pattern (restOf l c) (rest job q i) (rest-at c cC q i e ei) b (p .2) in
+      (node c u v, (cC, omega (arith, ec, m .sized), ou, ov), (λ s. node (ei s) (eu s) (ev s)), ec)

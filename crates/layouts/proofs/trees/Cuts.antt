@@ -70,11 +70,18 @@ module _ (job : Job) (l : Listing) (m : Model job l) where
       go false = top-number c p
 
   -- a number from 1 on is that of a kept plate
-  pub number-kept : (q : Plate) (r : ℕ) → Numbered job l q r → 0 < r → (kept job q ≡ true) × (r < length (l .plates)) × (plateAt l r ≡ q)
+  pub number-kept : (q : Plate) (r : ℕ) → Numbered job l q r → 0 < r → (kept job q ≡ true) × (r < length (l .plates)) × (plateAt l r ≡ q) × (l .sizes ≤ r)
   number-kept q r n h =
       let k = numbered-kept job l q r n h in
       let z = kept-numbered job l q r n k in
-      (k, z .1, z .2)
+      (k, z .1, z .2, omega (arith, z .3, m .sized))
+
+  -- the numbers of kept residuals are above those of the sizes
+  pub branch-above : (c : ℕ) → IsCut l c → 0 < branchOf l c → l .sizes ≤ branchOf l c
+  branch-above c p h = number-kept _ (branchOf l c) (branch-number c p) h .3
+
+  pub rest-above : (c : ℕ) → IsCut l c → 0 < restOf l c → l .sizes ≤ restOf l c
+  rest-above c p h = number-kept _ (restOf l c) (rest-number c p) h .3
 
   -- top and right are never one residual type, so a cut leaves each type once at most
   pub leaves-once : (k : ℕ) → 0 < k → (c : ℕ) → IsCut l c → bit (leavesPlate k (cutAt l c)) ≡ bit (eqb (branchOf l c) k) + bit (eqb (restOf l c) k)

@@ -20,9 +20,9 @@ use Rattle.layouts.proofs.trees.Cuts.{IsCut, plateOf, top-number, right
 pub cut-stage : (l : Listing) (c j s : ℕ) → cutAt l c .plate ≡ j → plateAt l j .stage ≡ s → plateOf l c .stage ≡ s
 cut-stage l c j s e f = ap (λ (z : ℕ). plateAt l z .stage) e ∙ f
 
--- a cut on type 0 is of stage 1
-pub board-stage : (job : Job) (l : Listing) → Model job l → (c : ℕ) → cutAt l c .plate ≡ 0 → plateOf l c .stage ≡ 1
-board-stage job l m c e = cut-stage l c 0 1 e (ap (λ (q : Plate). q .stage) (m .first))
+-- a cut on a size is of stage 1
+pub board-stage : (job : Job) (l : Listing) → Model job l → (c : ℕ) → cutAt l c .plate < l .sizes → plateOf l c .stage ≡ 1
+board-stage job l m c h = ap (λ (q : Plate). q .stage) (m .first (cutAt l c .plate) (omega (arith, m .sized)))
 
 -- which residual is the branch and which the rest, by the stage
 pub branch-1 : (l : Listing) (c : ℕ) → plateOf l c .stage ≡ 1 → branchOf l c ≡ cutAt l c .right

@@ -10,25 +10,29 @@ use Rattle.job.specs.Admitted.{Sided}
 use Rattle.job.proofs.Sums.{sumOf-append, sumOf-map, bit, occurs-sum}
 use Rattle.listing.specs.Listing.{Listing, plateAt, cutAt}
 use Rattle.listing.specs.Model.{Model}
-use Rattle.layouts.specs.Layout.{Stack, Strip, Board}
+use Rattle.layouts.specs.Layout.{Stack, Strip, Board, Sheet, sheet}
 use Rattle.layouts.specs.Placement.{itemsOfStrip, itemsOfBoard, itemsOfSet, typesOfSet}
 use Rattle.layouts.proofs.trees.Tree.{Tree, leaf, node, tsum, fsum}
 use Rattle.layouts.proofs.trees.Pattern.{branchOf, restOf, stackOf, stripOf, boardOf}
 use Rattle.layouts.proofs.trees.Cuts.{IsCut, plateOf}
 use Rattle.layouts.proofs.trees.Stages.{cut-stage, board-stage, branch-stage-1, rest-stage-1, branch-stage-2, rest-stage-2, branch-stage-3, rest-stage-3}
-use Rattle.layouts.proofs.trees.Balance.{Ok, Root, Roots, ok-none}
+use Rattle.layouts.proofs.trees.Balance.{Ok, Root, rootSize, Roots, ok-none}
 use Rattle.layouts.proofs.trees.CutTree.{itemTree}
 
 -- the layout of a tree of cuts
 abbrev pub layoutOf : Listing → Tree → Board
 layoutOf l t = boardOf (itemTree l t)
 
+-- .. with the size of its board
+abbrev pub sheetOf : Listing → Tree → Sheet
+sheetOf l t = sheet (rootSize l t) (layoutOf l t)
+
 -- sums over the types of a set, in whichever turn they lie
-pub types-sum : (f : ℕ → ℕ) (bs : List Board) → sumOf f (typesOfSet bs) ≡ sumOf (λ q. f (typeOf q)) (itemsOfSet bs)
+pub types-sum : (f : ℕ → ℕ) (bs : List Sheet) → sumOf f (typesOfSet bs) ≡ sumOf (λ q. f (typeOf q)) (itemsOfSet bs)
 unfolding typesOfSet
 types-sum f bs = sumOf-map f typeOf (itemsOfSet bs)
 
-pub types-occur : (i : ℕ) (bs : List Board) → occurs i (typesOfSet bs) ≡ sumOf (λ q. bit (eqb (typeOf q) i)) (itemsOfSet bs)
+pub types-occur : (i : ℕ) (bs : List Sheet) → occurs i (typesOfSet bs) ≡ sumOf (λ q. bit (eqb (typeOf q) i)) (itemsOfSet bs)
 types-occur i bs = occurs-sum i (typesOfSet bs) ∙ types-sum (λ k. bit (eqb k i)) bs
 
 module _ (f : ℕ → ℕ) where
@@ -41,9 +45,9 @@ module _ (f : ℕ → ℕ) where
   unfolding itemsOfBoard flatMap
   board-sum s ss = sumOf-append f (itemsOfStrip s) (itemsOfBoard ss)
 
-  pub set-sum : (b : Board) (bs : List Board) → sumOf f (itemsOfSet (b ∷ bs)) ≡ sumOf f (itemsOfBoard b) + sumOf f (itemsOfSet bs)
+  pub set-sum : (z : ℕ) (b : Board) (bs : List Sheet) → sumOf f (itemsOfSet (sheet z b ∷ bs)) ≡ sumOf f (itemsOfBoard b) + sumOf f (itemsOfSet bs)
   unfolding itemsOfSet flatMap
-  set-sum b bs = sumOf-append f (itemsOfBoard b) (itemsOfSet bs)
+  set-sum z b bs = sumOf-append f (itemsOfBoard b) (itemsOfSet bs)
 
   module _ (job : Job) (l : Listing) (m : Model job l) (sided : Sided job) where
     -- f of a cut's item
@@ -101,7 +105,7 @@ module _ (f : ℕ → ℕ) where
         items-node c a b (h .0) e (h .2) (items-1 (restOf l c) b (h .3) (rest-stage-1 job l m sided c (h .0) e))
 
     -- the items of the layouts of some boards are those of their cuts
-    pub roots-items : (ts : List Tree) → Roots l ts → sumOf f (itemsOfSet (map (layoutOf l) ts)) ≡ fsum ofCut ts
+    pub roots-items : (ts : List Tree) → Roots l ts → sumOf f (itemsOfSet (map (sheetOf l) ts)) ≡ fsum ofCut ts
     unfolding sumOf itemsOfSet flatMap
     roots-items [] h = refl
-    roots-items (t ∷ ts) h = omega (arith, set-sum (layoutOf l t) (map (layoutOf l) ts), root-items t (h .0), roots-items ts (h .1))
+    roots-items (t ∷ ts) h = omega (arith, set-sum (rootSize l t) (layoutOf l t) (map (sheetOf l) ts), root-items t (h .0), roots-items ts (h .1))

@@ -12,7 +12,7 @@ use Rattle.job.specs.Lists.{sumOf}
 use Rattle.job.proofs.Tests.{equal-or-not}
 use Rattle.job.proofs.Sums.{bit, bit-same, bit-diff}
 use Rattle.listing.specs.Listing.{Cut, Listing, cutAt, noCut}
-use Rattle.plan.specs.Plan.{countOf, total}
+use Rattle.plan.specs.Plan.{countOf, weighed, total}
 use Rattle.plan.specs.Feasible.{NonePast}
 
 -- the sum of f c times the count of cut c; the counts are those of the cuts from k on
@@ -101,4 +101,21 @@ unfolding cutAt
 countOf-wsum test l ns none = countOf-from test (weight test l) 1 (l .cuts) ns (λ i p. at i) none
   where
     at : (i : ℕ) → weight test l (1 + i) ≡ bit (test (getD (l .cuts) i noCut))
+    at i = let e : 1 + i ≡ suc i = omega arith in rw e
+
+-- a value of each cut times its count: each count weighs the value of its cut
+weighed-from : (g : Cut → ℕ) (f : ℕ → ℕ) (k : ℕ) (cs : List Cut) (ns : List ℕ) → ((i : ℕ) → i < length cs → f (k + i) ≡ g (getD cs i noCut))
+    → ((i : ℕ) → length cs ≤ i → getD ns i 0 ≡ 0) → weighed g cs ns ≡ wsum f k ns
+unfolding weighed wsum
+weighed-from g f k [] ns h none = sym (wsum-none f k ns (λ c _. none c (omega arith)))
+weighed-from g f k (c ∷ cs) [] h none = refl
+weighed-from g f k (c ∷ cs) (n ∷ ns) h none =
+    let e : f k ≡ g c = rw add-zero at (h zero (omega arith)) in
+    rw e (omega (arith, weighed-from g f (suc k) cs ns (λ i p. rw (suc-add, ← add-suc) (h (suc i) (omega arith))) (λ i p. none (suc i) (omega arith))))
+
+pub weighed-wsum : (g : Cut → ℕ) (l : Listing) (ns : List ℕ) → NonePast l ns → weighed g (l .cuts) ns ≡ wsum (λ c. g (cutAt l c)) 1 ns
+unfolding cutAt
+weighed-wsum g l ns none = weighed-from g (λ c. g (cutAt l c)) 1 (l .cuts) ns (λ i p. at i) none
+  where
+    at : (i : ℕ) → g (cutAt l (1 + i)) ≡ g (getD (l .cuts) i noCut)
     at i = let e : 1 + i ≡ suc i = omega arith in rw e

@@ -103,7 +103,8 @@ use Rattle.texts.specs.SawText.{sawText}
 use Rattle.texts.specs.FoldText.{foldText}
 use Rattle.cases.specs.Bytes.{bytes}
 use Rattle.cases.proofs.Opened.{computed}
-use Rattle.agreement.specs.Compared.{outcome, unfoldOutcome, listCall, planCall, priceCall, unfoldCall, foldCall, walkCall, judgement, judged, rules, rectangles, isFewest, leftOver, areasOn}
+use Rattle.layouts.specs.Layout.{sheet}
+use Rattle.agreement.specs.Compared.{outcome, unfoldOutcome, listCall, planCall, priceCall, unfoldCall, foldCall, walkCall, judgement, judged, rules, rectangles, isCheapest, leftOver, areasOn}
 ";
 
 /// What is compared: a definition on its arguments, and the reference's answer to the same.

@@ -10,7 +10,7 @@ use inputs::prices::random_prices;
 use inputs::{Model, Random};
 use reference::buffers::{Kind, COUNTS, CUTS, OFFCUTS, PLACEMENTS, PLATES};
 use reference::layout::PLACEMENT_NUMBERS;
-use reference::{calls, Refusal};
+use reference::{calls, Outlay, Refusal};
 
 /// The most pieces of an unfolding that the definitions are asked to compute.
 const MOST_PLACED: u32 = 40;
@@ -110,7 +110,7 @@ fn random_input(random: &mut Random, call: Call) -> Input {
     let full = call.full_sizes();
     let mut input = Input {
         job: job_words(random, &model, call),
-        lengths: any_lengths(random, [model.job.width, model.job.height]),
+        lengths: any_lengths(random, model.first_sides()),
         own: own_words(random, call, &model, own_damaged),
         lent: full.iter().map(|&size| vec![0; size]).collect(),
     };
@@ -196,11 +196,16 @@ fn layout_words(random: &mut Random, model: &Model, damaged: bool) -> Vec<u16> {
             damage_order(random, &mut lines);
             layouts = lines.concat();
         }
-        8 => layouts = [1, 1, 1, 1, 1, 0, 0, 0].repeat(random.pick(&[0, 4_000, 4_001])),
+        8 => layouts = [1, 0, 1, 1, 1, 1, 0, 0, 0].repeat(random.pick(&[0, 4_000, 4_001])),
         9..=15 => damage_words(random, &mut layouts, Words::Layouts),
         _ => {}
     }
     layouts
+}
+
+/// The results of the plan test and of folding: boards, and their cost.
+fn given(outlay: Outlay) -> Vec<u32> {
+    vec![outlay.boards, outlay.cost]
 }
 
 /// The reference's answer; the buffers are lent to it.
@@ -210,9 +215,7 @@ fn answer(call: Call, input: &Input, lent: &mut [Vec<u16>]) -> Result<Vec<u32>, 
         (Call::Listing, [plates, cuts]) => {
             calls::list(job, plates, cuts).map(|listed| vec![listed.residuals, listed.cuts])
         }
-        (Call::PlanTest, [plates, cuts]) => {
-            calls::test_plan(job, own, plates, cuts).map(|boards| vec![boards])
-        }
+        (Call::PlanTest, [plates, cuts]) => calls::test_plan(job, own, plates, cuts).map(given),
         (Call::PriceTest, [plates, cuts]) => {
             calls::test_prices(job, own, plates, cuts).map(|bound| vec![bound.sum, bound.d])
         }
@@ -221,7 +224,7 @@ fn answer(call: Call, input: &Input, lent: &mut [Vec<u16>]) -> Result<Vec<u32>, 
                 .map(|unfolded| vec![unfolded.boards, unfolded.pieces, unfolded.offcuts])
         }
         (Call::Folding, [plates, cuts, counts]) => {
-            calls::fold(job, own, plates, cuts, counts).map(|boards| vec![boards])
+            calls::fold(job, own, plates, cuts, counts).map(given)
         }
         _ => unreachable!("each call is lent its buffers"),
     }

@@ -51,7 +51,7 @@ const SUBJECTS: [Subject; 15] = [
     ("Sets", 3, structures::set_theorem),
     ("Rules", 2, structures::rules_theorem),
     ("Rectangles", 2, structures::rectangle_theorem),
-    ("Fewest", 1, structures::fewest_theorem),
+    ("Cheapest", 1, structures::cheapest_theorem),
     ("Offcuts", 3, offcuts::offcuts_theorem),
     ("Areas", 3, offcuts::areas_theorem),
 ];

@@ -14,7 +14,7 @@ use reference::Offcut;
 pub fn offcuts_theorem(random: &mut Random) -> Theorem {
     let model = Model::random(random);
     let counts = random_counts(random, &model);
-    let lengths = any_lengths(random, [model.job.width, model.job.height]);
+    let lengths = any_lengths(random, model.first_sides());
     let offcuts = unfold(&model.job, &model.listing, &counts).offcuts;
     let left_over: Vec<u16> = offcuts
         .iter()
@@ -31,7 +31,8 @@ pub fn offcuts_theorem(random: &mut Random) -> Theorem {
     }
 }
 
-/// A theorem over the areas of items, offcuts, waste and swath on a board, or on one past the last.
+/// A theorem over the areas of items, offcuts, waste and swath on a board, and of the board's own size;
+/// or on one past the last, where there is nothing and size 0 is named.
 pub fn areas_theorem(random: &mut Random) -> Theorem {
     let model = Model::random(random);
     let counts = random_counts(random, &model);
@@ -39,6 +40,7 @@ pub fn areas_theorem(random: &mut Random) -> Theorem {
     let boards = of_boards(&model.job, &model.listing, &unfolding);
     let board = random.below(boards.len() + 1);
     let areas = boards.get(board).copied().unwrap_or_default();
+    let size = unfolding.sizes.get(board).copied().unwrap_or(0);
     Theorem {
         equation: Equation {
             definition: "areasOn",
@@ -48,6 +50,7 @@ pub fn areas_theorem(random: &mut Random) -> Theorem {
                 areas.offcuts,
                 areas.waste,
                 areas.swath,
+                model.job.size(size).area(),
             ])],
         },
         refusal: None,

@@ -1,5 +1,5 @@
 //! Theorems below the calls: the walk within small limits, sets of layouts and their rules,
-//! rectangles, and whether a plan is the fewest.
+//! rectangles, and whether a plan is the cheapest.
 
 use crate::antt::{list, numbers, outcome, words, Equation};
 use crate::Theorem;
@@ -21,12 +21,12 @@ pub fn walk_theorem(random: &mut Random) -> Theorem {
         more => size + more - 1,
     };
     let limits = Limits {
-        plate_types: about(random, plates).max(1),
+        plate_types: about(random, plates).max(model.listing.sizes),
         cuts: about(random, cuts),
     };
     let walked = Listing::walk(&model.job, limits);
     let lent = match &walked {
-        Ok(listing) => [listing.plate_words(), listing.cut_words()],
+        Ok(listing) => [listing.plate_words(&model.job), listing.cut_words()],
         Err(_) => [Vec::new(), Vec::new()],
     };
     let sizes = |listing: Listing| [listing.residual_types(), listing.cuts.len()];
@@ -72,20 +72,26 @@ pub fn set_theorem(random: &mut Random) -> Theorem {
 }
 
 /// A theorem over the rules alone, of a set that may have an empty list, a type that the job has
-/// not, or an item turned without leave.
+/// not, an item turned without leave, or a board of another size.
 pub fn rules_theorem(random: &mut Random) -> Theorem {
     let model = Model::random(random);
     let mut set = set_or_broken(random, &model.job);
     let board = random.below(set.len());
-    let strip = random.below(set[board].len());
+    let strips = &mut set[board].strips;
+    let strip = random.below(strips.len());
     let types = model.job.items.len() as u16;
-    match random.below(10) {
-        0 => set.push(Board::new()),
-        1 => set[board].push(Vec::new()),
-        2 => set[board][strip].push(Vec::new()),
-        3 => set[board][strip][0][0].item = random.pick(&[0, types + 1]),
-        5 => set[board][strip][0][0] = Position::turned(random.between(1, types)),
+    let sizes = model.job.sizes.len() as u16;
+    match random.below(12) {
+        0 => set.push(Board {
+            size: random.below(usize::from(sizes)) as u16,
+            strips: Vec::new(),
+        }),
+        1 => strips.push(Vec::new()),
+        2 => strips[strip].push(Vec::new()),
+        3 => strips[strip][0][0].item = random.pick(&[0, types + 1]),
+        5 => strips[strip][0][0] = Position::turned(random.between(1, types)),
         4 => set.clear(),
+        6 | 7 => set[board].size = random.between(0, sizes),
         _ => {}
     }
     let kept = set.iter().all(|board| keeps_rules(&model.job, board));
@@ -106,11 +112,12 @@ pub fn rectangle_theorem(random: &mut Random) -> Theorem {
     let mut lines = placements(&model.job, &set);
     let moved = random.below(lines.len());
     let line = &mut lines[moved];
-    match random.below(5) {
+    match random.below(6) {
         0 => line.x += 1,
         1 => line.y += 1,
         2 => line.x = line.x.saturating_sub(1),
         3 => line.y = line.y.saturating_sub(1),
+        4 => line.size = random.below(model.job.sizes.len()) as u16,
         _ => line.board = random.between(1, 2),
     }
     let holds = [is_inside(&model.job, &lines), are_apart(&model.job, &lines)];
@@ -124,19 +131,19 @@ pub fn rectangle_theorem(random: &mut Random) -> Theorem {
     }
 }
 
-/// A theorem over "fewest": of accepted prices and a number of boards about their bound.
-pub fn fewest_theorem(random: &mut Random) -> Theorem {
+/// A theorem over "cheapest": of accepted prices and a cost about their bound.
+pub fn cheapest_theorem(random: &mut Random) -> Theorem {
     let model = Model::random(random);
     let price_words = random_prices(random, &model);
     let prices = Prices::from_words(&price_words, &model.job, &model.listing);
     let bound = prices.and_then(|prices| prices.test(&model.job, &model.listing));
     let bound = bound.expect("the prices are accepted");
-    let boards = bound.sum / bound.d + random.below(3) as u32;
+    let cost = bound.sum / bound.d + random.below(3) as u32;
     Theorem {
         equation: Equation {
-            definition: "isFewest",
-            arguments: vec![words(&model.words), words(&price_words), boards.to_string()],
-            answer: vec![bound.is_fewest(boards).to_string()],
+            definition: "isCheapest",
+            arguments: vec![words(&model.words), words(&price_words), cost.to_string()],
+            answer: vec![bound.is_cheapest(cost).to_string()],
         },
         refusal: None,
     }
@@ -170,10 +177,14 @@ fn cells(job: &Job, lines: &[Placement], more: u16) -> Vec<[u16; 3]> {
     cells
 }
 
-/// Whether only the boards are covered.
+/// Whether only the boards are covered: each item lies inside the size that its own line names.
 fn is_inside(job: &Job, lines: &[Placement]) -> bool {
-    let inside = |&[_, x, y]: &[u16; 3]| x < job.width && y < job.height;
-    cells(job, lines, 0).iter().all(inside)
+    lines.iter().all(|line| {
+        let size = job.size(line.size);
+        let inside = |&[_, x, y]: &[u16; 3]| x < size.width && y < size.height;
+        let item = std::slice::from_ref(line);
+        cells(job, item, 0).iter().all(inside)
+    })
 }
 
 /// Whether any two items of a board are at least the blade apart, across or upwards: where each is
@@ -184,9 +195,14 @@ fn are_apart(job: &Job, lines: &[Placement]) -> bool {
     cells.all(|cell| covered.insert(cell))
 }
 
-/// A set as a list of lists of lists of lists; an item is twice its type plus its turn.
+/// A set as a list of boards, each with its size, that are lists of lists of lists; an item is twice its
+/// type plus its turn.
 fn set_of(set: &[Board]) -> String {
     let stack = |stack: &Stack| numbers(stack.iter().map(|position| position.word()));
     let strip = |strip: &Strip| list(strip.iter().map(stack));
-    list(set.iter().map(|board| list(board.iter().map(strip))))
+    let board = |board: &Board| {
+        let strips = list(board.strips.iter().map(strip));
+        format!("sheet {} {strips}", board.size)
+    };
+    list(set.iter().map(board))
 }

@@ -47,7 +47,7 @@ fn theorem(
         let model = Model::random(random);
         let lines = lines(random, &model);
         let damages = random.pick(&[0, 0, 0, 0, 0, 1, 1, 1, 2]);
-        let text = text_of(random, lines, model.job.items.len(), damages);
+        let text = text_of(random, lines, model.job_lines(), damages);
         let output = program(&text);
         if !is_small_text(&text) || !is_short(&text) || !is_short(&output) {
             continue;

@@ -4,7 +4,7 @@ use inputs::Random;
 use reference::instances::inputs::Inputs;
 use reference::instances::read::Instance;
 use reference::instances::{job_words, outcome};
-use reference::job::{HEAD_NUMBERS, ITEM_NUMBERS};
+use reference::job::{items_at, ITEM_NUMBERS};
 use reference::listing::Limits;
 use reference::{Job, Listing, Mode};
 use std::fmt::Write;
@@ -132,7 +132,7 @@ impl Candidate {
             "\njob {name}\nmode {}\nboard {width} {height} 1\n",
             self.mode.name()
         );
-        for item in words[HEAD_NUMBERS..].chunks(ITEM_NUMBERS) {
+        for item in words[items_at(1)..].chunks(ITEM_NUMBERS) {
             writeln!(text, "item {} {} {}", item[0], item[1], item[2]).unwrap();
         }
         let answers = match (refusal, self.size()) {

@@ -1,7 +1,8 @@
-//! Jobs: those of document 01, with a blade of no width, and random ones.
+//! Jobs: those of document 01, with a blade of no width and one size at a cost of 1, and random
+//! ones.
 
 use super::random::Random;
-use reference::{Item, Job, Mode};
+use reference::{Item, Job, Mode, Size};
 
 /// The two words of a mode: stages and exact.
 pub fn mode_words(mode: Mode) -> [u16; 2] {
@@ -33,13 +34,26 @@ pub fn job_with_leave(mode: Mode, board: [u16; 2], items: &[[u16; 4]]) -> Vec<u1
 }
 
 /// Job words from a mode, the board's sides, the blade, and width, height, demand, leave of each
-/// type.
+/// type; the board is one size at a cost of 1.
 pub fn job_of(mode: Mode, board: [u16; 2], blade: u16, items: &[[u16; 4]]) -> Vec<u16> {
+    job_on(mode, &[[board[0], board[1], 1]], blade, items)
+}
+
+/// Job words from a mode, W, H and cost of each size, the blade, and width, height, demand, leave of
+/// each type.
+pub fn job_on(mode: Mode, sizes: &[[u16; 3]], blade: u16, items: &[[u16; 4]]) -> Vec<u16> {
     let mut words = mode_words(mode).to_vec();
-    words.extend(board);
-    words.extend([items.len() as u16, blade]);
+    words.extend([sizes.len() as u16, items.len() as u16, blade]);
+    words.extend(sizes.iter().flatten());
     words.extend(items.iter().flatten());
     words
+}
+
+/// The same without leave and blade.
+pub fn job_on_sizes(mode: Mode, sizes: &[[u16; 3]], items: &[[u16; 3]]) -> Vec<u16> {
+    let without = |&[width, height, demand]: &[u16; 3]| [width, height, demand, 0];
+    let items: Vec<[u16; 4]> = items.iter().map(without).collect();
+    job_on(mode, sizes, 0, &items)
 }
 
 /// Job A of document 01.
@@ -63,15 +77,13 @@ pub fn words_of(structured: &Job) -> Vec<u16> {
     let items: Vec<[u16; 4]> = (structured.items.iter())
         .map(|item| [item.width, item.height, item.demand, u16::from(item.leave)])
         .collect();
-    job_of(
-        structured.mode,
-        [structured.width, structured.height],
-        structured.blade,
-        &items,
-    )
+    let sizes: Vec<[u16; 3]> = (structured.sizes.iter())
+        .map(|size| [size.width, size.height, size.cost])
+        .collect();
+    job_on(structured.mode, &sizes, structured.blade, &items)
 }
 
-/// A random job: any mode, a small board, up to five types whose sides are drawn from few
+/// A random job: any mode, small boards of one to six sizes, up to five types whose sides are drawn from few
 /// values, so that equal widths and heights occur and the exact modes have work to do. Most jobs
 /// have types with leave to be turned, and some of these fit the board only turned. The blade has no
 /// width, or a narrow one, or any within its limits, so that it is wider than some boards.
@@ -87,7 +99,7 @@ pub fn random_job_in(random: &mut Random, mode: Mode) -> Job {
     random_job_on(random, mode, [width, height])
 }
 
-/// A random job in a mode on a board.
+/// A random job in a mode on a board and others, as large as that or smaller.
 fn random_job_on(random: &mut Random, mode: Mode, [width, height]: [u16; 2]) -> Job {
     let widths: Vec<u16> = (0..3).map(|_| random.between(1, width)).collect();
     let heights: Vec<u16> = (0..3).map(|_| random.between(1, height)).collect();
@@ -105,11 +117,41 @@ fn random_job_on(random: &mut Random, mode: Mode, [width, height]: [u16; 2]) -> 
     let items = items.collect();
     Job {
         mode,
-        width,
-        height,
+        sizes: random_sizes(random, [width, height]),
         blade: random_blade(random),
         items,
     }
+}
+
+/// One to six sizes in any order, a given one among them: every other job has it alone, the others
+/// may be equal, equal a strip's residual of one, be too small for every item, or be larger; each
+/// has a cost of its own.
+fn random_sizes(random: &mut Random, [width, height]: [u16; 2]) -> Vec<Size> {
+    let many = if random.once_in(2) {
+        1
+    } else {
+        random.between(2, 6)
+    };
+    let mut sizes = Vec::new();
+    for number in 0..many {
+        let [w, h] = match (number, random.below(5)) {
+            (0, _) | (_, 0) => [width, height],
+            (_, 1) => [width, random.between(1, height)],
+            (_, 2) => [1, 1],
+            (_, 3) => [random.between(1, width), random.between(1, height)],
+            _ => [
+                random.between(width, width + 3),
+                random.between(height, height + 3),
+            ],
+        };
+        sizes.push(Size {
+            width: w.min(10_000),
+            height: h.min(10_000),
+            cost: random.pick(&[1, 1, 2, 3, 10, 50, 999]),
+        });
+    }
+    random.shuffle(&mut sizes);
+    sizes
 }
 
 /// The item, in a job where types turn with leave one time in two, and then as it was or turned.
@@ -162,8 +204,7 @@ pub fn random_large_job(random: &mut Random, mode: Mode) -> Job {
     let items = items.collect();
     Job {
         mode,
-        width,
-        height,
+        sizes: random_sizes(random, [width, height]),
         blade: random_blade(random),
         items,
     }

@@ -1,13 +1,14 @@
 //! Buffers lent to the calls, at full size, with old contents. Every call made through them is
 //! also checked for what it leaves there.
 
+use super::check::Line;
 use super::plain;
-use reference::{Bound, Listed, Refusal, Unfolded};
+use reference::{Bound, Listed, Outlay, Refusal, Unfolded};
 
-pub const PLATES: usize = 6_144;
+pub const PLATES: usize = 8_192;
 pub const CUTS: usize = 32_768;
 pub const COUNTS: usize = 8_192;
-pub const PLACEMENTS: usize = 32_000;
+pub const PLACEMENTS: usize = 36_000;
 pub const OFFCUTS: usize = 48_000;
 
 /// Lengths that every offcut reaches.
@@ -59,7 +60,7 @@ impl Lent {
         answer
     }
 
-    pub fn test_plan(&mut self, job: &[u16], counts: &[u16]) -> Result<u32, Refusal> {
+    pub fn test_plan(&mut self, job: &[u16], counts: &[u16]) -> Result<Outlay, Refusal> {
         let counts = full_counts(counts);
         let answer = reference::test_plan(job, &counts, &mut self.plates, &mut self.cuts);
         self.check_model(job, answer.is_ok());
@@ -93,17 +94,17 @@ impl Lent {
         let answer = reference::unfold(job, &counts, lengths, plates, cuts, placements, offcuts);
         let used = answer.map_or([0, 0], |unfolded| [unfolded.pieces, unfolded.offcuts]);
         let [pieces, left_over] = used.map(|number| number as usize);
-        assert!(holds(&self.placements[8 * pieces..], &[]));
+        assert!(holds(&self.placements[9 * pieces..], &[]));
         assert!(holds(&self.offcuts[6 * left_over..], &[]));
         self.check_model(job, answer.is_ok());
         answer
     }
 
-    pub fn fold(&mut self, job: &[u16], layouts: &[[u16; 8]]) -> Result<u32, Refusal> {
+    pub fn fold(&mut self, job: &[u16], layouts: &[Line]) -> Result<Outlay, Refusal> {
         self.fold_words(job, &layouts.concat())
     }
 
-    pub fn fold_words(&mut self, job: &[u16], layouts: &[u16]) -> Result<u32, Refusal> {
+    pub fn fold_words(&mut self, job: &[u16], layouts: &[u16]) -> Result<Outlay, Refusal> {
         let Lent {
             plates,
             cuts,
@@ -118,12 +119,12 @@ impl Lent {
     }
 
     /// The lines that the last unfolding wrote.
-    pub fn lines(&self) -> Vec<[u16; 8]> {
+    pub fn lines(&self) -> Vec<Line> {
         let lines = self
             .placements
-            .chunks_exact(8)
+            .chunks_exact(9)
             .map(|line| line.try_into().unwrap());
-        lines.take_while(|line: &[u16; 8]| line[0] != 0).collect()
+        lines.take_while(|line: &Line| line[0] != 0).collect()
     }
 
     /// The offcuts that the last unfolding wrote.
@@ -139,7 +140,11 @@ impl Lent {
     fn check_model(&mut self, job: &[u16], success: bool) {
         if success && self.model[0] != job {
             let (plates, cuts) = plain::listing(job);
-            self.model = [job.to_vec(), plates.concat(), cuts.concat()];
+            self.model = [
+                job.to_vec(),
+                plain::plate_words(job, &plates),
+                cuts.concat(),
+            ];
         }
         let [_, plates, cuts] = &self.model;
         let [plates, cuts] = if success {

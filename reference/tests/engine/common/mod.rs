@@ -12,7 +12,7 @@ pub mod random;
 pub mod sets;
 pub mod texts;
 
-use reference::{Board, Position, Refusal, Strip};
+use reference::{Board, Outlay, Position, Refusal, Strip};
 
 /// A strip of unturned items, by their types.
 pub fn strip(stacks: &[&[u16]]) -> Strip {
@@ -20,9 +20,27 @@ pub fn strip(stacks: &[&[u16]]) -> Strip {
     stacks.iter().map(stack).collect()
 }
 
-/// A board of strips of unturned items, by their types.
+/// A board of size 0, of strips of unturned items, by their types.
 pub fn board(strips: &[&[&[u16]]]) -> Board {
-    strips.iter().map(|stacks| strip(stacks)).collect()
+    board_of(0, strips)
+}
+
+/// A board of a size, of strips of unturned items, by their types.
+pub fn board_of(size: u16, strips: &[&[&[u16]]]) -> Board {
+    Board {
+        size,
+        strips: strips.iter().map(|stacks| strip(stacks)).collect(),
+    }
+}
+
+/// The boards and their cost as the answer of a call.
+pub fn outlay(boards: u32, cost: u32) -> Result<Outlay, Refusal> {
+    Ok(Outlay { boards, cost })
+}
+
+/// So many boards at a cost of 1 as the answer of a call.
+pub fn boards(boards: u32) -> Result<Outlay, Refusal> {
+    outlay(boards, boards)
 }
 
 /// A refusal as the answer of a call.

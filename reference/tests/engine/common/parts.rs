@@ -1,16 +1,18 @@
-//! The parts of the boards of an unfolding, written plainly from document 02, Two and Four: items,
+//! The parts of the boards of an unfolding, written plainly from document 02, Two, Four and Six: items,
 //! offcuts, waste and the blade's swath as rectangles.
 
+use super::check::Line;
 use super::plain;
 
 /// Board, x, y, width, height.
 pub type Part = [u16; 5];
 
 /// The items of lines.
-pub fn items(job: &[u16], lines: &[[u16; 8]]) -> Vec<Part> {
-    let part = |&[board, _, _, _, item, x, y, turn]: &[u16; 8]| {
-        let first = 6 + 4 * (usize::from(item) - 1);
-        let [width, height] = [job[first], job[first + 1]];
+pub fn items(job: &[u16], lines: &[Line]) -> Vec<Part> {
+    let part = |&[board, _, _, _, _, item, x, y, turn]: &Line| {
+        let first = 4 * (usize::from(item) - 1);
+        let items = plain::items(job);
+        let [width, height] = [items[first], items[first + 1]];
         match turn {
             0 => [board, x, y, width, height],
             _ => [board, x, y, height, width],
@@ -66,7 +68,7 @@ impl Done {
     fn ways(&self, job: &[u16]) -> Vec<Part> {
         let [board, x, y, wi, hi] = self.item;
         let [w, h, stage] = self.plate;
-        let [right, top] = [job[5].min(w - wi), job[5].min(h - hi)];
+        let [right, top] = [job[4].min(w - wi), job[4].min(h - hi)];
         match (job[0], stage) {
             (_, 1) => vec![[board, x, y + hi, w, top], [board, x + wi, y, right, hi]],
             (2, 2) => vec![[board, x + wi, y, right, h]],
@@ -83,10 +85,10 @@ pub fn waste(job: &[u16], items: &[Part], cuts: &[usize]) -> Vec<Part> {
         let [board, x, y, wi, hi] = cut.item;
         let [top, right] = plain::leaves(job, cut.plate, [wi, hi]);
         if cut.kept[0] == 0 {
-            waste.push([board, x, y + hi + job[5], top[0], top[1]]);
+            waste.push([board, x, y + hi + job[4], top[0], top[1]]);
         }
         if cut.kept[1] == 0 {
-            waste.push([board, x + wi + job[5], y, right[0], right[1]]);
+            waste.push([board, x + wi + job[4], y, right[0], right[1]]);
         }
         waste.extend(cut.trim(job));
     }
@@ -133,12 +135,27 @@ pub fn area_on(board: u16, parts: &[Part]) -> u64 {
         .sum()
 }
 
-/// Every part lies inside its board, and any two parts of one board are at least the blade apart,
+/// The size of each board of lines, in the order of the boards.
+pub fn sizes_of_boards(lines: &[Line]) -> Vec<u16> {
+    let first = lines.iter().filter(|line| line[2..5] == [1, 1, 1]);
+    first.map(|line| line[1]).collect()
+}
+
+/// The W and H of each board, by its size.
+fn own_sides(job: &[u16], sizes: &[u16]) -> Vec<[u16; 2]> {
+    let all = plain::sizes(job);
+    let sides = |&size: &u16| [all[usize::from(size)][0], all[usize::from(size)][1]];
+    sizes.iter().map(sides).collect()
+}
+
+/// Every part lies inside its board, which has one of the sizes, and any two parts of one board are at least the blade apart,
 /// across or upwards.
-pub fn assert_apart(job: &[u16], parts: &[Part]) {
-    let blade = job[5];
+pub fn assert_apart(job: &[u16], sizes: &[u16], parts: &[Part]) {
+    let blade = job[4];
+    let own = own_sides(job, sizes);
     for (index, &[board, x, y, width, height]) in parts.iter().enumerate() {
-        assert!(x + width <= job[2] && y + height <= job[3]);
+        let [w, h] = own[usize::from(board) - 1];
+        assert!(x + width <= w && y + height <= h);
         for &[other_board, ox, oy, other_width, other_height] in &parts[..index] {
             let across = x + width + blade <= ox || ox + other_width + blade <= x;
             let upwards = y + height + blade <= oy || oy + other_height + blade <= y;
@@ -147,19 +164,21 @@ pub fn assert_apart(job: &[u16], parts: &[Part]) {
     }
 }
 
-/// Every square millimetre of every board is covered by just one part.
-pub fn assert_partition(job: &[u16], boards: u32, parts: &[Part]) {
-    let [w, h] = [job[2], job[3]].map(usize::from);
-    let mut painted = vec![0; w * h * boards as usize];
+/// Every square millimetre of every board, by its own size, is covered by just one part.
+pub fn assert_partition(job: &[u16], sizes: &[u16], parts: &[Part]) {
+    let own = own_sides(job, sizes);
+    let area = |&[w, h]: &[u16; 2]| usize::from(w) * usize::from(h);
+    let mut painted: Vec<Vec<u8>> = own.iter().map(|sides| vec![0; area(sides)]).collect();
     for part in parts {
         let [board, x, y, width, height] = part.map(usize::from);
+        let [w, h] = own[board - 1].map(usize::from);
         assert!(x + width <= w && y + height <= h, "{job:?}");
         for row in y..y + height {
-            let first = ((board - 1) * h + row) * w + x;
-            for cell in &mut painted[first..first + width] {
+            let first = row * w + x;
+            for cell in &mut painted[board - 1][first..first + width] {
                 *cell += 1;
             }
         }
     }
-    assert!(painted.iter().all(|&times| times == 1), "{job:?}");
+    assert!(painted.iter().flatten().all(|&times| times == 1), "{job:?}");
 }

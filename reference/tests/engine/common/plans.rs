@@ -1,4 +1,4 @@
-//! Random accepted plans: boards and residuals cut at random, in any order, until the demands
+//! Random accepted plans: boards of all sizes and residuals cut at random, in any order, until the demands
 //! are met.
 
 use super::random::Random;
@@ -17,13 +17,15 @@ pub fn random_plan(random: &mut Random, job: &Job, listing: &Listing) -> Vec<u16
         }
         surplus -= usize::from(!open);
         let index = if step < 60 {
-            let plate = random_plate(random, &mut waiting);
+            let plate = random_plate(random, listing, &mut waiting);
             let on = listing.cuts_on(plate);
             on.start + random.below(on.len())
         } else {
             let short = missing.iter().position(|&count| count > 0).unwrap_or(0) as u16 + 1;
             let of_type = |&index: &usize| listing.cuts[index].position.item == short;
-            listing.cuts_on(0).find(of_type).unwrap()
+            let sizes = 0..listing.sizes as u16;
+            let mut on_sizes = sizes.flat_map(|size| listing.cuts_on(size));
+            on_sizes.find(of_type).unwrap()
         };
         counts[index] += 1;
         let cut = listing.cuts[index];
@@ -34,10 +36,14 @@ pub fn random_plan(random: &mut Random, job: &Job, listing: &Listing) -> Vec<u16
     counts
 }
 
-/// A waiting residual, taken away, or a fresh board.
-fn random_plate(random: &mut Random, waiting: &mut Vec<u16>) -> u16 {
+/// A waiting residual, taken away, or a fresh board of a size that has a cut.
+fn random_plate(random: &mut Random, listing: &Listing, waiting: &mut Vec<u16>) -> u16 {
     if waiting.is_empty() || random.once_in(4) {
-        return 0;
+        let sizes = 0..listing.sizes as u16;
+        let cut: Vec<u16> = sizes
+            .filter(|&size| !listing.cuts_on(size).is_empty())
+            .collect();
+        return random.pick(&cut);
     }
     let index = random.below(waiting.len());
     waiting.swap_remove(index)

@@ -1,7 +1,7 @@
 //! Price lists: by area, and random ones that are as high as the rules let them be.
 
 use super::random::Random;
-use reference::{Job, Listing, Plate, Prices};
+use reference::{Job, Listing, Plate, Prices, Size};
 
 /// The words of a price list: D, the item prices, the residual prices.
 pub fn words_of(prices: &Prices) -> Vec<u16> {
@@ -11,28 +11,37 @@ pub fn words_of(prices: &Prices) -> Vec<u16> {
     words
 }
 
-/// Each price is the area's share of the board, in units of 1/D, rounded down; sides are taken with
-/// the blade.
+/// Each price is the area's share, in units of 1/D, of the cost of the size that gives most area for
+/// its cost, rounded down; sides are taken with the blade. D is lower than asked for where a price
+/// would be above its limit.
 pub fn area_prices(job: &Job, listing: &Listing, denominator: u16) -> Prices {
     let area = |width: u16, height: u16| {
         let [width, height] = [width, height].map(|side| u64::from(side + job.blade));
         width * height
     };
-    let board = area(job.width, job.height);
-    let price =
-        |width: u16, height: u16| (area(width, height) * u64::from(denominator) / board) as u16;
+    let of_size = |size: &Size| area(size.width, size.height);
+    let mut best = job.sizes[0];
+    for size in &job.sizes {
+        if of_size(size) * u64::from(best.cost) > of_size(&best) * u64::from(size.cost) {
+            best = *size;
+        }
+    }
+    let largest = job.sizes.iter().map(of_size).max().unwrap();
+    let [board, cost] = [of_size(&best), u64::from(best.cost)];
+    let denominator = u64::from(denominator).min(9_999 * board / (cost * largest));
+    let price = |width: u16, height: u16| (area(width, height) * denominator * cost / board) as u16;
     let of_plate = |plate: &Plate| price(plate.width, plate.height);
     Prices {
-        denominator,
+        denominator: denominator as u16,
         items: (job.items.iter())
             .map(|item| price(item.width, item.height))
             .collect(),
-        residuals: listing.plates[1..].iter().map(of_plate).collect(),
+        residuals: listing.residuals().iter().map(of_plate).collect(),
     }
 }
 
-/// Random item prices; each residual, and D, at the least that its cuts allow. None if a price
-/// would leave its limits.
+/// Random item prices; each residual, and D over the sizes' costs, at the least that its cuts allow.
+/// None if a price would leave its limits.
 pub fn least_prices(random: &mut Random, job: &Job, listing: &Listing) -> Option<Prices> {
     let highest = random.pick(&[1, 3, 10, 100]);
     let items: Vec<u16> = (job.items.iter())
@@ -55,11 +64,16 @@ pub fn least_prices(random: &mut Random, job: &Job, listing: &Listing) -> Option
         let highest = listing.cuts_on(number as u16).map(cost).max();
         least[number] = highest.unwrap_or(0);
     }
-    let within = least.iter().all(|&price| price <= 9_999) && least[0] >= 1;
+    let (boards, residuals) = least.split_at(job.sizes.len());
+    let denominators =
+        (job.sizes.iter().zip(boards)).map(|(size, &least)| least.div_ceil(u32::from(size.cost)));
+    let denominator = denominators.max().unwrap();
+    let within =
+        residuals.iter().all(|&price| price <= 9_999) && (1..=9_999).contains(&denominator);
     within.then(|| Prices {
-        denominator: least[0] as u16,
+        denominator: denominator as u16,
         items,
-        residuals: least[1..].iter().map(|&price| price as u16).collect(),
+        residuals: residuals.iter().map(|&price| price as u16).collect(),
     })
 }
 

@@ -1,7 +1,7 @@
 //! Random sets of layouts, made from the layout rules alone.
 
 use super::random::Random;
-use reference::{Board, Job, Mode, Position, Strip};
+use reference::{Board, Job, Mode, Position, Size, Strip};
 
 /// How often each type still has to be laid.
 struct Missing(Vec<u16>);
@@ -29,41 +29,44 @@ impl Missing {
     }
 
     fn lay(&mut self, board: &Board) {
-        for item in board.iter().flatten().flatten() {
+        for item in board.strips.iter().flatten().flatten() {
             let count = &mut self.0[usize::from(item.item) - 1];
             *count = count.saturating_sub(1);
         }
     }
 }
 
-/// A set that keeps the rules and meets the demands; now and then with more than they ask.
+/// A set that keeps the rules and meets the demands, on boards of any sizes in any order; now and then
+/// with more than they ask.
 pub fn random_set(random: &mut Random, job: &Job) -> Vec<Board> {
     let mut missing = Missing::of(job);
     let mut set = Vec::new();
     while !missing.is_none() || set.is_empty() || random.once_in(5) {
-        let fits = |position: &Position| job.fits(*position);
-        let leads: Vec<Position> = job
-            .positions_of(missing.pick(random))
-            .filter(fits)
-            .collect();
-        let lead = random.pick(&leads);
-        let board = random_board(random, job, lead);
+        let positions: Vec<Position> = job.positions_of(missing.pick(random)).collect();
+        let mut leads = Vec::new();
+        for (number, size) in (0..).zip(&job.sizes) {
+            let fitting = positions.iter().filter(|&&lead| size.fits(job.sides(lead)));
+            leads.extend(fitting.map(|&lead| (number, lead)));
+        }
+        let (size, lead) = random.pick(&leads);
+        let board = random_board(random, job, size, lead);
         missing.lay(&board);
         set.push(board);
     }
     set
 }
 
-/// A board whose strips come in any order; one of them is led by the given item.
-fn random_board(random: &mut Random, job: &Job, lead: Position) -> Board {
+/// A board of a size whose strips come in any order; one of them is led by the given item.
+fn random_board(random: &mut Random, job: &Job, number: u16, lead: Position) -> Board {
+    let size = &job.sizes[usize::from(number)];
     let mut board = Vec::new();
-    let mut room = job.height;
+    let mut room = size.height;
     let mut next = Some(lead);
     while let Some(lead) = next {
         let strip = if job.mode.is_two_stage() {
-            two_stage_strip(random, job, lead, room)
+            two_stage_strip(random, job, size, lead, room)
         } else {
-            three_stage_strip(random, job, lead)
+            three_stage_strip(random, job, size, lead)
         };
         let single = strip.iter().map(|stack| job.sides(stack[0]).height);
         let highest = single.max().unwrap().max(job.sides(lead).height);
@@ -71,11 +74,14 @@ fn random_board(random: &mut Random, job: &Job, lead: Position) -> Board {
         board.push(strip);
         next = match random.once_in(6) {
             true => None,
-            false => random_item(random, job, job.width, room, None),
+            false => random_item(random, job, size.width, room, None),
         };
     }
     random.shuffle(&mut board);
-    board
+    Board {
+        size: number,
+        strips: board,
+    }
 }
 
 /// The room that is left beyond a length and the blade.
@@ -101,9 +107,15 @@ fn random_item(
 }
 
 /// A strip of single items, not higher than the room; in 2E all as high as the leading one.
-fn two_stage_strip(random: &mut Random, job: &Job, lead: Position, room: u16) -> Strip {
+fn two_stage_strip(
+    random: &mut Random,
+    job: &Job,
+    size: &Size,
+    lead: Position,
+    room: u16,
+) -> Strip {
     let mut strip = vec![vec![lead]];
-    let mut width = beyond(job, job.width, job.sides(lead).width);
+    let mut width = beyond(job, size.width, job.sides(lead).width);
     while let Some(item) = random_item(random, job, width, room, None) {
         if random.once_in(6) {
             break;
@@ -120,10 +132,10 @@ fn two_stage_strip(random: &mut Random, job: &Job, lead: Position, room: u16) ->
 
 /// A strip of stacks, none higher than the leading item, which is a stack of its own; in 3E each
 /// stack has one width.
-fn three_stage_strip(random: &mut Random, job: &Job, lead: Position) -> Strip {
+fn three_stage_strip(random: &mut Random, job: &Job, size: &Size, lead: Position) -> Strip {
     let mut strip = vec![vec![lead]];
     let height = job.sides(lead).height;
-    let mut width = beyond(job, job.width, job.sides(lead).width);
+    let mut width = beyond(job, size.width, job.sides(lead).width);
     while let Some(first) = random_item(random, job, width, height, None) {
         if random.once_in(6) {
             break;

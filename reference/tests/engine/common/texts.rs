@@ -1,5 +1,6 @@
 //! Texts, written by the column rules without the library.
 
+use super::check::Line;
 use super::jobs::job_a;
 use super::plain;
 use reference::Prices;
@@ -17,27 +18,18 @@ pub fn lines(all: &[&[u32]]) -> Vec<u8> {
     all.iter().flat_map(|numbers| line(numbers)).collect()
 }
 
-/// The lines of kinds 1 and 2 of job words.
+/// The lines of kinds 1, 10 and 2 of job words.
 pub fn job_text(job: &[u16]) -> Vec<u8> {
-    let number = |word: u16| u32::from(word);
-    let mut text = line(&[
-        1,
-        number(job[0]),
-        number(job[1]),
-        number(job[2]),
-        number(job[3]),
-        number(job[4]),
-        number(job[5]),
-    ]);
-    for (item_type, item) in (1..).zip(job[6..].chunks(4)) {
-        text.extend(line(&[
-            2,
-            item_type,
-            number(item[0]),
-            number(item[1]),
-            number(item[2]),
-            number(item[3]),
-        ]));
+    let numbers = |first: &[u32], words: &[u16]| -> Vec<u32> {
+        let words = words.iter().map(|&word| u32::from(word));
+        first.iter().copied().chain(words).collect()
+    };
+    let mut text = line(&numbers(&[1], &job[..5]));
+    for (number, size) in (0..).zip(plain::sizes(job)) {
+        text.extend(line(&numbers(&[10, number], &size)));
+    }
+    for (item_type, item) in (1..).zip(plain::items(job).chunks(4)) {
+        text.extend(line(&numbers(&[2, item_type], item)));
     }
     text
 }
@@ -59,16 +51,18 @@ pub fn plan_text_of(job: &[u16], counts: &[u16]) -> Vec<u8> {
     plan_text(&plates, &cuts, counts)
 }
 
-/// The lines of kinds 4, 5 and 6 of a price list.
-pub fn price_text(prices: &Prices) -> Vec<u8> {
+/// The lines of kinds 4, 5 and 6 of a price list for a job of so many sizes, after which plate numbers
+/// of residual types begin.
+pub fn price_text_on(sizes: usize, prices: &Prices) -> Vec<u8> {
     let mut text = line(&[
         4,
         u32::from(prices.denominator),
         prices.items.len() as u32,
         prices.residuals.len() as u32,
     ]);
-    for (kind, list) in [(5, &prices.items), (6, &prices.residuals)] {
-        for (number, &price) in (1..).zip(list) {
+    let lists = [(5, 1, &prices.items), (6, sizes as u32, &prices.residuals)];
+    for (kind, first, list) in lists {
+        for (number, &price) in (first..).zip(list) {
             text.extend(line(&[kind, number, u32::from(price)]));
         }
     }
@@ -76,7 +70,7 @@ pub fn price_text(prices: &Prices) -> Vec<u8> {
 }
 
 /// The lines of kind 7 of layout lines.
-pub fn layout_text(layouts: &[[u16; 8]]) -> Vec<u8> {
+pub fn layout_text(layouts: &[Line]) -> Vec<u8> {
     let written = layouts.iter().flat_map(|numbers| {
         let mut all = vec![7];
         all.extend(numbers.map(u32::from));
@@ -85,7 +79,7 @@ pub fn layout_text(layouts: &[[u16; 8]]) -> Vec<u8> {
     written.collect()
 }
 
-/// Job A's lines of kinds 1 and 2, followed by these lines.
+/// Job A's lines of kinds 1, 10 and 2, followed by these lines.
 pub fn after_job_a(all: &[&[u32]]) -> Vec<u8> {
     let mut text = job_text(&job_a());
     text.extend(lines(all));

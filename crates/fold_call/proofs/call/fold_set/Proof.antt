@@ -1,9 +1,9 @@
--- `fold_set` folds the lines and counts their boards.
+-- `fold_set` folds the lines, counts their boards and adds up what they cost.
 use native.Mathlib.Omega.{arith}
 use borrow.Author.Needs.{needs}
 use denote.Ref.{now}
 use Rattle.job.proofs.CodeAdmission.{passed-length}
-use Rattle.fold_call.proofs.Passed.{few-lines, lent-lines, staged}
+use Rattle.fold_call.proofs.Passed.{lent-lines, staged}
 use Rattle.fold_call.proofs.call.fold_set.Statement.{statement}
 use Rattle.fold_call.proofs.call.fold_set.Tie as tie
 
@@ -21,7 +21,7 @@ count-boards-requires c κs =
     let ws = now (s .args .job) in
     let layouts = now (s .args .layouts) in
     let p = s .pre .0 in
-    (lent-lines ws layouts (p .0) (p .1 .0) (p .1 .1) .lines-lent .whole, few-lines ws layouts (p .0) (p .1 .0) (p .1 .1))
+    lent-lines ws layouts (p .0) (p .1 .0) (p .1 .1) .lines-lent
 
 pub fold-set-spec : {M : Type 1} → statement M
 fold-set-spec =

@@ -23,38 +23,38 @@ abbrev μ-loop : tie.MeasureT-loop
 
 loop-holds : tie.Need-loop-holds Inv-loop μ-loop
 loop-holds c =
-    let s = c .before .before .before .before .before .before .before .before .before in
+    let s = c .before .before .before .before .before .before .before .before .before .before in
     let a = s .args in
-    (search needs, refl, fold-begin (jobOf (now (a .job))) (listingOf (jobOf (now (a .job)))) (now (a .layouts)) (a .k .0) (none-counted (length (now (a .counts))) (a .k .0) (c .before .before .before .clear .ensures) (omega (arith, s .pre .1 .1 .1, c .before .before .before .clear .kept .0))) (s .pre .1 .0 .1))
+    (search needs, refl, fold-begin (jobOf (now (a .job))) (listingOf (jobOf (now (a .job)))) (now (a .layouts)) (a .k .0) (none-counted (length (now (a .counts))) (a .k .0) (c .before .before .before .before .clear .ensures) (omega (arith, s .pre .1 .1 .1, c .before .before .before .before .clear .kept .0))) (s .pre .1 .0 .1) (c .size-named .ensures))
 
 fold-strip-requires : tie.Need-fold-strip-requires Inv-loop μ-loop
 fold-strip-requires c κs =
-    let s = c .before .before .before .before .before .before .before .before .before .before .before .before in
+    let s = c .before .before .before .before .before .before .before .before .before .before .before .before .before in
     let a = s .args in
     let i = c .before .before .loop in
     let job = jobOf (now (a .job)) in
     let l = listingOf job in
     let words = s .pre .0 .lines-lent .whole in
     let few = s .pre .0 .lines-lent .few in
-    ((s .pre .0, c .before .loop-test .taken), (s .pre .1 .1 .0, (fold-counting job l (now (a .layouts)) (a .k .0) (a .lines) words (omega (arith, i .inv .0)) (omega (arith, i .inv .1, s .pre .1 .1 .1, c .before .before .before .before .before .before .clear .kept .0)) (i .inv .2), (c .before .before .before .three .ensures ∙ ap threeStages (s .pre .1 .0 .0), fold-rule job l (now (a .layouts)) (a .k .0) (a .lines) words (c .before .loop-test .taken) (i .inv .2)))))
+    ((s .pre .0, c .before .loop-test .taken), (s .pre .1 .1 .0, (fold-counting job l (now (a .layouts)) (a .k .0) (a .lines) words (omega (arith, i .inv .0)) (omega (arith, i .inv .1, s .pre .1 .1 .1, c .before .before .before .before .before .before .before .clear .kept .0)) (i .inv .2), (c .before .before .before .before .three .ensures ∙ ap threeStages (s .pre .1 .0 .0), fold-rule job l (now (a .layouts)) (a .k .0) (a .lines) words (c .before .loop-test .taken) (i .inv .2)))))
 
 loop-again : tie.Need-loop-again Inv-loop μ-loop
 loop-again c =
-    let s = c .before .before .before .before .before .before .before .before .before .before .before .before .before .before .before .before .before in
+    let s = c .before .before .before .before .before .before .before .before .before .before .before .before .before .before .before .before .before .before in
     let a = s .args in
     let i = c .before .before .before .before .before .before .before .loop in
     let job = jobOf (now (a .job)) in
     let f = c .before .before .before .before .fold-strip in
-    (f .ensures .0 .1 .1 .0, f .kept .1 .1 .1 .1 .1 .1 .1 .1 .0 ∙ i .inv .1, fold-step job (listingOf job) (now (a .layouts)) (a .k .0) (a .lines) (s .pre .0 .lines-lent .whole) (f .result .end) _ _ (f .result .board .0) (c .before .before .before .before .before .before .loop-test .taken) (i .inv .2) (f .ensures .0 .0) (f .ensures .1) (f .ensures .0 .1 .1 .1) (c .next-board .ensures))
+    (f .ensures .0 .1 .1 .0, f .kept .1 .1 .1 .1 .1 .1 .1 .1 .0 ∙ i .inv .1, fold-step job (listingOf job) (now (a .layouts)) (a .k .0) (a .lines) (s .pre .0 .lines-lent .whole) (f .result .end) _ _ (f .result .board .0) (c .before .before .before .before .before .before .loop-test .taken) (i .inv .2) (f .ensures .0 .0) (f .ensures .1) (f .ensures .0 .1 .1 .1) (c .strip-plate .ensures))
 
 returns : tie.Need-returns Inv-loop μ-loop
 returns c =
-    let s = c .before .before .before .before .before .before .before .before .before .before .before in
+    let s = c .before .before .before .before .before .before .before .before .before .before .before .before in
     let a = s .args in
     let i = c .before .loop in
     let job = jobOf (now (a .job)) in
     let e = fold-end job (listingOf job) (now (a .layouts)) (a .k .0) (a .lines) (s .pre .0 .lines-lent .whole) (c .loop-test .left) (s .pre .1 .1 .0) (i .inv .2) in
-    let n : length (i .counts) ≡ length (now (a .counts)) = i .inv .1 ∙ c .before .before .before .before .before .clear .kept .0 in
+    let n : length (i .counts) ≡ length (now (a .counts)) = i .inv .1 ∙ c .before .before .before .before .before .before .clear .kept .0 in
     rw n at e
 
 pub fold-into-spec : {M : Type 1} → statement M
@@ -65,10 +65,11 @@ fold-into-spec =
     μ-loop
     (λ c κs. search needs)
     (λ c κs. search needs)
+    (λ c κs. c .before .before .before .before .before .before .before .before .before .pre .0 .lines-lent .whole)
     loop-holds
     fold-strip-requires
-    (λ c κs. (c .before .before .before .before .before .before .before .before .before .before .before .before .before .before .before .before .pre .0 .lines-lent .whole, c .before .before .before .fold-strip .ensures .0 .1 .1 .0))
+    (λ c κs. (c .before .before .before .before .before .before .before .before .before .before .before .before .before .before .before .before .before .pre .0 .lines-lent .whole, c .before .before .before .fold-strip .ensures .0 .1 .1 .0))
     (λ c. omega (arith, c .before .before .before .before .fold-strip .ensures .0 .1 .0, c .before .before .before .before .before .before .loop-test .taken))
     loop-again
-    (λ c. c .before .loop .inv .1 ∙ c .before .before .before .before .before .clear .kept .0)
+    (λ c. c .before .loop .inv .1 ∙ c .before .before .before .before .before .before .clear .kept .0)
     returns)

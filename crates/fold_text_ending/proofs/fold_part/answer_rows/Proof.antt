@@ -5,7 +5,7 @@ use denote.Ref.{now}
 use Rattle.job.specs.Verdict.{_then_}
 use Rattle.job.specs.Job.{jobOf, jobWords, admission}
 use Rattle.job.specs.Row.{rowVerdict}
-use Rattle.job.proofs.CodeAdmission.{passed-length, passed-few}
+use Rattle.job.proofs.CodeAdmission.{passed-length, passed-few-sizes, passed-few}
 use Rattle.job.proofs.Verdicts.{pass-not-refuse, then-both}
 use Rattle.layouts.specs.Lines.{rowsOf, layoutWords}
 use Rattle.layouts.specs.LayoutsRow.{layoutsRow}
@@ -27,13 +27,13 @@ head-of-requires c κs =
 
 layouts-row-requires : tie.Need-layouts-row-requires
 layouts-row-requires c κs =
-    let s = c .before .before .before .before .before .before .before .before .before .before .before in
+    let s = c .before .before .before .before .before .before .before .before .before .before .before .before in
     let ws = now (s .args .job) in
-    ((s .pre .0 .words, lines-passed ws (now (s .args .layouts)) (sym (c .before .before .layout-checks .ensures) ∙ ap rowVerdict (c .enum-told .given .1))), omega (arith, passed-few ws (s .pre .0 .words), c .before .before .before .before .head-of .ensures .of-types))
+    ((s .pre .0 .words, lines-passed ws (now (s .args .layouts)) (sym (c .before .before .layout-checks .ensures) ∙ ap rowVerdict (c .enum-told .given .1))), omega (arith, passed-few-sizes ws (s .pre .0 .words), passed-few ws (s .pre .0 .words), c .before .before .before .before .before .head-of .ensures .of-sizes, c .before .before .before .before .before .head-of .ensures .of-types))
 
 write-fold-requires : tie.Need-write-fold-requires
 write-fold-requires c κs =
-    let s = c .before .before .before .before .before .before .before .before .before .before .before .before .before .before .before .before .before .before in
+    let s = c .before .before .before .before .before .before .before .before .before .before .before .before .before .before .before .before .before .before .before in
     let ws = now (s .args .job) in
     let ls = now (s .args .layouts) in
     let row = sym (c .before .before .before .before .before .before .layouts-row .ensures) ∙ ap rowVerdict (c .before .before .before .before .enum-told2 .given .1) in
@@ -41,7 +41,7 @@ write-fold-requires c κs =
 
 returns : tie.Need-returns
 returns c h =
-    let s = c .before .before .before .before .before .before .before .before .before .before .before .before .before .before .before .before .before .before .before .before .before .before .before .before .before in
+    let s = c .before .before .before .before .before .before .before .before .before .before .before .before .before .before .before .before .before .before .before .before .before .before .before .before .before .before in
     let ws = now (s .args .job) in
     let ls = now (s .args .layouts) in
     absurd
@@ -51,22 +51,22 @@ returns c h =
 
 returns-2 : tie.Need-returns-2
 returns-2 c h =
-    let s = c .before .before .before .before .before .before .before .before .before .before .before .before .before .before .before .before .before .before .before .before .before .before .before .before .before .before .before .before in
+    let s = c .before .before .before .before .before .before .before .before .before .before .before .before .before .before .before .before .before .before .before .before .before .before .before .before .before .before .before .before .before in
     let ws = now (s .args .job) in
     let ls = now (s .args .layouts) in
-    let few = passed-few ws (s .pre .0 .words) in
-    let e = sym (first-line ws ls (c .before .before .before .before .before .before .before .before .before .before .before .before .before .before .before .before .before .before .before .before .before .head-of .ensures .of-types)) ∙ sym (c .before .before .before .before .before .before .before .before .before .before .before .before .before .before .before .before .layouts-row .ensures) ∙ ap rowVerdict (c .before .before .before .before .before .before .before .before .before .before .before .before .before .before .number2 .given .1) in
+    let few = few-types ws (s .pre .0 .words) in
+    let e = sym (first-line ws ls (c .before .before .before .before .before .before .before .before .before .before .before .before .before .before .before .before .before .before .before .before .before .before .head-of .ensures .of-sizes) (c .before .before .before .before .before .before .before .before .before .before .before .before .before .before .before .before .before .before .before .before .before .before .head-of .ensures .of-types)) ∙ sym (c .before .before .before .before .before .before .before .before .before .before .before .before .before .before .before .before .layouts-row .ensures) ∙ ap rowVerdict (c .before .before .before .before .before .before .before .before .before .before .before .before .before .before .number2 .given .1) in
     c .before .before .before .before .before .before .before .before .refuse2 .ensures (layoutsRow (bodyLine ws) (jobOf ws) (rowsOf ls)) ws ls e
-    (near-place (near-row (bodyLine ws) (jobOf ws) (rowsOf ls) (omega arith) (omega (arith, few)) (few-types ws (s .pre .0 .words) .0)) _ _ e)
+    (near-place (near-row (bodyLine ws) (jobOf ws) (rowsOf ls) (omega arith) (omega (arith, few .1, few .2)) (few .0)) _ _ e)
 
 returns-3 : tie.Need-returns-3
 returns-3 c h =
-    let s = c .before .before .before .before .before .before .before .before .before .before .before .before .before .before .before .before .before .before .before .before .before .before .before in
+    let s = c .before .before .before .before .before .before .before .before .before .before .before .before .before .before .before .before .before .before .before .before .before .before .before .before in
     let ws = now (s .args .job) in
     let ls = now (s .args .layouts) in
     let x = c .before .before .before .before .write-fold in
     accepted-answer ws ls
-    (sym (first-line ws ls (c .before .before .before .before .before .before .before .before .before .before .before .before .before .before .before .before .head-of .ensures .of-types)) ∙ sym (c .before .before .before .before .before .before .before .before .before .before .before .layouts-row .ensures) ∙ ap rowVerdict (c .before .before .before .before .before .before .before .before .before .enum-told2 .given .1))
+    (sym (first-line ws ls (c .before .before .before .before .before .before .before .before .before .before .before .before .before .before .before .before .before .head-of .ensures .of-sizes) (c .before .before .before .before .before .before .before .before .before .before .before .before .before .before .before .before .before .head-of .ensures .of-types)) ∙ sym (c .before .before .before .before .before .before .before .before .before .before .before .layouts-row .ensures) ∙ ap rowVerdict (c .before .before .before .before .before .before .before .before .before .enum-told2 .given .1))
     (x .ensures .0)
     (s .pre .0)
     (x .ensures .1)
@@ -78,13 +78,15 @@ answer-rows-spec =
     head-of-requires
     (λ c. search needs)
     (λ c. search needs)
+    (λ c. search needs)
+    (λ c. search needs)
     (λ c κs. search needs)
     (λ c. search needs)
-    (λ c κs. c .before .before .before .before .before .before .before .before .before .before .before .before .before .before .before .before .pre .1 .1)
+    (λ c κs. c .before .before .before .before .before .before .before .before .before .before .before .before .before .before .before .before .before .pre .1 .1)
     (λ c. search needs)
     layouts-row-requires
     (λ c. search needs)
-    (λ c κs. c .before .before .before .before .before .before .before .before .before .before .before .before .before .before .before .before .before .before .before .pre .1 .1)
+    (λ c κs. c .before .before .before .before .before .before .before .before .before .before .before .before .before .before .before .before .before .before .before .before .pre .1 .1)
     (λ c. search needs)
     write-fold-requires
     (λ c. search needs)

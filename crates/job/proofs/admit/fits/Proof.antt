@@ -1,47 +1,73 @@
--- `fits` asks whether the position is permitted and then compares both sides with the board's.
-use mathlib.Core.Path.{_≡_}
-use mathlib.Core.Bool.{true, false}
-use mathlib.Core.List.{List}
-use Prim.Native.Nat.{ℕ, _≤_, _<_}
+-- `fits` looks at the sizes in rising number: what is left to try from size j on is the whole test.
+use mathlib.Core.Path.{_≡_, refl}
+use mathlib.Core.Bool.{Bool}
+use Prim.Native.Nat.{_-_, _≤_}
+use native.Mathlib.Omega.{arith}
 use borrow.Author.Needs.{needs}
-use borrow.Author.Tests.{le-leb, lt-leb, not-true, not-false}
 use denote.Ref.{now}
-use lib.Dec.{leb}
-use lib.ListN.{getD}
+use lib.ListN.{drop}
 use Rattle.job.specs.declared.item.Position.{Position}
-use Rattle.job.specs.Job.{jobOf, fits}
+use Rattle.job.specs.declared.size.Size.{Size}
+use Rattle.job.specs.Lists.{any}
+use Rattle.job.specs.Job.{jobOf, noSize, sizeAt, fitsIn, fits}
+use Rattle.job.proofs.SizeWords.{sizes-length}
+use Rattle.job.proofs.CodeOver.{any-end, any-found, any-next}
 use Rattle.job.proofs.admit.fits.Statement.{statement}
 use Rattle.job.proofs.admit.fits.Tie as tie
 
-module _ (ws : List ℕ) (p : Position) where
-  -- a position that is not permitted does not fit
-  not-allowed : p .allowed ≡ false → false ≡ fits (jobOf ws) p
-  unfolding fits
-  not-allowed a = rw a
+abbrev Inv-loop : tie.InvT-loop
+Inv-loop job position sizes j₀ j = (j ≤ sizes) × (fits (jobOf job) position ≡ any (fitsIn position) (drop j (jobOf job .sizes)))
 
-  -- one that is permitted and wider than the board does not fit, and another goes by its height
-  too-wide : p .allowed ≡ true → getD ws 2 0 < p .width → leb (p .width) (getD ws 2 0) ≡ fits (jobOf ws) p
-  unfolding fits jobOf
-  too-wide a h = rw (a, lt-leb _ _ h)
+abbrev μ-loop : tie.MeasureT-loop
+μ-loop job position sizes j₀ j = sizes - j
 
-  by-height : p .allowed ≡ true → p .width ≤ getD ws 2 0 → leb (p .height) (getD ws 3 0) ≡ fits (jobOf ws) p
-  unfolding fits jobOf
-  by-height a h = rw (a, le-leb _ _ h)
+-- what the test says of the size read it says of that size
+tested : {r t : Bool} (p : Position) {z z′ : Size} → r ≡ fitsIn p z → z ≡ z′ → r ≡ t → fitsIn p z′ ≡ t
+tested p e i t = cc
 
-returns : tie.Need-returns
-returns c = let a = c .before .before .args in not-allowed (now (a .job)) (a .position) (not-true _ (c .if1 .taken))
+loop-holds : tie.Need-loop-holds Inv-loop μ-loop
+unfolding fits
+loop-holds c = (search needs, refl)
 
-returns-2 : tie.Need-returns-2
+size-at-requires : tie.Need-size-at-requires Inv-loop μ-loop
+size-at-requires c κs = (c .loop-test .taken, c .before .before .before .before .pre)
+
+returns : tie.Need-returns Inv-loop μ-loop
+unfolding sizeAt
+returns c =
+    let d = c .before .before .before .before in
+    let s = d .before .before .before in
+    any-found (jobOf (now (s .args .job)) .sizes) noSize (fitsIn (s .args .position)) (d .loop .j) (d .loop .inv .1) (rw (sizes-length _ (s .pre)) (c .before .before .before .loop-test .taken)) (tested (s .args .position) (c .before .fits-in .ensures) (c .before .before .size-at .ensures) (c .if1 .taken))
+
+add-j : tie.Need-add-j Inv-loop μ-loop
+add-j c = omega (arith, c .before .before .before .loop-test .taken, c .before .before .before .before .before .shared-slice-known2 .given 2)
+
+loop-again : tie.Need-loop-again Inv-loop μ-loop
+unfolding sizeAt
+loop-again c =
+    let d = c .before .before .before .before in
+    let s = d .before .before .before in (
+      search needs,
+      any-next (jobOf (now (s .args .job)) .sizes) noSize (fitsIn (s .args .position)) (d .loop .j) (d .loop .inv .1) (rw (sizes-length _ (s .pre)) (c .before .before .before .loop-test .taken)) (tested (s .args .position) (c .before .fits-in .ensures) (c .before .before .size-at .ensures) (c .if1 .left)),
+    )
+
+returns-2 : tie.Need-returns-2 Inv-loop μ-loop
 returns-2 c =
-    let s = c .before .before .before .before .before in
-    let a = s .before .before .args in
-    by-height (now (a .job)) (a .position) (not-false _ (s .if1 .left)) (c .before .if2 .taken)
-
-returns-3 : tie.Need-returns-3
-returns-3 c =
     let s = c .before .before .before .before in
-    let a = s .before .before .args in
-    too-wide (now (a .job)) (a .position) (not-false _ (s .if1 .left)) (c .if2 .left)
+    any-end (jobOf (now (s .args .job)) .sizes) noSize (fitsIn (s .args .position)) (c .before .loop .j) (c .before .loop .inv .1) (rw (sizes-length _ (s .pre)) (c .loop-test .left))
 
 pub fits-spec : {M : Type 1} → statement M
-fits-spec = tie.close (tie.spec returns (λ c. search needs) (λ c. search needs) returns-2 returns-3)
+fits-spec =
+    tie.close
+    (tie.spec
+    Inv-loop
+    μ-loop
+    (λ c. search needs)
+    loop-holds
+    size-at-requires
+    (λ c κs. search needs)
+    returns
+    add-j
+    (λ c. search needs)
+    loop-again
+    returns-2)

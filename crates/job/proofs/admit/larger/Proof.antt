@@ -10,7 +10,7 @@ use Rattle.job.proofs.admit.larger.Statement.{statement}
 use Rattle.job.proofs.admit.larger.Tie as tie
 
 module _ (job : Job) (it : Item) {r : Bool} {p : Position} (u : p ≡ unturned it) (f : r ≡ fits job p) where
-  -- an item that fits unturned is not larger than the board
+  -- an item that fits unturned is not larger than every size
   first : r ≡ true → false ≡ larger job it
   unfolding larger
   first t = rw (← u, ← f, t)

@@ -21,7 +21,7 @@ Inv-loop job last i₀ i =
 abbrev μ-loop : tie.MeasureT-loop
 μ-loop job last i₀ i = last + 1 - i
 
--- what the test says of the item read it says of that item type: whether it is larger than the board
+-- what the test says of the item read it says of that item type: whether it fits no size
 tested : {r t : Bool} (job : Job) {x x′ : Item} → r ≡ larger job x → x ≡ x′ → r ≡ t → larger job x′ ≡ t
 tested job e i t = cc
 

@@ -1,4 +1,4 @@
--- `head_of` reads the six words of the head.
+-- `head_of` reads the five words of the head.
 use mathlib.Core.Path.{refl}
 use borrow.Author.Needs.{needs}
 use Rattle.job.specs.Job.{jobOf}
@@ -9,9 +9,8 @@ returns : tie.Need-returns
 unfolding jobOf
 returns c =
     record {
-      of-mode = c .before .before .before .before .from-line .ensures;
-      of-width = refl;
-      of-height = refl;
+      of-mode = c .before .before .before .from-line .ensures;
+      of-sizes = refl;
       of-blade = refl;
       of-types = refl;
     }
@@ -23,7 +22,6 @@ head-of-spec =
     (λ c. search needs)
     (λ c. search needs)
     (λ c κs. search needs)
-    (λ c. search needs)
     (λ c. search needs)
     (λ c. search needs)
     (λ c. search needs)

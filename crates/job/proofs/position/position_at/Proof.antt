@@ -5,7 +5,7 @@ use Prim.Native.Nat.{ℕ, _+_, _*_, _≤_, _%_}
 use native.Mathlib.Omega.{arith}
 use borrow.Author.Needs.{needs}
 use denote.Ref.{now}
-use lib.ListN.{length}
+use lib.ListN.{length, getD}
 use Rattle.job.specs.declared.item.Item.{Item}
 use Rattle.job.specs.declared.item.Position.{Position}
 use Rattle.job.specs.Sizes.{jobSize}
@@ -15,7 +15,7 @@ use Rattle.job.proofs.Positions.{type-turn, position-unturned, position
 use Rattle.job.proofs.position.position_at.Statement.{statement}
 use Rattle.job.proofs.position.position_at.Tie as tie
 
-module _ (ws : List ℕ) (q : ℕ) (low : 1 ≤ typeOf q) (room : jobSize (typeOf q) ≤ length ws) {it : Item} (e : it ≡ itemAt (jobOf ws) (typeOf q)) where
+module _ (ws : List ℕ) (q : ℕ) (low : 1 ≤ typeOf q) (room : jobSize (getD ws 2 0) (typeOf q) ≤ length ws) {it : Item} (e : it ≡ itemAt (jobOf ws) (typeOf q)) where
   -- an even number is that of the type unturned
   even : {p : Position} → q % 2 ≡ 0 → p ≡ unturned it → p ≡ positionAt (jobOf ws) q
   unfolding turnOf

@@ -20,7 +20,7 @@ count-lines-requires : tie.Need-count-lines-requires
 count-lines-requires c κs =
     let a = c .before .before .before .before in
     let ws = now (a .args .job) in
-    let few : length (jobOf ws .items) ≤ maxTypes = rw (items-length ws (getD ws 4 0) (passed-length ws (a .pre .0 .0))) (passed-few ws (a .pre .0 .0)) in
+    let few : length (jobOf ws .items) ≤ maxTypes = rw (items-length ws (getD ws 3 0) (passed-length ws (a .pre .0 .0))) (passed-few ws (a .pre .0 .0)) in
     ((a .pre .1 .0, (a .pre .1 .1, passed-types (jobOf ws) (now (a .args .layouts)) (a .args .lines) (a .pre .0 .1) few (a .pre .1 .0))), (lit< tt, sums-none (maxTypes + 1)))
 
 types-short-requires : tie.Need-types-short-requires
@@ -35,7 +35,7 @@ returns c =
     let a = c .before .before .before .before .before .before .before .before in
     let ws = now (a .args .job) in
     let call = c .before .before .before .count-lines in
-    let few : length (jobOf ws .items) ≤ maxTypes = rw (items-length ws (getD ws 4 0) (passed-length ws (a .pre .0 .0))) (passed-few ws (a .pre .0 .0)) in
+    let few : length (jobOf ws .items) ≤ maxTypes = rw (items-length ws (getD ws 3 0) (passed-length ws (a .pre .0 .0))) (passed-few ws (a .pre .0 .0)) in
     lacking-said (jobOf ws) (now (a .args .layouts)) (call .last .1 .1 .0) (call .ensures) (omega (arith, few, call .kept .1 .1 .0)) (c .types-short .ensures)
 
 pub lacking-row-spec : {M : Type 1} → statement M

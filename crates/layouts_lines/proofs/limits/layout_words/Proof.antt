@@ -13,6 +13,7 @@ use Rattle.job.specs.Head.{HeadOf}
 use Rattle.job.specs.Job.{jobOf, jobWords}
 use Rattle.job.proofs.CodeAdmission.{passed-length}
 use Rattle.job.proofs.CodeItems.{items-length}
+use Rattle.job.proofs.SizeWords.{sizes-length}
 use Rattle.layouts_lines.proofs.CodeChecks.{row-stops, row-goes-on}
 use Rattle.layouts_lines.proofs.CodeLimits.{whole-lines, cut-short, by-limits, limits-typed}
 use borrow.Author.Needs.{needs}
@@ -21,7 +22,11 @@ use Rattle.layouts_lines.proofs.limits.layout_words.Tie as tie
 
 -- the head has the number of the job's item types
 types : (ws : List ℕ) {head : Head} → jobWords ws ≡ pass → HeadOf ws head → length (jobOf ws .items) ≡ head .types .0
-types ws j h = rw (h .of-types) (items-length ws (getD ws 4 0) (passed-length ws j))
+types ws j h = rw (h .of-types) (items-length ws (getD ws 3 0) (passed-length ws j))
+
+-- and the number of its sizes
+sizes : (ws : List ℕ) {head : Head} → jobWords ws ≡ pass → HeadOf ws head → length (jobOf ws .sizes) ≡ head .sizes .0
+sizes ws j h = rw (h .of-sizes) (sizes-length ws (omega (arith, passed-length ws j)))
 
 head-of-requires : tie.Need-head-of-requires
 head-of-requires c κs = omega (arith, passed-length _ (c .before .before .pre))
@@ -39,7 +44,7 @@ returns-2 c =
     let a = c .before .before .before .before .before .before .before in
     let job = now (a .args .job) in
     by-limits (jobOf job) (now (a .args .layouts)) (c .before .before .before .if1 .left)
-    (row-stops (c .before .before .lines-right .ensures (jobOf job) (types job (a .pre) (c .before .before .before .before .head-of .ensures))) _ (c .enum-told2 .given .1))
+    (row-stops (c .before .before .lines-right .ensures (jobOf job) (sizes job (a .pre) (c .before .before .before .before .head-of .ensures)) (types job (a .pre) (c .before .before .before .before .head-of .ensures))) _ (c .enum-told2 .given .1))
 
 permitted-row-requires : tie.Need-permitted-row-requires
 permitted-row-requires c κs =
@@ -47,7 +52,7 @@ permitted-row-requires c κs =
     let job = now (a .args .job) in
     let layouts = now (a .args .layouts) in
     let whole = whole-lines layouts (c .before .before .before .if1 .left) in
-    let says = c .before .before .lines-right .ensures (jobOf job) (types job (a .pre) (c .before .before .before .before .head-of .ensures)) in
+    let says = c .before .before .lines-right .ensures (jobOf job) (sizes job (a .pre) (c .before .before .before .before .head-of .ensures)) (types job (a .pre) (c .before .before .before .before .head-of .ensures)) in
     (a .pre, (whole, limits-typed (jobOf job) layouts (length layouts / wordsOfPlacement) says (ap rowVerdict (c .enum-told .given .1)) whole))
 
 returns-3 : tie.Need-returns-3
@@ -55,7 +60,7 @@ returns-3 c =
     let a = c .before .before .before .before .before .before .before .before in
     let job = now (a .args .job) in
     by-limits (jobOf job) (now (a .args .layouts)) (c .before .before .before .before .if1 .left)
-    (row-goes-on (c .before .before .before .lines-right .ensures (jobOf job) (types job (a .pre) (c .before .before .before .before .before .head-of .ensures))) (c .before .enum-told .given .1) (c .permitted-row .ensures))
+    (row-goes-on (c .before .before .before .lines-right .ensures (jobOf job) (sizes job (a .pre) (c .before .before .before .before .before .head-of .ensures)) (types job (a .pre) (c .before .before .before .before .before .head-of .ensures))) (c .before .enum-told .given .1) (c .permitted-row .ensures))
 
 pub layout-words-spec : {M : Type 1} → statement M
 layout-words-spec =

@@ -16,38 +16,38 @@ use Rattle.layouts_lines.proofs.limits.lines_right.Statement.{statement
 use Rattle.layouts_lines.proofs.limits.lines_right.Tie as tie
 
 abbrev Inv-loop : tie.InvT-loop
-Inv-loop layouts lines n c₀ c =
-    (job : Job) → length (job .items) ≡ n .0 → lowest 2 (λ _ r. not (rowRight job r)) 1 (linesIn layouts) ≡ lowest 2 (λ _ r. not (rowRight job r)) (c + 1) (drop c (linesIn layouts))
+Inv-loop layouts lines t n c₀ c =
+    (job : Job) → length (job .sizes) ≡ t .0 → length (job .items) ≡ n .0 → lowest 2 (λ _ r. not (rowRight job r)) 1 (linesIn layouts) ≡ lowest 2 (λ _ r. not (rowRight job r)) (c + 1) (drop c (linesIn layouts))
 
 abbrev μ-loop : tie.MeasureT-loop
-μ-loop layouts lines n c₀ c = lines - c
+μ-loop layouts lines t n c₀ c = lines - c
 
 loop-holds : tie.Need-loop-holds Inv-loop μ-loop
-loop-holds c job e = refl
+loop-holds c job z e = refl
 
 returns : tie.Need-returns Inv-loop μ-loop
-returns c job e =
+returns c job z e =
     let l = c .before .before .before .before .loop in
     let a = c .before .before .before .before .before .before in
     let t = c .before .before .before .loop-test .taken in
     let rows = linesIn (now (a .args .layouts)) in
     let h : l .c < length rows = rw (whole-lines _ _ (a .pre)) t in
-    lowest-found rows noLine 2 _ (l .c + 1) (l .c) (l .inv job e) h (line-tested job (now (a .args .layouts)) (a .args .lines) (l .c) (a .pre) t (c .before .line-right .ensures job e) (c .before .before .placement-at .ensures) (c .if1 .taken))
+    lowest-found rows noLine 2 _ (l .c + 1) (l .c) (l .inv job z e) h (line-tested job (now (a .args .layouts)) (a .args .lines) (l .c) (a .pre) t (c .before .line-right .ensures job z e) (c .before .before .placement-at .ensures) (c .if1 .taken))
 
 loop-again : tie.Need-loop-again Inv-loop μ-loop
-loop-again c job e =
+loop-again c job z e =
     let l = c .before .before .before .before .loop in
     let a = c .before .before .before .before .before .before in
     let t = c .before .before .before .loop-test .taken in
     let rows = linesIn (now (a .args .layouts)) in
     let h : l .c < length rows = rw (whole-lines _ _ (a .pre)) t in
-    lowest-next rows noLine 2 _ (l .c + 1) (l .c) (l .inv job e) h (line-tested job (now (a .args .layouts)) (a .args .lines) (l .c) (a .pre) t (c .before .line-right .ensures job e) (c .before .before .placement-at .ensures) (c .if1 .left))
+    lowest-next rows noLine 2 _ (l .c + 1) (l .c) (l .inv job z e) h (line-tested job (now (a .args .layouts)) (a .args .lines) (l .c) (a .pre) t (c .before .line-right .ensures job z e) (c .before .before .placement-at .ensures) (c .if1 .left))
 
 returns-2 : tie.Need-returns-2 Inv-loop μ-loop
-returns-2 c job e =
+returns-2 c job z e =
     let l = c .before .loop in
     let a = c .before .before .before in
-    lowest-end (linesIn (now (a .args .layouts))) noLine 2 _ (l .c + 1) (l .c) (l .inv job e) (rw (whole-lines _ _ (a .pre)) (c .loop-test .left))
+    lowest-end (linesIn (now (a .args .layouts))) noLine 2 _ (l .c + 1) (l .c) (l .inv job z e) (rw (whole-lines _ _ (a .pre)) (c .loop-test .left))
 
 pub lines-right-spec : {M : Type 1} → statement M
 lines-right-spec =

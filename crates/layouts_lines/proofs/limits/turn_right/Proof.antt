@@ -15,10 +15,10 @@ abbrev turn : tie.After-within → Turn
 turn c = placementIn (c .before .args .line) .turn
 
 -- the flag after the second test and the third
-two : (c : tie.Joined1) → c .if1 .if2 ≡ (counted (turn (c .before) .board) && counted (turn (c .before) .strip))
+two : (c : tie.Joined1) → c .if1 .if2 ≡ (counted (turn (c .before) .board .number) && counted (turn (c .before) .strip))
 two c = ⊎-elim (λ w. and-next (c .before .within .ensures) (w .0 .taken) (w .1 .ensures) (w .2)) (λ w. and-stop _ (c .before .within .ensures) (w .0 .left) (w .1)) (c .if1 .came)
 
-three : (c : tie.Joined2) → c .if2 .if3 ≡ (counted (turn (c .before .before) .board) && counted (turn (c .before .before) .strip) && counted (turn (c .before .before) .stack))
+three : (c : tie.Joined2) → c .if2 .if3 ≡ (counted (turn (c .before .before) .board .number) && counted (turn (c .before .before) .strip) && counted (turn (c .before .before) .stack))
 three c = ⊎-elim (λ w. and-next (two (c .before)) (w .0 .taken) (w .1 .ensures) (w .2)) (λ w. and-stop _ (two (c .before)) (w .0 .left) (w .1)) (c .if2 .came)
 
 returns : tie.Need-returns

@@ -14,10 +14,10 @@ use Rattle.layouts_lines.proofs.turns.follows.Tie as tie
 
 -- the turns of the two lines, where the first test is made
 abbrev last : tie.After-same-turn → Turn
-last c = placementIn (c .before .before .before .before .before .args .last) .turn
+last c = placementIn (c .before .before .before .before .before .before .args .last) .turn
 
 abbrev line : tie.After-same-turn → Turn
-line c = placementIn (c .before .before .before .before .before .args .line) .turn
+line c = placementIn (c .before .before .before .before .before .before .args .line) .turn
 
 -- the flag after the first test, the second and the third
 one : (c : tie.After-same-turn) → c .same-turn .result ≡ sameTurn (line c) (turn (last c .board) (last c .strip) (last c .stack) (suc (last c .place)))

@@ -4,7 +4,6 @@ use Prim.Native.Nat.{_+_, _-_, _≤_}
 use native.Mathlib.Omega.{arith}
 use denote.Ref.{now}
 use lib.ListN.{drop}
-use Rattle.layouts.specs.Placement.{turn}
 use Rattle.layouts.specs.Lines.{rowsOf, inTurn, turns}
 use Rattle.placement.specs.PlacementRead.{placementAt}
 use Rattle.placement.proofs.Rows.{read-placed}
@@ -27,13 +26,13 @@ returns c =
 returns-2 : tie.Need-returns-2 Inv-loop μ-loop
 returns-2 c =
     let a = c .before .before .before .before .before in
-    first-refused (now (a .args .layouts)) (a .args .lines) (a .args .k) (a .pre .0) (omega (arith, c .before .before .before .if1 .left)) (first-read (turn 1 1 1 1) (c .before .same-turn .ensures) (read-placed (c .before .before .placement-at .ensures))) (c .if2 .taken)
+    first-refused (now (a .args .layouts)) (a .args .lines) (a .args .k) (a .pre .0) (omega (arith, c .before .before .before .if1 .left)) (first-read (c .before .same-turn .ensures) (read-placed (c .before .before .placement-at .ensures))) (c .if2 .taken)
 
 loop-holds : tie.Need-loop-holds Inv-loop μ-loop
 loop-holds c =
     let a = c .before .before .before .before .before in
     let some : 1 ≤ a .args .lines = omega (arith, c .before .before .before .if1 .left) in
-    (search needs, (some, first-passed (now (a .args .layouts)) (a .args .lines) (a .args .k) (a .pre .0) some (first-read (turn 1 1 1 1) (c .before .same-turn .ensures) (read-placed (c .before .before .placement-at .ensures))) (c .if2 .left)))
+    (search needs, (some, first-passed (now (a .args .layouts)) (a .args .lines) (a .args .k) (a .pre .0) some (first-read (c .before .same-turn .ensures) (read-placed (c .before .before .placement-at .ensures))) (c .if2 .left)))
 
 returns-3 : tie.Need-returns-3 Inv-loop μ-loop
 returns-3 c =

@@ -9,6 +9,7 @@ use Rattle.job.specs.Job.{jobOf}
 use Rattle.layouts.specs.Lines.{rowsOf, grouped}
 use Rattle.layouts.specs.LayoutsRow.{laidSet, lowestStrip, breaksStage}
 use Rattle.layouts_strips.specs.First.{stripOf, laidFrom}
+use Rattle.layouts_strips.proofs.CodeStacks.{lent-head}
 use Rattle.layouts_strips.proofs.CodeLaid.{row-begins, row-end, row-found, row-next, breaks}
 use borrow.Author.Needs.{needs}
 use Rattle.layouts_strips.proofs.stage.stage_row.Statement.{statement}
@@ -16,18 +17,18 @@ use Rattle.layouts_strips.proofs.stage.stage_row.Tie as tie
 
 abbrev Inv-loop : tie.InvT-loop
 Inv-loop job layouts lines k head a₀ a =
-    ((y : ℕ) × (lowestStrip 16 (breaksStage (jobOf job)) (laidSet (jobOf job) k (grouped (rowsOf layouts))) ≡ lowestStrip 16 (breaksStage (jobOf job)) (laidFrom (jobOf job) (k + a) y (grouped (drop a (rowsOf layouts)))))) × (a ≤ lines)
+    ((z : ℕ) × (y : ℕ) × (lowestStrip 16 (breaksStage (jobOf job)) (laidSet (jobOf job) k (grouped (rowsOf layouts))) ≡ lowestStrip 16 (breaksStage (jobOf job)) (laidFrom (jobOf job) z (k + a) y (grouped (drop a (rowsOf layouts)))))) × (a ≤ lines)
 
 abbrev μ-loop : tie.MeasureT-loop
 μ-loop job layouts lines k head a₀ a = lines - a
 
 head-of-requires : tie.Need-head-of-requires Inv-loop μ-loop
-head-of-requires c κs = c .before .before .pre .0 .board
+head-of-requires c κs = lent-head (c .before .before .pre .0)
 
 loop-holds : tie.Need-loop-holds Inv-loop μ-loop
 loop-holds c =
     let a = c .before .before .before .args in
-    ((0, row-begins (jobOf (now (a .job))) (now (a .layouts)) 16 (breaksStage (jobOf (now (a .job)))) (a .k)), search needs)
+    ((_, 0, row-begins (jobOf (now (a .job))) (now (a .layouts)) 16 (breaksStage (jobOf (now (a .job)))) (a .k)), search needs)
 
 strip-at-requires : tie.Need-strip-at-requires Inv-loop μ-loop
 strip-at-requires c κs = (c .before .before .before .before .before .pre .0, c .loop-test .taken)
@@ -46,8 +47,8 @@ returns c =
     let job = jobOf (now (s .args .job)) in
     let ws = now (s .args .layouts) in
     let w = l .inv .0 in
-    row-found job ws 16 (breaksStage job) (s .args .k) (s .args .lines) (l .a) (w .0) (s .pre .0 .whole) (w .1) (c .before .before .before .loop-test .taken) (c .before .before .strip-at .ensures .0)
-    (breaks job (s .args .k + l .a) (w .0) (stripOf (drop (l .a) (rowsOf ws))) (c .before .strip-staged .ensures) (not-true _ (c .if1 .taken)))
+    row-found job ws 16 (breaksStage job) (s .args .k) (s .args .lines) (w .0) (l .a) (w .1) (s .pre .0 .whole) (w .2) (c .before .before .before .loop-test .taken) (c .before .before .strip-at .ensures .0)
+    (breaks job (w .0) (s .args .k + l .a) (w .1) (stripOf (drop (l .a) (rowsOf ws))) (c .before .strip-staged .ensures) (not-true _ (c .if1 .taken)))
 
 loop-less : tie.Need-loop-less Inv-loop μ-loop
 loop-less c = let after = c .before .before .strip-at .ensures .1 .1 in let h = c .before .before .before .loop-test .taken in omega arith
@@ -62,8 +63,9 @@ loop-again c =
     let x = c .before .before .strip-at .ensures in (
       (
         _,
-        row-next job ws 16 (breaksStage job) (s .args .k) (s .args .lines) (l .a) (w .0) (s .pre .0 .whole) (w .1) (c .before .before .before .loop-test .taken) (x .0)
-            (breaks job (s .args .k + l .a) (w .0) (stripOf (drop (l .a) (rowsOf ws))) (c .before .strip-staged .ensures) (not-false _ (c .if1 .left))),
+        _,
+        row-next job ws 16 (breaksStage job) (s .args .k) (s .args .lines) (w .0) (l .a) (w .1) (s .pre .0 .whole) (w .2) (c .before .before .before .loop-test .taken) (x .0)
+            (breaks job (w .0) (s .args .k + l .a) (w .1) (stripOf (drop (l .a) (rowsOf ws))) (c .before .strip-staged .ensures) (not-false _ (c .if1 .left))),
       ),
       x .1 .0 .inside,
     )
@@ -73,7 +75,7 @@ returns-2 c =
     let s = c .before .before .before .before .before in
     let l = c .before .loop in
     let job = jobOf (now (s .args .job)) in
-    row-end job (now (s .args .layouts)) 16 (breaksStage job) (s .args .k) (s .args .lines) (l .a) (l .inv .0 .0) (s .pre .0 .whole) (l .inv .0 .1) (c .loop-test .left)
+    row-end job (now (s .args .layouts)) 16 (breaksStage job) (s .args .k) (s .args .lines) (l .inv .0 .0) (l .a) (l .inv .0 .1) (s .pre .0 .whole) (l .inv .0 .2) (c .loop-test .left)
 
 pub stage-row-spec : {M : Type 1} → statement M
 stage-row-spec =

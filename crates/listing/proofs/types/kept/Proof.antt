@@ -5,7 +5,7 @@ use Prim.Native.Nat.{ℕ, _+_, _-_, _*_, _≤_, _<_}
 use native.Mathlib.Omega.{arith}
 use borrow.Author.Needs.{needs}
 use denote.Ref.{now}
-use lib.ListN.{length, drop}
+use lib.ListN.{length, getD, drop}
 use Rattle.job.specs.declared.mode.Mode.{Mode}
 use Rattle.job.specs.Lists.{any}
 use Rattle.job.specs.Job.{jobOf, typeOf, positions}
@@ -31,10 +31,10 @@ unfolding kept positions mayCut any
 loop-holds c = (search needs, (search needs, refl))
 
 -- there are two positions for each item type, from 2 on
-within-last : (ws : List ℕ) (mode : Mode) (n q : ℕ) → JobWords ws mode n → q ≤ 2 * n + 1 → q ≤ length (positions (jobOf ws))
+within-last : (ws : List ℕ) (mode : Mode) (n q : ℕ) → JobWords ws mode (getD ws 2 0) n → q ≤ 2 * n + 1 → q ≤ length (positions (jobOf ws))
 within-last ws mode n q w h = omega (arith, positions-length (jobOf ws), items-length ws n (w .words))
 
-past-last : (ws : List ℕ) (mode : Mode) (n q : ℕ) → JobWords ws mode n → 2 * n + 1 < q → length (positions (jobOf ws)) < q
+past-last : (ws : List ℕ) (mode : Mode) (n q : ℕ) → JobWords ws mode (getD ws 2 0) n → 2 * n + 1 < q → length (positions (jobOf ws)) < q
 past-last ws mode n q w h = omega (arith, positions-length (jobOf ws), items-length ws n (w .words))
 
 position-at-requires : tie.Need-position-at-requires Inv-loop μ-loop

@@ -7,9 +7,9 @@ use Rattle.listing.proofs.words.put_plate.Statement.{statement}
 use Rattle.listing.proofs.words.put_plate.Tie as tie
 
 returns : tie.Need-returns
-returns c ps e h =
+returns c job ps e k h =
     let a = c .before .args in
-    held-plate-put ps (a .m .0) (a .p) e (c .before .pre) h
+    held-plate-put job ps (a .m .0) (a .cost) (a .p) e k (c .before .pre) h
 
 pub put-plate-spec : {M : Type 1} → statement M
 put-plate-spec =
@@ -19,6 +19,9 @@ put-plate-spec =
     (λ c. search needs)
     (λ c. search needs)
     (λ c. search needs)
+    (λ c. search needs)
+    (λ c. search needs)
+    (λ c. simp length-set (omega arith))
     (λ c. search needs)
     (λ c. search needs)
     (λ c. simp length-set (omega arith))

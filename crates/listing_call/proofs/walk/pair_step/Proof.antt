@@ -54,14 +54,14 @@ returns-3 c l h =
     let d = c .before .before .before .before .before .before .before .before in
     let s = d .before .before .before .before .before .before .before .before in
     let a = c .before .before .before .before .enter .ensures .0 (l .plates) (h .plate-count) (h .of-plates) in
-    (step-top-full (jobOf (words s)) (s .args .j .0) (s .args .plate) (s .args .i .0) _ l h (permitted (d .before .before)) _ (left-is d) (d .before .if2 .left) (as-full (entered (jobOf (words s)) (d .cut-leaves .result .top) (l .plates)) _ (c .enum-told .given .1) a), omega arith)
+    (step-top-full (jobOf (words s)) (s .args .j .0) (s .args .plate) (s .args .i .0) _ l h (permitted (d .before .before)) _ (left-is d) (d .before .if2 .left) (as-full (jobOf (words s)) (entered (jobOf (words s)) (d .cut-leaves .result .top) (l .plates)) _ (c .enum-told .given .1) a), omega arith)
 
 enter-requires-2 : tie.Need-enter-requires-2
 enter-requires-2 c κs =
     let s = c .before .before .before .before .before .before .before .before .before .before .before .before .before .before .before .before .before .before in
     let x = c .before .before .before .before .before .before .enter in
     let r : platesSize ≤ _ = s .pre .0 .plate-room in
-    (s .pre .0 .of-job, (subst (λ (n : ℕ). platesSize ≤ n) (sym (x .kept .1 .1 .1 .0)) r, as-few (c .before .before .t .given .1) (x .ensures .1)))
+    (s .pre .0 .of-job, (subst (λ (n : ℕ). platesSize ≤ n) (sym (x .kept .1 .1 .1 .1 .0)) r, as-few (c .before .before .t .given .1) (x .ensures .1)))
 
 returns-4 : tie.Need-returns-4
 returns-4 c l h =
@@ -69,7 +69,7 @@ returns-4 c l h =
     let s = d .before .before .before .before .before .before .before .before in
     let top = entered (jobOf (words s)) (d .cut-leaves .result .top) (l .plates) in
     let a = as-numbered {e = top} (c .before .before .before .before .before .before .before .t .given .1) (c .before .before .before .before .before .before .before .before .before .before .before .enter .ensures .0 (l .plates) (h .plate-count) (h .of-plates)) in
-    (step-right-full (jobOf (words s)) (s .args .j .0) (s .args .plate) (s .args .i .0) _ l h (permitted (d .before .before)) _ (left-is d) (d .before .if2 .left) (as-full (entered (jobOf (words s)) (d .cut-leaves .result .right) (top .plates)) _ (c .enum-told2 .given .1) (c .before .before .before .before .enter2 .ensures .0 (top .plates) (a .types) (a .held))), omega arith)
+    (step-right-full (jobOf (words s)) (s .args .j .0) (s .args .plate) (s .args .i .0) _ l h (permitted (d .before .before)) _ (left-is d) (d .before .if2 .left) (as-full (jobOf (words s)) (entered (jobOf (words s)) (d .cut-leaves .result .right) (top .plates)) _ (c .enum-told2 .given .1) (c .before .before .before .before .enter2 .ensures .0 (top .plates) (a .types) (a .held))), omega arith)
 
 put-cut-requires : tie.Need-put-cut-requires
 put-cut-requires c κs = omega (arith, c .before .before .before .before .before .before .before .before .before .before .before .before .before .before .before .before .before .before .if2 .left, c .before .before .before .before .before .before .before .before .before .before .before .before .before .before .before .before .before .before .before .before .before .before .before .before .before .pre .0 .cut-room)

@@ -8,7 +8,8 @@ use lib.ListN.{length}
 use denote.Ref.{now}
 use Rattle.job.specs.declared.counters.PlateTypes.{PlateTypes}
 use Rattle.job.specs.declared.counters.CutNumber.{CutNumber}
-use Rattle.job.specs.Job.{jobOf, typeOf}
+use Rattle.job.specs.Job.{Job, jobOf, typeOf}
+use Rattle.job.proofs.CodeJobWords.{words-sizes}
 use Rattle.listing.specs.Listing.{Listing, Walk, walk, maxPlates}
 use Rattle.listing_call.specs.Steps.{Here}
 use Rattle.listing_call.proofs.Walking.{restWalk, restRow, last-position, walk-start, walk-end, row-start, row-next, row-stop, row-end, as-next, as-stop}
@@ -16,23 +17,23 @@ use Rattle.listing_call.proofs.walk.walk.Statement.{statement}
 use Rattle.listing_call.proofs.walk.walk.Tie as tie
 
 -- what both invariants say: the rest is the whole walk, and the buffers have kept their lengths
-abbrev Kept : (Listing → Walk) → Walk → List ℕ → List ℕ → List ℕ → List ℕ → PlateTypes → CutNumber → Type 0
-Kept rest whole plates₀ cuts₀ plates cuts m k =
-    Here rest whole plates cuts (m .0) (k .0) × ((length plates ≡ length plates₀) × (length cuts ≡ length cuts₀))
+abbrev Kept : Job → (Listing → Walk) → Walk → List ℕ → List ℕ → List ℕ → List ℕ → PlateTypes → CutNumber → Type 0
+Kept job rest whole plates₀ cuts₀ plates cuts m k =
+    Here job rest whole plates cuts (m .0) (k .0) × ((length plates ≡ length plates₀) × (length cuts ≡ length cuts₀))
 
 abbrev Inv-loop : tie.InvT-loop
-Inv-loop job mode blade n plates₀ cuts₀ last m₀ k₀ j plate i₀ plates cuts m k i =
-    Kept (restRow (jobOf job) j plate i) (walk (jobOf job)) plates₀ cuts₀ plates cuts m k × ((2 ≤ i) × (i ≤ last + 1))
+Inv-loop job mode blade sizes n plates₀ cuts₀ last m₀ k₀ j plate i₀ plates cuts m k i =
+    Kept (jobOf job) (restRow (jobOf job) j plate i) (walk (jobOf job)) plates₀ cuts₀ plates cuts m k × ((2 ≤ i) × (i ≤ last + 1))
 
 abbrev μ-loop : tie.MeasureT-loop
-μ-loop job mode blade n plates₀ cuts₀ last m₀ k₀ j plate i₀ plates cuts m k i = last + 1 - i
+μ-loop job mode blade sizes n plates₀ cuts₀ last m₀ k₀ j plate i₀ plates cuts m k i = last + 1 - i
 
 abbrev Inv-walk : tie.InvT-walk
-Inv-walk job mode blade n plates₀ cuts₀ last m₀ k₀ j₀ plates cuts m k j =
-    Kept (restWalk (jobOf job) j) (walk (jobOf job)) plates₀ cuts₀ plates cuts m k
+Inv-walk job mode blade sizes n plates₀ cuts₀ last m₀ k₀ j₀ plates cuts m k j =
+    Kept (jobOf job) (restWalk (jobOf job) j) (walk (jobOf job)) plates₀ cuts₀ plates cuts m k
 
 abbrev μ-walk : tie.MeasureT-walk
-μ-walk job mode blade n plates₀ cuts₀ last m₀ k₀ j₀ plates cuts m k j = maxPlates - j
+μ-walk job mode blade sizes n plates₀ cuts₀ last m₀ k₀ j₀ plates cuts m k j = maxPlates - j
 
 walk-holds : tie.Need-walk-holds Inv-loop μ-loop Inv-walk μ-walk
 walk-holds c = (walk-start (jobOf (now (c .before .before .before .before .args .job))) (c .before .before .before .before .pre .1), (refl, refl))
@@ -58,6 +59,7 @@ pair-step-requires c κs =
         of-blade = p .of-blade;
         plate-room = omega (arith, p .plate-room, w .1 .0, l .0 .1 .0);
         cut-room = omega (arith, p .cut-room, w .1 .1, l .0 .1 .1);
+        some-plates = omega (arith, words-sizes (p .of-job), l .0 .0 .rep .some-plates);
         few-plates = l .0 .0 .rep .few-plates;
         few-cuts = l .0 .0 .rep .few-cuts;
       },
@@ -77,7 +79,7 @@ loop-again c =
     let x = c .before .before .before .before .before .before .before .pair-step in
     let t = c .before .before .before .before .before .before .before .before .before .before .loop-test .taken in
     let on = row-next (jobOf (now (s .args .job))) (c .before .before .before .before .before .before .before .before .before .before .before .before .before .before .before .before .walk .j) (c .before .before .before .before .before .before .before .before .before .before .before .before .plate-at .result) (l .i) (l .inv .0 .0) (omega (arith, l .inv .1 .0)) (rw (last-position (s .pre .0 .of-job)) t) (as-next (c .before .m1 .given .1) (x .ensures (l .inv .0 .0 .l) (l .inv .0 .0 .rep))) in
-    ((on, (x .kept .1 .1 .1 .1 .0 ∙ l .inv .0 .1 .0, x .kept .1 .1 .1 .1 .1 .0 ∙ l .inv .0 .1 .1)), (omega arith, omega (arith, t)))
+    ((on, (x .kept .1 .1 .1 .1 .1 .0 ∙ l .inv .0 .1 .0, x .kept .1 .1 .1 .1 .1 .1 .0 ∙ l .inv .0 .1 .1)), (omega arith, omega (arith, t)))
 
 add-j : tie.Need-add-j Inv-loop μ-loop Inv-walk μ-walk
 add-j c = omega (arith, c .before .before .before .before .if1 .left, c .before .before .before .before .before .before .walk .inv .0 .rep .few-plates)
@@ -99,17 +101,17 @@ returns c =
 
 same-length-3 : tie.Need-same-length-3 Inv-loop μ-loop Inv-walk μ-walk
 same-length-3 c =
-    c .before .before .before .before .before .before .before .pair-step .kept .1 .1 .1 .1 .0 ∙ c .before .before .before .before .before .before .before .before .before .before .before .loop .inv .0 .1 .0 ∙ c .before .before .before .before .before .before .before .before .before .before .before .before .before .before .before .before .walk .inv .1 .0
+    c .before .before .before .before .before .before .before .pair-step .kept .1 .1 .1 .1 .1 .0 ∙ c .before .before .before .before .before .before .before .before .before .before .before .loop .inv .0 .1 .0 ∙ c .before .before .before .before .before .before .before .before .before .before .before .before .before .before .before .before .walk .inv .1 .0
 
 same-length-4 : tie.Need-same-length-4 Inv-loop μ-loop Inv-walk μ-walk
 same-length-4 c =
-    c .before .before .before .before .before .before .before .pair-step .kept .1 .1 .1 .1 .1 .0 ∙ c .before .before .before .before .before .before .before .before .before .before .before .loop .inv .0 .1 .1 ∙ c .before .before .before .before .before .before .before .before .before .before .before .before .before .before .before .before .walk .inv .1 .1
+    c .before .before .before .before .before .before .before .pair-step .kept .1 .1 .1 .1 .1 .1 .0 ∙ c .before .before .before .before .before .before .before .before .before .before .before .loop .inv .0 .1 .1 ∙ c .before .before .before .before .before .before .before .before .before .before .before .before .before .before .before .before .walk .inv .1 .1
 
 returns-2 : tie.Need-returns-2 Inv-loop μ-loop Inv-walk μ-walk
 returns-2 c =
     let s = c .before .before .before .before .before .before .before .before .before .before .before .before .before .before .before .before .before .before .before .before .before in
     let l = c .before .before .before .before .before .before .before .before .before .before .before .loop in
-    let p = as-stop _ _ (c .before .number .given .1) (c .before .before .before .before .before .before .before .pair-step .ensures (l .inv .0 .0 .l) (l .inv .0 .0 .rep)) in
+    let p = as-stop (jobOf (now (s .args .job))) _ _ (c .before .number .given .1) (c .before .before .before .before .before .before .before .pair-step .ensures (l .inv .0 .0 .l) (l .inv .0 .0 .rep)) in
     (row-stop (jobOf (now (s .args .job))) (c .before .before .before .before .before .before .before .before .before .before .before .before .before .before .before .before .walk .j) (c .before .before .before .before .before .before .before .before .before .before .before .before .plate-at .result) (l .i) (l .inv .0 .0) (omega (arith, l .inv .1 .0)) (rw (last-position (s .pre .0 .of-job)) (c .before .before .before .before .before .before .before .before .before .before .loop-test .taken)) (p .0), p .1)
 
 pub walk-spec : {M : Type 1} → statement M

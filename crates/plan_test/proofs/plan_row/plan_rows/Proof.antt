@@ -10,25 +10,25 @@ use Rattle.plan_test.proofs.plan_row.plan_rows.Statement.{statement}
 use Rattle.plan_test.proofs.plan_row.plan_rows.Tie as tie
 
 returns : tie.Need-returns
-returns c l p e =
+returns c l z p e =
     let a = c .before .before .before .before .before .before .before in
     let k = a .args .k .0 in
     let cuts : length (l .cuts) ≡ k = rw (e, length-cutsFrom) in
     past-refused (jobOf (now (a .args .job))) l k (now (a .args .counts)) cuts _ (c .before .before .before .past-cuts .ensures) (c .before .number .given .1)
 
 returns-2 : tie.Need-returns-2
-returns-2 c l p e =
+returns-2 c l z p e =
     let a = c .before .before .before .before .before .before .before .before in
     let k = a .args .k .0 in
     let cuts : length (l .cuts) ≡ k = rw (e, length-cutsFrom) in
     total-refused (jobOf (now (a .args .job))) l k (now (a .args .counts)) cuts _ (c .before .before .before .before .past-cuts .ensures) (c .before .before .enum-told .given .1) (rw (← c .before .total .ensures) (c .if1 .taken))
 
 returns-3 : tie.Need-returns-3
-returns-3 c l p e =
+returns-3 c l z p e =
     let a = c .before .before .before .before .before .before .before .before .before in
     let k = a .args .k .0 in
     let cuts : length (l .cuts) ≡ k = rw (e, length-cutsFrom) in
-    total-passed (jobOf (now (a .args .job))) l k (now (a .args .counts)) cuts _ (c .before .before .before .before .before .past-cuts .ensures) (c .before .before .before .enum-told .given .1) (rw (← c .before .before .total .ensures) (c .before .if1 .left)) (c .balance .ensures l p e)
+    total-passed (jobOf (now (a .args .job))) l k (now (a .args .counts)) cuts _ (c .before .before .before .before .before .past-cuts .ensures) (c .before .before .before .enum-told .given .1) (rw (← c .before .before .total .ensures) (c .before .if1 .left)) (c .balance .ensures l z p e)
 
 pub plan-rows-spec : {M : Type 1} → statement M
 plan-rows-spec =

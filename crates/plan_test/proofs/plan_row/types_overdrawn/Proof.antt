@@ -15,7 +15,7 @@ use Rattle.plan_test.proofs.plan_row.types_overdrawn.Tie as tie
 
 abbrev Inv-loop : tie.InvT-loop
 Inv-loop on left end j₀ j =
-    (1 ≤ j) × ((ps : List Plate) → length ps ≡ end → lowest 12 (λ i _. ltb (getD left i 0) (getD on i 0)) 1 (drop 1 ps) ≡ lowest 12 (λ i _. ltb (getD left i 0) (getD on i 0)) j (drop j ps))
+    (j₀ ≤ j) × ((ps : List Plate) → length ps ≡ end → lowest 12 (λ i _. ltb (getD left i 0) (getD on i 0)) j₀ (drop j₀ ps) ≡ lowest 12 (λ i _. ltb (getD left i 0) (getD on i 0)) j (drop j ps))
 
 abbrev μ-loop : tie.MeasureT-loop
 μ-loop on left end j₀ j = end - j
@@ -47,6 +47,7 @@ types-overdrawn-spec =
     (tie.spec
     Inv-loop
     μ-loop
+    (λ c. search needs)
     (λ c. search needs)
     loop-holds
     (λ c. search needs)

@@ -8,7 +8,7 @@ use Rattle.job.proofs.CodeAdmission.{passed-length}
 use Rattle.job.proofs.Verdicts.{then-first, then-second}
 use Rattle.listing.specs.Listing.{modelRow, listingOf}
 use Rattle.listing_call.specs.ListSays.{saysOf as listSays}
-use Rattle.listing_call.proofs.CodeEnding.{listingResults, some-types}
+use Rattle.listing_call.proofs.CodeEnding.{listingResults, sizes-listed}
 use Rattle.plan.specs.Prices.{pricesOf, priceWords, pricesSized, pricesRow}
 use Rattle.plan_test.proofs.CodeCall.{zeros, first-refused, both-passed, second-refused}
 use Rattle.plan_test.proofs.CodeListed.{Ready, ready}
@@ -19,12 +19,12 @@ use Rattle.price_test.proofs.call.price_into.Statement.{statement}
 use Rattle.price_test.proofs.call.price_into.Tie as tie
 
 -- once the job is listed, the cuts that are read are those of its listing
-listed : (c : tie.After-head-of) → Ready (now (c .before .before .before .before .before .before .before .before .before .before .before .before .before .before .before .args .job)) (c .before .before .before .before .before .before .before .before .list-into .last .1 .1 .0) (c .head-of .result .types .0) (c .before .before .m .given .0 .0 .0) (c .before .before .m .given .0 .1 .0 .0)
+listed : (c : tie.After-head-of) → Ready (now (c .before .before .before .before .before .before .before .before .before .before .before .before .before .before .before .args .job)) (c .before .before .before .before .before .before .before .before .list-into .last .1 .1 .0) (c .head-of .result .sizes .0) (c .head-of .result .types .0) (c .before .before .m .given .0 .0 .0) (c .before .before .m .given .0 .1 .0 .0)
 listed c =
     let s = c .before .before .before .before .before .before .before .before .before .before .before .before .before .before .before in
     let x = c .before .before .before .before .before .before .before .before .list-into in
     let ws = now (s .args .job) in
-    ready ws (now (s .args .cuts)) _ _ _ _ (then-first (jobWords ws) _ (s .pre .0)) (then-second (priceWords (now (s .args .prices))) _ (then-second (jobWords ws) _ (s .pre .0))) (c .head-of .ensures .of-types) (sym (ap listSays (c .before .before .m .given .1)) ∙ x .ensures .1 .0) (some-types (c .before .before .m .given .1) (x .ensures .0)) (x .ensures .1 .1 .1) (x .kept .1 .1 .0) (s .pre .1 .1)
+    ready ws (now (s .args .cuts)) _ _ _ _ _ (then-first (jobWords ws) _ (s .pre .0)) (then-second (priceWords (now (s .args .prices))) _ (then-second (jobWords ws) _ (s .pre .0))) (c .head-of .ensures .of-sizes) (c .head-of .ensures .of-types) (sym (ap (listSays (jobOf ws)) (c .before .before .m .given .1)) ∙ x .ensures .1 .0) (sizes-listed (jobOf ws) (c .before .before .m .given .1) (x .ensures .0)) (x .ensures .1 .1 .1) (x .kept .1 .1 .0) (s .pre .1 .1)
 
 list-into-requires : tie.Need-list-into-requires
 list-into-requires c κs = let s = c .before .before .before .before .before .before in (then-first (jobWords (now (s .args .job))) _ (s .pre .0), s .pre .1)
@@ -36,7 +36,7 @@ price-rows-requires : tie.Need-price-rows-requires
 price-rows-requires c κs =
     let s = c .before .before .before .before .before .before .before .before .before .before .before .before .before .before .before .before in
     let ws = now (s .args .job) in
-    (listed (c .before) .lent, (some-types (c .before .before .before .m .given .1) (c .before .before .before .before .before .before .before .before .before .list-into .ensures .0), (then-first (jobWords ws) _ (s .pre .0), then-first (priceWords (now (s .args .prices))) _ (then-second (jobWords ws) _ (s .pre .0)))))
+    (listed (c .before) .lent, (then-first (jobWords ws) _ (s .pre .0), then-first (priceWords (now (s .args .prices))) _ (then-second (jobWords ws) _ (s .pre .0))))
 
 returns : tie.Need-returns
 returns c =
@@ -46,7 +46,7 @@ returns c =
     let job = jobOf ws in
     let listing = listingOf job in
     let x = c .before .before .before .before .before .before .before .list-into .ensures .1 in
-    first-refused ws (now (a .plates)) (now (a .cuts)) _ _ (modelRow job) (pricesSized job listing ps then pricesRow listing (pricesOf job ps)) (listingResults ws) (sumAndD job ps) (sym (ap listSays (c .before .number .given .1)) ∙ x .0) (x .1 .0) (x .1 .1)
+    first-refused ws (now (a .plates)) (now (a .cuts)) _ _ (modelRow job) (pricesSized job listing ps then pricesRow job listing (pricesOf job ps)) (listingResults ws) (sumAndD job ps) (sym (ap (listSays job) (c .before .number .given .1)) ∙ x .0) (x .1 .0) (x .1 .1)
 
 returns-2 : tie.Need-returns-2
 returns-2 c =
@@ -57,7 +57,7 @@ returns-2 c =
     let listing = listingOf job in
     let x = c .before .before .before .before .before .before .before .before .before .before .before .before .before .list-into .ensures .1 in
     let r = listed (c .before .before .before .before .before) in
-    both-passed ws (now (a .plates)) (now (a .cuts)) _ _ (modelRow job) (pricesSized job listing ps then pricesRow listing (pricesOf job ps)) (listingResults ws) (sumAndD job ps) (sym (ap listSays (c .before .before .before .before .before .before .before .m .given .1)) ∙ x .0) (sym (ap saysOf (c .before .sum .given .1)) ∙ c .before .before .before .price-rows .ensures listing (r .types) (r .listed)) (x .1 .0) (x .1 .1)
+    both-passed ws (now (a .plates)) (now (a .cuts)) _ _ (modelRow job) (pricesSized job listing ps then pricesRow job listing (pricesOf job ps)) (listingResults ws) (sumAndD job ps) (sym (ap (listSays job) (c .before .before .before .before .before .before .before .m .given .1)) ∙ x .0) (sym (ap saysOf (c .before .sum .given .1)) ∙ c .before .before .before .price-rows .ensures listing (r .sizes) (r .types) (r .listed)) (x .1 .0) (x .1 .1)
 
 returns-3 : tie.Need-returns-3
 returns-3 c =
@@ -68,7 +68,7 @@ returns-3 c =
     let listing = listingOf job in
     let x = c .before .before .before .before .before .before .before .before .before .before .before .before .before .before .before .before .before .before .before .before .before .list-into in
     let r = listed (c .before .before .before .before .before .before .before .before .before .before .before .before .before) in
-    second-refused ws (now (a .plates)) (now (a .cuts)) _ _ (modelRow job) (pricesSized job listing ps then pricesRow listing (pricesOf job ps)) (listingResults ws) (sumAndD job ps) (sym (ap listSays (c .before .before .before .before .before .before .before .before .before .before .before .before .before .before .before .m .given .1)) ∙ x .ensures .1 .0) (sym (ap saysOf (c .before .before .before .before .before .before .before .before .before .number2 .given .1)) ∙ c .before .before .before .before .before .before .before .before .before .before .before .price-rows .ensures listing (r .types) (r .listed)) (prices-not5 job listing ps (pricesOf job ps)) (c .before .before .before .before .before .before .clear .ensures ∙ ap zeros (x .kept .1 .0)) (c .before .before .clear2 .ensures ∙ ap zeros (x .kept .1 .1 .0))
+    second-refused ws (now (a .plates)) (now (a .cuts)) _ _ (modelRow job) (pricesSized job listing ps then pricesRow job listing (pricesOf job ps)) (listingResults ws) (sumAndD job ps) (sym (ap (listSays job) (c .before .before .before .before .before .before .before .before .before .before .before .before .before .before .before .m .given .1)) ∙ x .ensures .1 .0) (sym (ap saysOf (c .before .before .before .before .before .before .before .before .before .number2 .given .1)) ∙ c .before .before .before .before .before .before .before .before .before .before .before .price-rows .ensures listing (r .sizes) (r .types) (r .listed)) (prices-not5 job listing ps (pricesOf job ps)) (c .before .before .before .before .before .before .clear .ensures ∙ ap zeros (x .kept .1 .0)) (c .before .before .clear2 .ensures ∙ ap zeros (x .kept .1 .1 .0))
 
 pub price-into-spec : {M : Type 1} → statement M
 price-into-spec =

@@ -25,7 +25,7 @@ returns-3 c ws rs r kept here line held =
     let g = c .before .before .before .before .before .before .before .model .given in
     let known = kept-modelled ws (now (s .args .plates)) (now (s .args .cuts)) (s .args .model) _ _ (g .1) (s .pre .0 .1 .1 .0) kept in
     let plates = kept-plates ws (now (s .args .plates)) (now (s .args .cuts)) (s .args .model) _ _ (g .1) kept in
-    rw (g .1) (c .before .before .more .ensures (listingOf (jobOf ws)) (bodyLine ws) rs r plates (known .is-ready .listed) (known .rising) here line (rw (g .1) at held))
+    rw (g .1) (c .before .before .more .ensures (jobOf ws) (listingOf (jobOf ws)) (bodyLine ws) rs r plates (known .is-ready .listed) (known .rising) here line (rw (g .1) at held))
 
 pub count-line-spec : {M : Type 1} → statement M
 count-line-spec =

@@ -8,7 +8,7 @@ use Rattle.saw_text_lines.proofs.held.take_item_price.Statement.{statem
 use Rattle.saw_text_lines.proofs.held.take_item_price.Tie as tie
 
 returns : tie.Need-returns
-returns c s lines job plates cuts counts e kept =
+returns c s lines job plates cuts counts e sizes kept =
     let a = c .before .before .before .before .args in
     item-price-refused s lines _ (a .i) (now (a .numbers)) job plates cuts counts (now (a .prices)) (a .held) e (c .before .item-price-line .ensures) kept (c .if1 .taken)
 
@@ -19,9 +19,9 @@ cast-prices : tie.Need-cast-prices
 cast-prices c = omega (arith, item-price-judged _ (now (c .before .before .before .before .before .before .args .numbers)) (c .before .before .if1 .left) (c .before .before .before .before .before .before .args .i .0) (c .before .before .before .item-price-line .ensures) .price)
 
 returns-2 : tie.Need-returns-2
-returns-2 c s lines job plates cuts counts e kept =
+returns-2 c s lines job plates cuts counts e sizes kept =
     let a = c .before .before .before .before .before .before .before .before .args in
-    item-price-taken s lines _ (a .i) (now (a .numbers)) job plates cuts counts (now (a .prices)) (a .held) e (c .before .before .before .before .before .item-price-line .ensures) kept _ (c .before .before .before .before .if1 .left) (c .before .before .before .before .before .before .before .before .pre .1) (c .after-item-price .ensures)
+    item-price-taken s lines _ (a .i) (now (a .numbers)) job plates cuts counts (now (a .prices)) (a .held) e (c .before .before .before .before .before .item-price-line .ensures) kept (a .t .0) sizes _ (c .before .before .before .before .if1 .left) (c .before .before .before .before .before .before .before .before .pre .1) (c .after-item-price .ensures)
 
 pub take-item-price-spec : {M : Type 1} → statement M
 take-item-price-spec =

@@ -28,10 +28,15 @@ returns-6 : tie.Need-returns-6
 unfolding sawComplete
 returns-6 c s e = rw (← e, c .enum-told6 .given .1, sawComplete)
 
+returns-7 : tie.Need-returns-7
+unfolding sawComplete
+returns-7 c s e = rw (← e, c .enum-told7 .given .1, sawComplete)
+
 pub may-end-spec : {M : Type 1} → statement M
 may-end-spec =
     tie.close
     (tie.spec
+    (λ c. search needs)
     (λ c. search needs)
     (λ c. search needs)
     (λ c. search needs)
@@ -43,4 +48,5 @@ may-end-spec =
     returns-3
     returns-4
     returns-5
-    returns-6)
+    returns-6
+    returns-7)

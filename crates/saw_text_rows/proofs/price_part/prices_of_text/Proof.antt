@@ -7,12 +7,12 @@ use Rattle.saw_text_rows.proofs.price_part.prices_of_text.Statement.{st
 use Rattle.saw_text_rows.proofs.price_part.prices_of_text.Tie as tie
 
 returns : tie.Need-returns
-returns c l o e f h =
+returns c l o z e f h =
     let a = c .before .before .before .before .before .args in
-    with-prices (jobOf (now (a .job))) l (a .lines) (now (a .prices)) o (c .before .if1 .taken) h (λ ps g. c .prices-given .ensures l ps e f g)
+    with-prices (jobOf (now (a .job))) l (a .lines) (now (a .prices)) o (c .before .if1 .taken) h (λ ps g. c .prices-given .ensures l ps z e f g)
 
 returns-2 : tie.Need-returns-2
-returns-2 c l o e f h =
+returns-2 c l o z e f h =
     let a = c .before .before .before .before .args in
     without-prices (jobOf (now (a .job))) l (a .lines) (now (a .prices)) o (c .if1 .left) h
 

@@ -13,16 +13,16 @@ use Rattle.saw_text_rows.proofs.unfolding_part.write_plan.Tie as tie
 unfold-plan-requires : tie.Need-unfold-plan-requires
 unfold-plan-requires c κs =
     let s = c .before .before .before .before .before .before .before .before in
-    (s .pre .0, (s .pre .1 .0, (s .pre .1 .1 .0, (s .pre .1 .1 .1 .0, (s .pre .1 .1 .1 .1 .0, cleared 1 refl)))))
+    (s .pre .0, (s .pre .1 .0, (s .pre .1 .1 .0, (s .pre .1 .1 .1 .0, cleared 1 refl))))
 
 write-unfolding-requires : tie.Need-write-unfolding-requires
 write-unfolding-requires c κs =
     let s = c .before .before .before .before .before .before .before .before .before .before .before .before .before .before .before .before .before in
     let a = s .args in
-    let p = pieces-fit (now (a .job)) (now (a .plates)) (now (a .cuts)) (now (a .counts)) (a .k .0) (s .pre .0) (s .pre .1 .0 .1) _ _ _ (sym (ap saysOf (c .before .before .before .used .given .1)) ∙ c .before .before .before .before .before .before .before .before .unfold-plan .ensures .0) in
+    let p = pieces-fit (now (a .job)) (now (a .plates)) (now (a .cuts)) (now (a .counts)) (a .k .0) (s .pre .0) (s .pre .1 .0 .1) _ _ _ (sym (ap saysOf (c .before .before .before .pieces .given .1)) ∙ c .before .before .before .before .before .before .before .before .unfold-plan .ensures .0) in
     let kept = c .before .before .before .before .before .before .before .before .unfold-plan .kept .1 .1 .1 .1 .1 .1 .1 .0 in
-    let placed = s .pre .1 .1 .1 .1 .0 in
-    let room = s .pre .1 .1 .1 .1 .1 in
+    let placed = s .pre .1 .1 .1 .0 in
+    let room = s .pre .1 .1 .1 .1 in
     (omega (arith, p, room), omega (arith, p, kept, placed))
 
 returns : tie.Need-returns
@@ -36,7 +36,7 @@ returns-2 c =
     let s = c .before .before .before .before .before .before .before .before .before .before .before .before .before .before .before .before .before .before .before .before in
     let a = s .args in
     let held = c .before .before .before .before .before .before .before .before .before .before .before .unfold-plan .ensures .1 .0 in
-    (plan-written (now (a .job)) (now (a .plates)) (now (a .cuts)) (now (a .counts)) (a .k .0) (s .pre .0) (s .pre .1 .0 .1) _ _ _ (sym (ap saysOf (c .before .before .before .before .before .before .used .given .1)) ∙ c .before .before .before .before .before .before .before .before .before .before .before .unfold-plan .ensures .0) (a .sum) (a .d) held (c .before .before .write-unfolding .ensures), held)
+    (plan-written (now (a .job)) (now (a .plates)) (now (a .cuts)) (now (a .counts)) (a .k .0) (s .pre .0) (s .pre .1 .0 .1) _ _ _ (sym (ap saysOf (c .before .before .before .before .before .before .pieces .given .1)) ∙ c .before .before .before .before .before .before .before .before .before .before .before .unfold-plan .ensures .0) (a .cost) (a .sum) (a .d) held (c .before .before .write-unfolding .ensures), held)
 
 pub write-plan-spec : {M : Type 1} → statement M
 write-plan-spec =

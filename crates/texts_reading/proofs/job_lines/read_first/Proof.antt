@@ -10,7 +10,7 @@ use borrow.Author.Needs.{needs}
 use Rattle.texts_reading.proofs.job_lines.read_first.Statement.{statement}
 use Rattle.texts_reading.proofs.job_lines.read_first.Tie as tie
 
-sized : (c : tie.After-put-words-arg) → length (now (c .before .before .before .before .before .args .numbers)) ≡ 7
+sized : (c : tie.After-put-words-arg) → length (now (c .before .before .before .before .before .args .numbers)) ≡ 6
 sized c = shape-groups jobLine _ (first-shape (now (c .before .before .before .before .before .args .numbers)) (now (c .before .before .before .before .before .args .job)) _ (c .before .before .job-line .ensures) (c .before .if1 .left))
 
 returns : tie.Need-returns

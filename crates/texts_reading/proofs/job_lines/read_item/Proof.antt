@@ -10,15 +10,18 @@ use borrow.Author.Needs.{needs}
 use Rattle.texts_reading.proofs.job_lines.read_item.Statement.{statement}
 use Rattle.texts_reading.proofs.job_lines.read_item.Tie as tie
 
-sized : (c : tie.After-struct-known) → length (now (c .before .before .before .before .before .before .args .numbers)) ≡ 6
+sized : (c : tie.After-struct-known) → length (now (c .before .before .before .before .before .before .before .args .numbers)) ≡ 6
 sized c =
-    let a = c .before .before .before .before .before .before .args in
-    shape-groups (itemLine (a .i .0)) _ (item-shape (a .i .0) (now (a .numbers)) (now (a .job)) _ (c .before .before .before .item-line .ensures) (c .before .before .if1 .left))
+    let a = c .before .before .before .before .before .before .before .args in
+    shape-groups (itemLine (a .i .0)) _ (item-shape (a .i .0) (now (a .numbers)) (now (a .job)) _ (c .before .before .before .before .item-line .ensures) (c .before .before .before .if1 .left))
 
 returns : tie.Need-returns
 returns c =
     let a = c .before .before .before .before .args in
     item-refused (a .i .0) (now (a .numbers)) (now (a .job)) _ (c .before .item-line .ensures) (c .if1 .taken)
+
+slice-read-sizes : tie.Need-slice-read-sizes
+slice-read-sizes c = omega (arith, c .before .before .before .before .before .pre)
 
 sub-put-words-2 : tie.Need-sub-put-words-2
 sub-put-words-2 c = omega (arith, sized c)
@@ -28,16 +31,16 @@ part-put-words-start c = omega (arith, sized c)
 
 put-words-requires : tie.Need-put-words-requires
 put-words-requires c κs =
-    let a = c .before .before .before .before .before .before .before in
+    let a = c .before .before .before .before .before .before .before .before in
     let ns = now (a .args .numbers) in
     let s = itemLine (a .args .i .0) in
-    let o = item-shape (a .args .i .0) ns (now (a .args .job)) _ (c .before .before .before .before .item-line .ensures) (c .before .before .before .if1 .left) in
-    (omega (arith, part-size s ns 2 refl (omega arith) o, a .pre .1), part-words s ns 2 refl (omega arith) o)
+    let o = item-shape (a .args .i .0) ns (now (a .args .job)) _ (c .before .before .before .before .before .item-line .ensures) (c .before .before .before .before .if1 .left) in
+    (omega (arith, part-size s ns 2 refl (omega arith) o, a .pre), part-words s ns 2 refl (omega arith) o)
 
 returns-2 : tie.Need-returns-2
 returns-2 c =
-    let a = c .before .before .before .before .before .before .before .before .before .before in
-    item-read (a .args .i .0) (now (a .args .numbers)) (now (a .args .job)) _ (c .before .before .before .before .before .before .before .item-line .ensures) (c .before .before .before .before .before .before .if1 .left) (a .pre .0) (a .pre .1) (c .before .before .put-words .ensures)
+    let a = c .before .before .before .before .before .before .before .before .before .before .before in
+    item-read (a .args .i .0) (now (a .args .numbers)) (now (a .args .job)) _ (c .before .before .before .before .before .before .before .before .item-line .ensures) (c .before .before .before .before .before .before .before .if1 .left) (a .pre .0) (a .pre .1) (c .before .before .put-words .ensures)
 
 pub read-item-spec : {M : Type 1} → statement M
 read-item-spec =
@@ -45,6 +48,10 @@ read-item-spec =
     (tie.spec
     (λ c κs. search needs)
     returns
+    slice-read-sizes
+    (λ c. search needs)
+    (λ c. search needs)
+    (λ c. search needs)
     (λ c. search needs)
     (λ c. search needs)
     (λ c. search needs)

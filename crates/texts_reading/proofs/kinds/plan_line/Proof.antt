@@ -5,10 +5,10 @@ use Rattle.texts_reading.proofs.kinds.plan_line.Statement.{statement}
 use Rattle.texts_reading.proofs.kinds.plan_line.Tie as tie
 
 cast-t7 : tie.Need-cast-t7
-cast-t7 c = omega (arith, c .shared-slice-known3 .given 4)
+cast-t7 c = omega (arith, c .shared-slice-known3 .given 3)
 
 judge-turn-requires : tie.Need-judge-turn-requires
-judge-turn-requires c κs = omega (arith, c .before .before .shared-slice-known3 .given 4)
+judge-turn-requires c κs = omega (arith, c .before .before .shared-slice-known3 .given 3)
 
 pub plan-line-spec : {M : Type 1} → statement M
 plan-line-spec =

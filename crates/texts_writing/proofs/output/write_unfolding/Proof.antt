@@ -19,7 +19,7 @@ returns c =
     let s = c .before .before .before .before .before .before .before .before .before .before .before in
     let lines = c .before .before .before .before .before .before .before .write-placements in
     wrote-more (lines .ensures) (omega (arith, s .pre, lines-size (s .args .placements .now) (s .args .pieces) (s .pre .1)))
-    (rw (c .before .before .before .is-fewest .ensures) at (c .before .before .write-result .ensures))
+    (rw (c .before .before .before .is-cheapest .ensures) at (c .before .before .write-result .ensures))
 
 pub write-unfolding-spec : {M : Type 1} → statement M
 write-unfolding-spec =

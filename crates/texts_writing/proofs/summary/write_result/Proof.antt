@@ -10,8 +10,8 @@ use Rattle.texts_writing.proofs.summary.write_result.Tie as tie
 returns : tie.Need-returns
 returns c =
     let a = c .before .before .before .before .before .before .before .args in
-    let fewest = c .before .before .before .before .before .flag in
-    wrote-line (8 ∷ a .boards ∷ a .sum ∷ a .d ∷ cond (a .fewest) 1 0 ∷ []) 5 (c .before .before .put-line .ensures ∙ rw (fewest .ensures)) refl refl
+    let cheapest = c .before .before .before .before .before .flag in
+    wrote-line (8 ∷ a .cost ∷ a .sum ∷ a .d ∷ cond (a .cheapest) 1 0 ∷ []) 5 (c .before .before .put-line .ensures ∙ rw (cheapest .ensures)) refl refl
 
 pub write-result-spec : {M : Type 1} → statement M
 write-result-spec =

@@ -7,7 +7,8 @@ use borrow.Author.Needs.{needs}
 use denote.Ref.{now}
 use lib.ListN.{length, take, replicate, length-replicate}
 use Rattle.job.specs.Sizes.{countsSize}
-use Rattle.unfold_call.proofs.CodeAccepted.{copy-counted, copy-boards, copy-few, copy-few-offcuts, copy-results, copy-words, copy-list}
+use Rattle.job.proofs.SizeWords.{sizes-length}
+use Rattle.unfold_call.proofs.CodeAccepted.{copy-counted, copy-few, copy-few-offcuts, copy-results, copy-words, copy-list}
 use Rattle.unfold_call.proofs.call.unfold_plan.Statement.{statement}
 use Rattle.unfold_call.proofs.call.unfold_plan.Tie as tie
 
@@ -34,12 +35,12 @@ run-requires c κs =
     let e = copy (now (a .counts)) (c .before .before .before .before .before .copy-counts .ensures) in (
       lent,
       (
-        (copy-counted (now (a .job)) (lent .admitted) (lent .model) (now (a .counts)) (p .0 .0) (p .0 .1) e (a .k .0) (lent .cuts-number), copy-boards (now (a .job)) (lent .admitted) (lent .model) (now (a .counts)) (p .0 .0) (p .0 .1) e (a .boards) (p .1 .0)),
+        (copy-counted (now (a .job)) (lent .admitted) (lent .model) (now (a .counts)) (p .0 .0) (p .0 .1) e (a .k .0) (lent .cuts-number), c .before .before .before .head-of .ensures .of-sizes ∙ sym (sizes-length (now (a .job)) (omega (arith, lent .words)))),
         (
-          (p .1 .1 .0, p .1 .1 .1 .0),
+          (p .1 .0, p .1 .1 .0),
           (
             (copy-few (now (a .job)) (lent .admitted) (lent .model) (now (a .counts)) (p .0 .0) (p .0 .1) e, copy-few-offcuts (now (a .job)) (lent .admitted) (lent .model) (now (a .counts)) (p .0 .0) (p .0 .1) e),
-            (p .1 .1 .1 .1, c .before .before .before .head-of .ensures .of-blade),
+            (p .1 .1 .1, c .before .before .before .head-of .ensures .of-blade),
           ),
         ),
       ),

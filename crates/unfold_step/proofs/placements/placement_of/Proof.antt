@@ -10,7 +10,7 @@ returns : tie.Need-returns
 returns c =
     let p = c .before .args .p in
     let e : 2 * (p .item .0 / 2) + p .item .0 % 2 ≡ p .item .0 = omega arith in
-    (ap (λ (q : ℕ). record { turn = turnOf (p .turn); item = q; x = p .x; y = p .y }) e, omega arith)
+    (ap (λ (q : ℕ). record { turn = turnOf (c .before .args .size .0) (p .turn); item = q; x = p .x; y = p .y }) e, omega arith)
 
 pub placement-of-spec : {M : Type 1} → statement M
 placement-of-spec = tie.close (tie.spec returns)

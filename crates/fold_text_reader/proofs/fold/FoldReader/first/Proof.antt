@@ -1,8 +1,9 @@
--- `first` reads line 1, and line 2 of type 1 comes next.
+-- `first` reads line 1, and line 10 of size 0 comes next.
 use mathlib.Core.List.{[], _∷_}
 use denote.Ref.{now}
 use Rattle.texts.specs.Shape.{jobLine}
-use Rattle.fold_text_reader.proofs.CodeLines.{numbers-refused, admits-first, first-step}
+use Rattle.fold_text_reader.proofs.CodeLines.{numbers-refused, admits-first}
+use Rattle.fold_text_reader.proofs.CodeAdmitted.{first-step}
 use borrow.Author.Needs.{needs}
 use Rattle.fold_text_reader.proofs.fold.FoldReader.first.Statement.{statement}
 use Rattle.fold_text_reader.proofs.fold.FoldReader.first.Tie as tie

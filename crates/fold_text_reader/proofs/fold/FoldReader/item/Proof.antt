@@ -4,7 +4,8 @@ use mathlib.Core.List.{[], _∷_}
 use native.Mathlib.Omega.{arith}
 use denote.Ref.{now}
 use Rattle.texts.specs.Shape.{itemLine}
-use Rattle.fold_text_reader.proofs.CodeLines.{numbers-refused, admits-item, item-last, item-next}
+use Rattle.fold_text_reader.proofs.CodeLines.{numbers-refused, admits-item}
+use Rattle.fold_text_reader.proofs.CodeAdmitted.{item-last, item-next}
 use borrow.Author.Needs.{needs}
 use Rattle.fold_text_reader.proofs.fold.FoldReader.item.Statement.{statement}
 use Rattle.fold_text_reader.proofs.fold.FoldReader.item.Tie as tie

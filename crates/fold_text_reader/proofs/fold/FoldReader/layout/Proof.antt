@@ -6,26 +6,27 @@ use native.Mathlib.Omega.{arith}
 use denote.Ref.{now}
 use lib.ListN.{length, length-drop}
 use lib.Seq.{getD-take}
-use Rattle.job.specs.Sizes.{maxTypes, wordsOfPlacement, jobSize}
+use Rattle.job.specs.Sizes.{maxSizes, maxTypes, wordsOfPlacement, jobSize}
 use Rattle.texts.specs.Shape.{layoutLine}
-use Rattle.texts.specs.JobLines.{typesOf}
+use Rattle.texts.specs.JobLines.{boardSizes, typesOf}
 use Rattle.texts.proofs.ShapeLaws.{shape-groups}
 use Rattle.texts_reading.specs.declared.text.Place.{Place}
 use Rattle.texts_reading.proofs.CodeJobLines.{passed, of-shape, shape-words}
 use Rattle.fold_text_reader.specs.FoldKept.{heldWords, PlaceReady}
-use Rattle.fold_text_reader.proofs.CodeLines.{numbers-refused, admits-layout, layout-step}
+use Rattle.fold_text_reader.proofs.CodeLines.{numbers-refused, admits-layout}
+use Rattle.fold_text_reader.proofs.CodeAdmitted.{layout-step}
 use borrow.Author.Needs.{needs}
 use Rattle.fold_text_reader.proofs.fold.FoldReader.layout.Statement.{statement}
 use Rattle.fold_text_reader.proofs.fold.FoldReader.layout.Tie as tie
 
--- the job has at most 40 types
-few-types : (s : tie.Start) → typesOf (now (s .args .job)) ≤ maxTypes
-few-types s = subst (λ (p : Place). PlaceReady p (typesOf (now (s .args .job))) (s .args .self .rows)) (s .pre .0 .0) (s .pre .1 .place)
+-- the job has at most 6 sizes and 40 types
+few : (s : tie.Start) → (boardSizes (now (s .args .job)) ≤ maxSizes) × (typesOf (now (s .args .job)) ≤ maxTypes)
+few s = subst (λ (p : Place). PlaceReady p (boardSizes (now (s .args .job))) (typesOf (now (s .args .job))) (s .args .self .rows)) (s .pre .0 .0) (s .pre .1 .place)
 
 layout-refusal-requires : tie.Need-layout-refusal-requires
 layout-refusal-requires c κs =
     let s = c .before .before .before .before in
-    (s .pre .1 .job-size, few-types s)
+    (s .pre .1 .job-size, few s)
 
 returns : tie.Need-returns
 returns c =
@@ -43,9 +44,11 @@ keep-row-requires c κs =
     let job = now (s .args .job) in
     let ws = heldWords job in
     let o = of-shape 1 (layoutLine ws) ns (passed 1 (c .before .if1 .left) (c .before .before .layout-refusal .ensures 1)) in
-    let n : typesOf ws ≡ typesOf job = getD-take (jobSize (typesOf job)) job 4 0 (omega arith) in
+    let all = jobSize (boardSizes job) (typesOf job) in
+    let z : boardSizes ws ≡ boardSizes job = getD-take all job 2 0 (omega arith) in
+    let n : typesOf ws ≡ typesOf job = getD-take all job 3 0 (omega arith) in
     let size : length ns ≡ suc wordsOfPlacement = shape-groups (layoutLine ws) ns o in
-    (s .pre .1 .layouts-size, (size, λ k l. shape-words (layoutLine ws) ns (omega (arith, n, few-types s)) o k (rw length-drop (omega (arith, size, l)))))
+    (s .pre .1 .layouts-size, (size, λ k l. shape-words (layoutLine ws) ns (omega (arith, z, n, few s)) o k (rw length-drop (omega (arith, size, l)))))
 
 returns-2 : tie.Need-returns-2
 returns-2 c =

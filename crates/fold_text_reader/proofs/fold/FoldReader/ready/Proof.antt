@@ -23,15 +23,16 @@ returns-5 c = (λ e. absurd (false≢true e), λ e q. omega (arith, q .few, c .i
 
 returns-6 : tie.Need-returns-6
 returns-6 c =
+    let z = c .before .head-of .ensures .of-sizes in
     let n = c .before .head-of .ensures .of-types in (
       λ e. record {
         text = record { few = c .before .before .before .before .before .before .before .if3 .left; short = omega (arith, c .before .before .before .before .before .if4 .left) };
         few = c .before .before .if5 .left;
         job-size = c .before .before .before .before .before .before .before .before .before .before .if1 .left;
         layouts-size = omega (arith, size-is, c .before .before .before .before .before .before .before .before .before .if2 .left);
-        place = rw n at (c .place-ready .ensures .0 e);
+        place = rw (z, n) at (c .place-ready .ensures .0 e);
       },
-      λ e q. c .place-ready .ensures .1 e (rw n (q .place)),
+      λ e q. c .place-ready .ensures .1 e (rw (z, n) (q .place)),
     )
 
 pub ready-spec : {M : Type 1} → statement M

@@ -11,14 +11,14 @@ use Rattle.saw_text_body.proofs.plan_lines.PlanLines.more.Tie as tie
 
 returns : tie.Need-returns
 unfolding namedCut
-returns c l first rs r plates e rising here line kept =
+returns c job l first rs r plates e rising here line kept =
     let a = c .before .before .before .before .before .before .before .before .before .before .before .args in
     let found = c .before .before .before .before .before .cut-named in
     let k : length (l .cuts) ≡ a .k .0 = ap length e ∙ length-cutsFrom (a .k .0) 0 (a .cuts .now) in
     c .before .before .named .ensures l first rs r here
     (rw (line .plate-is, line .lies) (found .ensures .0 l e rising))
     (omega (arith, k, found .ensures .1))
-    (shown-other l (a .here) r plates line (c .before .before .before .before .shows-other .ensures))
+    (shown-other job l (a .here) r plates line (c .before .before .before .before .shows-other .ensures))
     (line .count-is)
     kept
 

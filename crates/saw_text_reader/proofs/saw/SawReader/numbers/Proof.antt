@@ -11,25 +11,28 @@ use borrow.Author.Needs.{needs}
 use Rattle.saw_text_reader.proofs.saw.SawReader.numbers.Statement.{statement}
 use Rattle.saw_text_reader.proofs.saw.SawReader.numbers.Tie as tie
 
+head-of-requires : tie.Need-head-of-requires
+head-of-requires c κs = omega (arith, c .before .before .before .before .before .before .before .before .before .before .pre .0 .room .for-job)
+
 returns : tie.Need-returns
 returns c =
-    let s = c .before .before .before .before .before .before .before .before .before .before .before in
+    let s = c .before .before .before .before .before .before .before .before .before .before .before .before .before in
     record {
       ready = s .pre .0;
-      kept = λ r k. absurd (not-both (kept-sound (s .args .self .text .place) (r .state) (r .lines) (s .args .self .held) _ (k .text .stands) (k .held)) (sym (c .before .sound .ensures) ∙ not-true _ (c .if1 .taken)));
+      kept = λ r k. absurd (not-both (kept-sound (s .args .self .text .place) (r .state) (r .lines) (s .args .self .held) _ (k .text .stands) (k .held)) (rw (c .before .before .head-of .ensures .of-sizes) at (sym (c .before .sound .ensures) ∙ not-true _ (c .if1 .taken))));
     }
 
 take-numbers-requires : tie.Need-take-numbers-requires
 take-numbers-requires c κs =
-    let s = c .before .before .before .before .before .before .before .before .before .before .before .before .before .before .before .before .before in
-    (s .pre .0 .room, (omega arith, sym (c .before .before .before .before .before .before .before .sound .ensures) ∙ not-false _ (c .before .before .before .before .before .before .if1 .left)))
+    let s = c .before .before .before .before .before .before .before .before .before .before .before .before .before .before .before .before .before .before .before in
+    (s .pre .0 .room, (omega arith, rw (← c .before .before .before .before .before .before .before .before .head-of .ensures .of-sizes) (sym (c .before .before .before .before .before .before .before .sound .ensures) ∙ not-false _ (c .before .before .before .before .before .before .if1 .left))))
 
 admitted-requires : tie.Need-admitted-requires
-admitted-requires c κs = c .before .before .before .before .before .before .before .before .before .before .before .before .before .before .before .before .before .before .before .before .before .before .before .before .before .before .before .before .before .before .before .pre .1
+admitted-requires c κs = c .before .before .before .before .before .before .before .before .before .before .before .before .before .before .before .before .before .before .before .before .before .before .before .before .before .before .before .before .before .before .before .before .before .pre .1
 
 returns-2 : tie.Need-returns-2
 returns-2 c =
-    let s = c .before .before .before .before .before .before .before .before .before .before .before .before .before .before .before .before .before .before .before .before .before .before .before .before .before .before .before .before .before .before .before .before in
+    let s = c .before .before .before .before .before .before .before .before .before .before .before .before .before .before .before .before .before .before .before .before .before .before .before .before .before .before .before .before .before .before .before .before .before .before in
     let a = s .args in
     let took = c .before .before .before .before .before .before .before .before .before .before .before .before .before .before .take-numbers in
     let kept = took .kept .1 .1 .1 .1 in
@@ -39,7 +42,7 @@ returns-2 c =
 
 returns-3 : tie.Need-returns-3
 returns-3 c =
-    let s = c .before .before .before .before .before .before .before .before .before .before .before .before .before .before .before .before .before .before .before .before .before .before .before .before .before .before .before .before .before .before .before .before in
+    let s = c .before .before .before .before .before .before .before .before .before .before .before .before .before .before .before .before .before .before .before .before .before .before .before .before .before .before .before .before .before .before .before .before .before .before in
     let a = s .args in
     let took = c .before .before .before .before .before .before .before .before .before .before .before .before .before .before .take-numbers in
     let kept = took .kept .1 .1 .1 .1 in
@@ -51,7 +54,9 @@ pub numbers-spec : {M : Type 1} → statement M
 numbers-spec =
     tie.close
     (tie.spec
+    head-of-requires
     (λ c κs. search needs)
+    (λ c. search needs)
     returns
     (λ c. search needs)
     take-numbers-requires

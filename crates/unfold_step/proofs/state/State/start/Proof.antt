@@ -9,4 +9,4 @@ start-spec =
     (tie.spec
     (λ c κs. search needs)
     (λ c κs. search needs)
-    (λ c ns. rw (c .before .nothing .ensures, c .none .ensures)))
+    (λ c z ns. rw (c .before .nothing .ensures, c .none .ensures z)))

@@ -17,15 +17,15 @@ use Rattle.unfold_step.proofs.state.State.step.Tie as tie
 returns : tie.Need-returns
 returns c =
     let a = c .before .before .before .before .before .before .before .before .before .before .before .before .args in
-    let idles = step-idle (J (now (a .job))) (L (now (a .job))) (stateOf (a .self) (now (a .counts))) (picked-none (a .self .waiting) (sym (c .before .before .next-of .ensures) ∙ c .enum-told .given .1)) in (
-      sym idles,
-      (ap (λ (s : Step). countsAfter s (now (a .counts))) (sym idles), omega arith),
+    let none = picked-none (a .self .waiting) (sym (c .before .before .next-of .ensures) ∙ c .enum-told .given .1) in (
+      λ z. sym (step-idle (J (now (a .job))) (L (now (a .job))) (stateOf z (a .self) (now (a .counts))) none),
+      (λ z. ap (λ (s : Step). countsAfter s (now (a .counts))) (sym (step-idle (J (now (a .job))) (L (now (a .job))) (stateOf z (a .self) (now (a .counts))) none)), λ j. omega arith),
     )
 
 find-cut-requires : tie.Need-find-cut-requires
 find-cut-requires c κs =
     let s = c .before .before .before .before .before .before .before .before .before .before .before .before .before .before .before in
-    (cuts-there _ _ _ _ (s .pre .0), omega (arith, s .pre .0 .cuts-number, s .pre .1 .0 .counted))
+    (cuts-there _ _ _ _ (s .pre .0), omega (arith, s .pre .0 .cuts-number, s .pre .1 .0 .ready .counted))
 
 returns-2 : tie.Need-returns-2
 returns-2 c =
@@ -34,9 +34,9 @@ returns-2 c =
     let p = c .before .before .before .before .before .before .stage .given in
     let lent = s .pre .0 in
     let took = picked-rest (a .self .waiting) _ (p .0 .1 .0) (c .before .before .before .before .before .before .before .before .next-of .ensures) (p .1) (c .before .before .before .before .without .ensures) in
-    let over = step-over (J (now (a .job))) (L (now (a .job))) (stateOf (a .self) (now (a .counts))) _ took (sym (c .before .before .find-cut .ensures (L (now (a .job)) .cuts) (lent .cuts-number) (lent .cuts-held)) ∙ ap foundMeans (c .enum-told2 .given .1)) in (
-      sym over,
-      (ap (λ (s : Step). countsAfter s (now (a .counts))) (sym over), omega arith),
+    let none = sym (c .before .before .find-cut .ensures (L (now (a .job)) .cuts) (lent .cuts-number) (lent .cuts-held)) ∙ ap foundMeans (c .enum-told2 .given .1) in (
+      λ z. sym (step-over (J (now (a .job))) (L (now (a .job))) (stateOf z (a .self) (now (a .counts))) _ took none),
+      (λ z. ap (λ (s : Step). countsAfter s (now (a .counts))) (sym (step-over (J (now (a .job))) (L (now (a .job))) (stateOf z (a .self) (now (a .counts))) _ took none)), λ j. omega arith),
     )
 
 cut-requires : tie.Need-cut-requires
@@ -47,11 +47,12 @@ cut-requires c κs =
     let lent = s .pre .0 in
     let job = J (now (a .job)) in
     let l = L (now (a .job)) in
-    let st = stateOf (a .self) (now (a .counts)) in
+    let ready = s .pre .1 .0 in
+    let st = stateOf (ready .size) (a .self) (now (a .counts)) in
     let took = picked-rest (a .self .waiting) (p .0 .0) (p .0 .1 .0) (c .before .before .before .before .before .before .before .before .before .before .next-of .ensures) (p .1) (c .before .before .before .before .before .before .without .ensures) in
     let t = taken (pieceOf (p .0 .1 .0)) (p .0 .0) (waitingOf (c .before .before .before .before .before .before .without .result)) in (
       lent,
-      (rest-ready job l (lent .model) st t took (s .pre .1 .0), (found-cuttable job l (lent .model) st t took _ (sym (c .before .before .before .before .find-cut .ensures (l .cuts) (lent .cuts-number) (lent .cuts-held)) ∙ ap foundMeans (c .before .before .c .given .1)) (s .pre .1 .0), s .pre .1 .1)),
+      (record { size = ready .size; ready = rest-ready job l (lent .model) st t took (ready .ready) }, (found-cuttable job l (lent .model) st t took _ (sym (c .before .before .before .before .find-cut .ensures (l .cuts) (lent .cuts-number) (lent .cuts-held)) ∙ ap foundMeans (c .before .before .c .given .1)) (ready .ready), s .pre .1 .1)),
     )
 
 returns-3 : tie.Need-returns-3
@@ -63,10 +64,9 @@ returns-3 c =
     let l = L (now (a .job)) in
     let took = picked-rest (a .self .waiting) (p .0 .0) (p .0 .1 .0) (c .before .before .before .before .before .before .before .before .before .before .before .before .before .next-of .ensures) (p .1) (c .before .before .before .before .before .before .before .before .before .without .ensures) in
     let t = taken (pieceOf (p .0 .1 .0)) (p .0 .0) (waitingOf (c .before .before .before .before .before .before .before .before .before .without .result)) in
-    let found = sym (c .before .before .before .before .before .before .before .find-cut .ensures (l .cuts) (lent .cuts-number) (lent .cuts-held)) ∙ ap foundMeans (c .before .before .before .before .before .c .given .1) in
-    let does = done-step (J (now (a .job))) l (lent .model) (stateOf (a .self) (now (a .counts))) t took _ found in (
-      c .before .before .cut .ensures .0 ∙ does,
-      (c .before .before .cut .ensures .1 .0 ∙ done-spends (J (now (a .job))) l (stateOf (a .self) (now (a .counts))) t _ ∙ ap (λ (s : Step). countsAfter s (now (a .counts))) does, c .before .before .cut .ensures .1 .1),
+    let found = sym (c .before .before .before .before .before .before .before .find-cut .ensures (l .cuts) (lent .cuts-number) (lent .cuts-held)) ∙ ap foundMeans (c .before .before .before .before .before .c .given .1) in (
+      λ z. c .before .before .cut .ensures .0 z ∙ done-step (J (now (a .job))) l (lent .model) (stateOf z (a .self) (now (a .counts))) t took _ found,
+      (λ z. c .before .before .cut .ensures .1 .0 ∙ done-spends (J (now (a .job))) l (stateOf z (a .self) (now (a .counts))) t _ ∙ ap (λ (s : Step). countsAfter s (now (a .counts))) (done-step (J (now (a .job))) l (lent .model) (stateOf z (a .self) (now (a .counts))) t took _ found), c .before .before .cut .ensures .1 .1),
     )
 
 pub step-spec : {M : Type 1} → statement M

@@ -17,16 +17,16 @@ next-place stage t e f = rw (ne-eqb _ _ e, ne-eqb _ _ f, nextTurn, add-one)
 
 returns : tie.Need-returns
 unfolding nextTurn
-returns c = simp (c .before .match .keys1, add-one)
+returns c z = simp (c .before .match .keys1, add-one)
 
 returns-2 : tie.Need-returns-2
 unfolding nextTurn
-returns-2 c = simp (c .before .match .keys2, add-one)
+returns-2 c z = simp (c .before .match .keys2, add-one)
 
 returns-3 : tie.Need-returns-3
-returns-3 c =
+returns-3 c z =
     let a = c .before .before .args in
-    next-place (a .stage) (turnOf (a .self)) (c .before .match .rest .0 .1) (c .before .match .rest .1)
+    next-place (a .stage) (turnOf z (a .self)) (c .before .match .rest .0 .1) (c .before .match .rest .1)
 
 pub next-spec : {M : Type 1} → statement M
 next-spec = tie.close (tie.spec (λ c. search needs) (λ c. search needs) (λ c. search needs) returns returns-2 returns-3)

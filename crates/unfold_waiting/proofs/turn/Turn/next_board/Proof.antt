@@ -5,4 +5,4 @@ use Rattle.unfold_waiting.proofs.turn.Turn.next_board.Statement.{statem
 use Rattle.unfold_waiting.proofs.turn.Turn.next_board.Tie as tie
 
 pub next-board-spec : {M : Type 1} → statement M
-next-board-spec = tie.close (tie.spec (λ c. search needs) (λ c. simp add-one))
+next-board-spec = tie.close (tie.spec (λ c. search needs) (λ c z. simp add-one))

@@ -1,4 +1,4 @@
--- `board` has a piece of type 0 in the first place, and none in the others.
+-- `board` has a piece of the size's plate type in the first place, and none in the others.
 use borrow.Author.Needs.{needs}
 use Rattle.unfold_waiting.proofs.waiting.Waiting.board.Statement.{statement}
 use Rattle.unfold_waiting.proofs.waiting.Waiting.board.Tie as tie

@@ -7,22 +7,22 @@ use Rattle.unfold_waiting.proofs.waiting.Waiting.wait.Statement.{statem
 use Rattle.unfold_waiting.proofs.waiting.Waiting.wait.Tie as tie
 
 returns : tie.Need-returns
-returns c l h = let a = c .before .before .before .args in sym (wait-waste l (a .j .0) (a .x) (a .y) (waitingOf (a .self)) (c .if1 .taken))
+returns c job l h = let a = c .before .before .before .args in sym (wait-waste l (a .j .0) (a .x) (a .y) (waitingOf (a .self)) (c .if1 .taken))
 
 returns-2 : tie.Need-returns-2
-returns-2 c l h =
+returns-2 c job l h =
     let a = c .before .before .before .before .before .args in
-    sym (wait-first l (a .j .0) (a .x) (a .y) (waitingOf (a .self)) (c .before .before .if1 .left) (held-stage l (a .j .0) h (c .before .plate-at .ensures) ∙ c .match .keys1))
+    sym (wait-first l (a .j .0) (a .x) (a .y) (waitingOf (a .self)) (c .before .before .if1 .left) (held-stage job l (a .j .0) h (c .before .plate-at .ensures) ∙ c .match .keys1))
 
 returns-3 : tie.Need-returns-3
-returns-3 c l h =
+returns-3 c job l h =
     let a = c .before .before .before .before .before .args in
-    sym (wait-second l (a .j .0) (a .x) (a .y) (waitingOf (a .self)) (c .before .before .if1 .left) (held-stage l (a .j .0) h (c .before .plate-at .ensures) ∙ c .match .keys2))
+    sym (wait-second l (a .j .0) (a .x) (a .y) (waitingOf (a .self)) (c .before .before .if1 .left) (held-stage job l (a .j .0) h (c .before .plate-at .ensures) ∙ c .match .keys2))
 
 returns-4 : tie.Need-returns-4
-returns-4 c l h =
+returns-4 c job l h =
     let a = c .before .before .before .before .before .args in
-    let s = held-stage l (a .j .0) h (c .before .plate-at .ensures) in
+    let s = held-stage job l (a .j .0) h (c .before .plate-at .ensures) in
     sym (wait-third l (a .j .0) (a .x) (a .y) (waitingOf (a .self)) (c .before .before .if1 .left) (λ e. c .match .rest .0 .1 (sym s ∙ e)) (λ e. c .match .rest .1 (sym s ∙ e)))
 
 pub wait-spec : {M : Type 1} → statement M
