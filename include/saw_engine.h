@@ -1,4 +1,4 @@
-/* The beam saw plan engine as a static library: the calls of document 01 with requests One to Six of document 02, for a host in C.
+/* The beam saw plan engine as a static library: the calls of document 01 with requests One to Seven of document 02, for a host in C.
  *
  * Link target/staticlib/libengine.a, which `rt staticlib engine` writes for x86-64 Linux. Each function is proved to meet its contract in
  * crates/engine/src/calls.rt or, of the two texts, text_calls.rt. It allocates nothing, keeps no state between calls and always returns; of the C library it

@@ -26,6 +26,9 @@ const DEAREST: [u16; 47] = [
     2, 1, 6, 6, 0, 1, 6, 999, 2, 5, 999, 3, 4, 999, 4, 3, 999, 5, 2, 999, 6, 1, 999, 1, 6, 667, 0,
     2, 5, 667, 0, 3, 4, 667, 0, 4, 3, 667, 0, 5, 2, 666, 0, 6, 1, 666, 0,
 ];
+/// One board of 4,000 pieces, of the second of three sizes; no item fits the others, so that their plate
+/// types have no cut.
+const EMPTY_PARTS: [u16; 18] = [2, 0, 3, 1, 0, 1, 1, 1, 160, 100, 1, 1, 1, 1, 2, 2, 4_000, 0];
 
 /// The long texts of a kind.
 pub fn long_texts(kind: Text) -> Vec<Long> {
@@ -40,6 +43,7 @@ pub fn long_texts(kind: Text) -> Vec<Long> {
         ("4,000 cuts counted", &CUTS),
         ("a blade of 20", &WIDEST_BLADE),
         ("six sizes and the highest cost", &DEAREST),
+        ("4,000 pieces, and sizes without a cut", &EMPTY_PARTS),
     ];
     all.extend(jobs.map(|(name, words)| of_job(kind, name, words)));
     for limit in limit_jobs() {

@@ -54,7 +54,7 @@ fn theorems_are_as_many_as_are_asked_for_and_the_same_for_a_seed() {
             .count()
     };
     assert_eq!(files.values().map(ends).sum::<usize>(), 100);
-    assert_eq!(files.len(), 15);
+    assert_eq!(files.len(), 17);
     assert!(summary.contains("together      100 theorems"), "{summary}");
     assert_eq!(first, written(THEOREMS, "again", &["100", "1"]));
     let (others, _) = written(THEOREMS, "other", &["100", "2"]);

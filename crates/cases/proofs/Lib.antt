@@ -26,3 +26,4 @@ pub mod BladeTexts
 pub mod ShownPlates
 pub mod BoardSizes
 pub mod BoardSizeTexts
+pub mod OwnCuts

@@ -91,7 +91,7 @@ pub extern "C" fn saw_test_prices(
 
 // The unfolding call: the values are the numbers of boards, of pieces and of offcuts. `first` and `second` are the two set lengths, which the width and
 // the height of a usable offcut reach. Where it is accepted the values, the placements and the offcuts are those of a set of layouts that is what demand 3
-// says.
+// says, and the unfolding found in the plate types' parts of the counts is the one found by reading all.
 #[no_mangle]
 pub extern "C" fn saw_unfold(
     job: &[u16],

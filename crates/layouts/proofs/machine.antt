@@ -1,5 +1,6 @@
 -- Laws of the unfolding: the search for a cut, the trees that it takes, and the machine that takes them with three pieces waiting.
 pub mod Search
+pub mod OwnCuts
 pub mod NextSize
 pub mod Greedy
 pub mod GreedyEnds

@@ -1,4 +1,5 @@
--- The definitions of this crate: sets of layouts and the words of demand 3, unfolding and what it leaves over, folding, the two calls, demand 3 and what the calls promise by it.
+-- The definitions of this crate: sets of layouts and the words of demand 3, unfolding and what it leaves over, folding, the two calls, demand 3, the unfolding
+-- that looks at a plate type's own cuts alone, and what the calls promise.
 pub mod Layout
 pub mod Placement
 pub mod Rectangle
@@ -14,4 +15,5 @@ pub mod Exact
 pub mod Balance
 pub mod Parts
 pub mod Demand3
+pub mod OwnCuts
 pub mod Promises

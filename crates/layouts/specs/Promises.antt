@@ -1,4 +1,4 @@
--- What a call promises by demand 3 where it succeeds: of the words that it is passed and lent, and of the values that it answers.
+-- What a call promises where it succeeds, by demand 3 and by request Seven: of the words that it is passed and lent, and of the values that it answers.
 use Prim.Native.Nat.{ℕ}
 use mathlib.Core.Path.{_≡_}
 use mathlib.Core.List.{List}
@@ -9,6 +9,7 @@ use Rattle.layouts.specs.Placement.{placementWords, linesOf, itemsOfSet,
 use Rattle.layouts.specs.Lines.{setOf}
 use Rattle.layouts.specs.Offcuts.{Event, offcutsIn, offcutWords}
 use Rattle.layouts.specs.Demand3.{J, L, Named, UnfoldsTo, FoldsTo, Bounds}
+use Rattle.layouts.specs.OwnCuts.{OwnCuts}
 
 -- `ws` are the job's words
 module _ (ws : List ℕ) where
@@ -28,6 +29,9 @@ module _ (ws : List ℕ) where
     -- of each size as many, and as often each type as the plan has; on each board items, offcuts, waste and the blade's swath make its W×H, at most 8,000
     -- offcuts lie inside their boards, at least b apart from each other and from every item
     pub unfolds-to : UnfoldsTo (J ws) (L ws) counts set events
+    -- request Seven: the part of the counts in which a piece's cut is sought holds every cut on its plate type and no other, and the unfolding equals the one
+    -- found by reading all
+    pub own-cuts : OwnCuts (J ws) (L ws)
 
   -- folding: of the layouts passed in, the counts as they end, and "boards and cost" (request Six)
   pub record FoldPromise (layouts counts : List ℕ) (boards cost : ℕ) : Type 0 where

@@ -29,7 +29,7 @@ module _ (ws plates cuts counts : List ℕ) (k : ℕ) (lent : ModelLent ws plate
   pieces-few =
       let none-past = counts-exact (L ws) counts .0 (then-first (countsRow (L ws) counts) (planRow (J ws) (L ws) counts) rows) in
       let feasible = plan-exact (J ws) (L ws) counts .0 (then-second (countsRow (L ws) counts) (planRow (J ws) (L ws) counts) rows) in
-      let u = unfolds (J ws) (L ws) (lent .model) (admitted-sided (J ws) (lent .admitted)) counts none-past feasible in
+      let u = unfolds (J ws) (L ws) (lent .lent .model) (admitted-sided (J ws) (lent .lent .admitted)) counts none-past feasible in
       omega (arith, u .pieces, feasible .few)
 
   module _ (used pieces left : ℕ) (done : given (used ∷ pieces ∷ left ∷ []) ≡ given (results ws counts)) where

@@ -18,6 +18,7 @@ use Rattle.job.proofs.CodeAdmission.{passed-length}
 use Rattle.job.proofs.CodeEnds.{given-pass}
 use Rattle.listing.specs.Listing.{Listing, modelRow, listingOf}
 use Rattle.listing.specs.Model.{Model}
+use Rattle.listing.specs.Records.{cutWords}
 use Rattle.listing.specs.Holds.{Holds}
 use Rattle.listing.specs.ListCall.{platesEnd, cutsEnd}
 use Rattle.listing.proofs.WalkModel.{row-model}
@@ -33,9 +34,10 @@ use Rattle.layouts.specs.Demand3.{J, L}
 use Rattle.layouts.proofs.machine.MachineEnds.{steps-enough, unfolds}
 use Rattle.layouts.proofs.offcuts.AreaBalance.{area-balance}
 use Rattle.layouts.proofs.offcuts.Enough.{offcuts-enough}
+use Rattle.unfold_waiting.specs.Begins.{beginsSize, Begins}
 use Rattle.unfold_waiting.specs.Turns.{maxSteps}
 use Rattle.unfold_offcut.specs.declared.Lengths.{Lengths}
-use Rattle.unfold_step.specs.Ready.{ModelLent}
+use Rattle.unfold_step.specs.Ready.{ModelLent, PartsLent}
 use Rattle.unfold_run.specs.declared.run.Ran.{Ran}
 use Rattle.unfold_run.specs.Going.{Gives, started, startedOffcuts}
 use Rattle.unfold_call.specs.UnfoldSays.{results}
@@ -65,13 +67,30 @@ module _ (ws : List ℕ) (checked : (jobWords ws then admission (jobOf ws)) ≡ 
       let row : modelRow (J ws) ≡ pass = given-pass (modelRow (J ws)) _ e in
       let v : given (r ∷ k ∷ []) ≡ given (listingResults ws) = rw row at e in
       record {
-        words = rw (items-length ws (getD ws 3 0) (passed-length ws job-words)) (passed-length ws job-words);
-        admitted = job-admitted;
-        model = listed-model row;
-        plates-held = record { words = rw n (rw row at p) };
-        cuts-held = record { words = rw m (rw row at c) };
+        lent =
+            record {
+              words = rw (items-length ws (getD ws 3 0) (passed-length ws job-words)) (passed-length ws job-words);
+              admitted = job-admitted;
+              model = listed-model row;
+              plates-held = record { words = rw n (rw row at p) };
+              cuts-held = record { words = rw m (rw row at c) };
+            };
         cuts-number = cc;
       }
+
+-- beside the buffers, the words that say where the cuts of each plate type begin
+pub parts-lent :
+    (ws plates cuts begins : List ℕ) (k : ℕ)
+    → ModelLent ws plates cuts k
+    → length begins ≡ beginsSize
+    → ((job : Job) (l : Listing) → Model job l → length (l .cuts) ≡ k → Holds cuts (cutWords (l .cuts)) → Begins (l .cuts) begins)
+    → PartsLent ws plates cuts begins
+parts-lent ws plates cuts begins k lent n b =
+    record {
+      lent = lent .lent;
+      begins-are = b (jobOf ws) (listingOf (jobOf ws)) (lent .lent .model) (lent .cuts-number) (lent .lent .cuts-held);
+      for-each = omega (arith, lent .lent .model .few-plates);
+    }
 
 -- counts of full size that the plan row of an admitted job accepts
 module _ (ws : List ℕ) (admitted : Admitted (jobOf ws)) (model : Model (jobOf ws) (listingOf (jobOf ws))) (counts : List ℕ) (size : countsSize ≤ length counts) (rows : (countsRow (listingOf (jobOf ws)) counts then planRow (jobOf ws) (listingOf (jobOf ws)) counts) ≡ pass) where
@@ -139,8 +158,8 @@ module _ (ws : List ℕ) (admitted : Admitted (jobOf ws)) (model : Model (jobOf 
 
   -- what the run of the copy asks, and what it gives
   module _ {left : List ℕ} (e : left ≡ copied) where
-    pub copy-counted : (k : ℕ) → length (l .cuts) ≡ k → k ≤ length left
-    copy-counted k n = rw e (omega (arith, copied-counted))
+    pub copy-counted : length (l .cuts) ≤ length left
+    copy-counted = rw e copied-counted
 
     pub copy-few : length (started job l left .placements) ≤ maxPieces
     copy-few = rw e copied-few

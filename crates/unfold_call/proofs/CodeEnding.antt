@@ -25,6 +25,7 @@ use Rattle.layouts.specs.UnfoldCall.{lengthsRow, unfoldVerdict, unfoldingOf, of
 use Rattle.layouts.specs.Demand3.{J, L, Listed, Unfolds}
 use Rattle.layouts.specs.Promises.{UnfoldPromise}
 use Rattle.layouts.proofs.demand.Demand3.{demand3}
+use Rattle.layouts.proofs.demand.OwnCuts.{own-cuts-of-all}
 use Rattle.unfold_call.specs.declared.call.Unfolded.{Unfolded}
 use Rattle.unfold_call.specs.declared.call.Unfolded.the-variants.{Done, Refused}
 use Rattle.unfold_call.proofs.CodeAccepted.{listed-model}
@@ -137,7 +138,7 @@ module _ (ws : List ℕ) (first second : ℕ) (counts plates cuts placements off
       regrouped : (a b c d e f g h i : Verdict) → ((a then b then c then d then e then f then g then h) then i) ≡ (a then b then c then d then e then f then g then h then i)
       regrouped a b c d e f g h i = simp then-assoc
 
-  -- what the call ensures: its answer, the four buffers, and on success demand 3's promise
+  -- what the call ensures: its answer, the four buffers, and on success what it promises by demand 3 and request Seven
   abbrev Called : Unfolded → List ℕ → List ℕ → List ℕ → List ℕ → Type 0
   Called r plates′ cuts′ placements′ offcuts′ =
       (saysOf r ≡ unfoldAnswer ws first second counts plates cuts placements offcuts)
@@ -182,14 +183,18 @@ module _ (ws : List ℕ) (first second : ℕ) (counts plates cuts placements off
           ),
         )
 
-    -- with the rows from the model on passed too, the unfolding is what demand 3 says
+    -- with the rows from the model on passed too, the job is listed, and the unfolding is what demand 3 says
+    listed-so : planTail (jobOf ws) counts ≡ pass → Listed ws
+    listed-so tail =
+        let b = before-passed .0 in
+        then-both (jobWords ws) _ (then-first (jobWords ws) (admission (jobOf ws)) b) (then-both (admission (jobOf ws)) (modelRow (jobOf ws)) (then-second (jobWords ws) (admission (jobOf ws)) b) (then-first (modelRow (jobOf ws)) _ tail))
+
     unfolds-so : planTail (jobOf ws) counts ≡ pass → Unfolds (J ws) (L ws) counts (unfoldingOf ws counts) (eventsOf (J ws) (L ws) counts)
     unfolding unfoldingOf
     unfolds-so tail =
         let b = before-passed in
         let row = then-first (modelRow (jobOf ws)) _ tail in
-        let listed : Listed ws = then-both (jobWords ws) _ (then-first (jobWords ws) (admission (jobOf ws)) (b .0)) (then-both (admission (jobOf ws)) (modelRow (jobOf ws)) (then-second (jobWords ws) (admission (jobOf ws)) (b .0)) row) in
-        demand3 .every-listed ws listed .unfolds counts (record { counted = omega (arith, listed-model ws (b .0) row .few-cuts, b .1 .1 .1 .0); passed = then-second (modelRow (jobOf ws)) _ tail })
+        demand3 .every-listed ws (listed-so tail) .unfolds counts (record { counted = omega (arith, listed-model ws (b .0) row .few-cuts, b .1 .1 .1 .0); passed = then-second (modelRow (jobOf ws)) _ tail })
 
     -- and so are the words that are lent and the values that are answered
     promise-kept :
@@ -217,6 +222,7 @@ module _ (ws : List ℕ) (first second : ℕ) (counts plates cuts placements off
           pieces-over = rw (o, size′);
           offcuts-given = m;
           unfolds-to = u .unfolds-to;
+          own-cuts = own-cuts-of-all ws (listed-so tail);
         }
 
     -- and these rows decide

@@ -36,6 +36,8 @@ use plan_test::plan_row::PlanAnswer;
 use plan_test::plan_row::plan_rows;
 use unfold_offcut::Lengths;
 use unfold_run::run::run;
+use unfold_waiting::begins::BEGINS_SIZE;
+use unfold_waiting::begins::cut_begins;
 use unfold_waiting::counts::copy_counts;
 
 // The boards used, the pieces placed and the offcuts left over; or the number of a refusal and the place that it names.
@@ -44,8 +46,8 @@ pub enum Unfolded {
     Refused(u16, usize),
 }
 
-// Unfolds an accepted plan over a listing of k cuts; the counts are spent from a copy. The offcuts are listed where the
-// list is of full size.
+// Unfolds an accepted plan over a listing of k cuts; the counts are spent from a copy, and where the cuts of each plate type begin is written once,
+// before the run. The offcuts are listed where the list is of full size.
 pub fn unfold_plan(
     job: &[u16],
     counts: &[u16],
@@ -65,6 +67,8 @@ pub fn unfold_plan(
 {
     let mut left = [0u16; COUNTS_SIZE];
     copy_counts(counts, &mut left);
+    let mut begins = [0u16; BEGINS_SIZE];
+    cut_begins(cuts, k, &mut begins);
     let head = head_of(job);
     let r = run(
         job,
@@ -72,7 +76,7 @@ pub fn unfold_plan(
         head.sizes,
         plates,
         cuts,
-        k,
+        &begins,
         lengths,
         &mut left,
         placements,
@@ -168,8 +172,8 @@ fn unfold_checks(
 // cuts 2, counts 3, placements 4, offcuts 5; 6 and 7 of the model, naming 0; 8 a nonzero count past the last cut, naming the cut that it would be; 10 a
 // total above 4,000, naming 0; 11 a type short; 12 a residual type overdrawn. Plates and cuts end as the listing, placements as the nine words of each
 // piece, offcuts as the six words of each piece left over: board, x, y, width, height, and 1 if it is usable, else 0. After 5 all four are unchanged, after
-// another refusal every word of them is 0, after success the unused words are 0. On success the placements are the lines of a set of layouts, and this set
-// and the offcuts are what demand 3 says of an accepted plan.
+// another refusal every word of them is 0, after success the unused words are 0. On success the placements are the lines of a set of layouts, this set
+// and the offcuts are what demand 3 says of an accepted plan, and the unfolding found in the plate types' parts is the one found by reading all.
 pub fn unfold(
     job: &[u16],
     first: u16,

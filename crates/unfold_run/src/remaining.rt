@@ -1,15 +1,13 @@
 // The boards that are left to be opened, size by size in rising number.
 ghost use mathlib.Core.Path.{_≡_};
-ghost use Prim.Native.Nat.{_+_, _-_, _*_, _≤_, _<_};
-ghost use lib.ListN.{length};
-ghost use Rattle.job.specs.Sizes.{wordsOfCut};
+ghost use Prim.Native.Nat.{ℕ, _+_, _-_, _≤_, _<_};
+ghost use Rattle.job.specs.Job.{Job};
 ghost use Rattle.listing.specs.Listing.{Listing};
-ghost use Rattle.listing.specs.Records.{cutWords};
-ghost use Rattle.listing.specs.Holds.{Holds};
+ghost use Rattle.listing.specs.Model.{Model};
+ghost use Rattle.unfold_waiting.specs.Begins.{Begins, PartIn};
 ghost use Rattle.unfold_step.specs.Meaning.{spends};
 ghost use Rattle.unfold_run.specs.Opening.{OpensFrom};
 use job::counters::BoardSizes;
-use job::counters::CutNumber;
 use job::counters::PlateType;
 use unfold_waiting::left::boards_left;
 
@@ -34,9 +32,9 @@ impl Remaining {
     }
 
     // The lowest size that has boards left; where none has, the last size.
-    pub fn next(self, sizes: BoardSizes, cuts: &[u16], k: CutNumber, counts: &[u16]) -> Remaining
-        requires { ⌜ (wordsOfCut * k .0 ≤ length (now cuts)) × ((k .0 ≤ length (now counts)) × (self .size .0 < sizes .0)) ⌝ }
-        ensures { λ r. ⌜ ((l : Listing) → length (l .cuts) ≡ k .0 → Holds (now (cuts .entry)) (cutWords (l .cuts)) → OpensFrom l (sizes .0) self (now (counts .entry)) → OpensFrom l (sizes .0) r (now (counts .entry))) ⌝ }
+    pub fn next(self, sizes: BoardSizes, counts: &[u16], begins: &[u16]) -> Remaining
+        requires { ⌜ (self .size .0 < sizes .0) × ((j : ℕ) → j < sizes .0 → PartIn (now begins) (now counts) j) ⌝ }
+        ensures { λ r. ⌜ ((job : Job) (l : Listing) → Model job l → Begins (l .cuts) (now (begins .entry)) → OpensFrom l (sizes .0) self (now (counts .entry)) → OpensFrom l (sizes .0) r (now (counts .entry))) ⌝ }
         ensures { λ r. ⌜ (r .boards ≡ 0 → sizes .0 ≤ r .size .0 + 1) ⌝ }
     {
         let t = sizes.0;
@@ -50,7 +48,7 @@ impl Remaining {
                 };
             }
             size += 1;
-            boards = boards_left(cuts, k, counts, PlateType(size));
+            boards = boards_left(counts, begins, PlateType(size));
         }
         Remaining {
             size: PlateType(size),

@@ -8,11 +8,10 @@ ghost use Rattle.listing.specs.Holds.{Holds};
 ghost use Rattle.layouts.specs.Unfold.{Run};
 ghost use Rattle.layouts.specs.Offcuts.{Offcut};
 ghost use Rattle.layouts.specs.Demand3.{J, L};
-ghost use Rattle.unfold_step.specs.Ready.{ModelLent};
+ghost use Rattle.unfold_step.specs.Ready.{PartsLent};
 ghost use Rattle.unfold_run.specs.Going.{GoingAt, GoesOn, Advanced, Gives, started, startedOffcuts};
 use crate::remaining::Remaining;
 use job::counters::BoardSizes;
-use job::counters::CutNumber;
 use job::counters::PlateType;
 use placement::put_placement;
 use unfold_offcut::Lengths;
@@ -56,13 +55,13 @@ impl Progress {
         sizes: BoardSizes,
         plates: &[u16],
         cuts: &[u16],
-        k: CutNumber,
+        begins: &[u16],
         lengths: Lengths,
         counts: &mut [u16],
         placements: &mut [u16],
         offcuts: &mut [u16],
     ) -> Advance
-        requires { ⌜ ModelLent (now job) (now plates) (now cuts) (k .0) ⌝ }
+        requires { ⌜ PartsLent (now job) (now plates) (now cuts) (now begins) ⌝ }
         requires { ⌜ GoesOn (J (now job)) (L (now job)) lengths self (now counts) (now placements) (now offcuts) ⌝ }
         requires { ⌜ (blade ≡ J (now job) .blade) × (sizes .0 ≡ length (J (now job) .sizes)) ⌝ }
         ensures { λ r. ⌜ ((whole : Run) (os : List Offcut) (fuel : ℕ) → GoingAt (J (now (job .entry))) (L (now (job .entry))) lengths whole os (suc fuel) self (now (counts .entry)) (now (placements .entry)) (now (offcuts .entry)) → Advanced (J (now (job .entry))) (L (now (job .entry))) lengths whole os fuel self r (now (counts .exit)) (now (placements .exit)) (now (offcuts .exit))) ⌝ }
@@ -76,7 +75,7 @@ impl Progress {
         let pieces = self.pieces;
         let over = self.offcuts;
         let mut at = self;
-        match state.step(job, blade, plates, cuts, k, counts) {
+        match state.step(job, blade, plates, cuts, begins, counts) {
             Step::Placed(item, next) => {
                 put_placement(placements, pieces, placement_of(item, size));
                 let plate = item.plate;
@@ -93,7 +92,7 @@ impl Progress {
                 Advance::On(at)
             }
             Step::Idle => {
-                let open = left.next(sizes, cuts, k, counts);
+                let open = left.next(sizes, counts, begins);
                 if open.boards == 0 {
                     return Advance::Ended;
                 }
@@ -107,22 +106,22 @@ impl Progress {
     }
 }
 
-// The whole unfolding of the counts of k cuts, with the job's blade and its number of sizes. Its offcuts are listed where the list is of full size; their
-// number is given in any case.
+// The whole unfolding of the counts, with the job's blade and its number of sizes; `begins` says where the cuts of each plate type begin. Its offcuts are
+// listed where the list is of full size; their number is given in any case.
 pub fn run(
     job: &[u16],
     blade: u16,
     sizes: BoardSizes,
     plates: &[u16],
     cuts: &[u16],
-    k: CutNumber,
+    begins: &[u16],
     lengths: Lengths,
     counts: &mut [u16],
     placements: &mut [u16],
     offcuts: &mut [u16],
 ) -> Ran
-    requires { ⌜ ModelLent (now job) (now plates) (now cuts) (k .0) ⌝ }
-    requires { ⌜ (k .0 ≤ length (now counts)) × (sizes .0 ≡ length (J (now job) .sizes)) ⌝ }
+    requires { ⌜ PartsLent (now job) (now plates) (now cuts) (now begins) ⌝ }
+    requires { ⌜ (length (L (now job) .cuts) ≤ length (now counts)) × (sizes .0 ≡ length (J (now job) .sizes)) ⌝ }
     requires { ⌜ (Holds (now placements) []) × (placementsSize ≤ length (now placements)) ⌝ }
     requires { ⌜ (length (started (J (now job)) (L (now job)) (now counts) .placements) ≤ maxPieces) × (length (startedOffcuts (J (now job)) (L (now job)) (now counts)) ≤ maxOffcuts) ⌝ }
     requires { ⌜ Holds (now offcuts) [] ⌝ }
@@ -133,7 +132,7 @@ pub fn run(
     let mut at = Progress {
         state: State::start(),
         size: first,
-        boards: boards_left(cuts, k, counts, first),
+        boards: boards_left(counts, begins, first),
         pieces: 0,
         offcuts: 0,
     };
@@ -145,7 +144,7 @@ pub fn run(
             sizes,
             plates,
             cuts,
-            k,
+            begins,
             lengths,
             counts,
             placements,

@@ -26,7 +26,7 @@ use Rattle.layouts.specs.Unfold.{Piece, Waiting, taken, spent, wait, nextTurn, 
 use Rattle.layouts.proofs.trees.Cuts.{IsCut, plateOf, cut-fits, top-number, right-number}
 use Rattle.unfold_waiting.proofs.CodeSearch.{count-falls, spent-at}
 use Rattle.unfold_step.specs.Meaning.{spends}
-use Rattle.unfold_step.specs.Ready.{ModelLent, Cuttable}
+use Rattle.unfold_step.specs.Ready.{JobLent, Cuttable}
 use Rattle.unfold_step.proofs.Inside.{item-across, item-up}
 
 -- a buffer that holds words has room for them
@@ -51,7 +51,7 @@ sides-small job a j = by (at-most-or-above (length (job .sizes)) j)
     by (inl h) = let e : sizeAt job j ≡ noSize = List·getD-eq-default (job .sizes) noSize h in rw e (omega arith, omega arith)
     by (inr h) = let s = a .each-size j h in (s .width-limits .1, s .height-limits .1)
 
-module _ (ws plates cuts : List ℕ) (k : ℕ) (lent : ModelLent ws plates cuts k) where
+module _ (ws plates cuts : List ℕ) (lent : JobLent ws plates cuts) where
   abbrev job : Job
   job = jobOf ws
 
@@ -59,8 +59,8 @@ module _ (ws plates cuts : List ℕ) (k : ℕ) (lent : ModelLent ws plates cuts 
   l = listingOf (jobOf ws)
 
   -- the words of all cuts are there
-  pub cuts-there : wordsOfCut * k ≤ length cuts
-  cuts-there = omega (arith, held-room (lent .cuts-held), cut-words-length (l .cuts), lent .cuts-number)
+  pub cuts-there : wordsOfCut * length (l .cuts) ≤ length cuts
+  cuts-there = omega (arith, held-room (lent .cuts-held), cut-words-length (l .cuts))
 
   -- and those of a plate type
   pub plate-there : (j : ℕ) → j < length (l .plates) → RecordIn wordsOfPlate j plates
@@ -76,7 +76,7 @@ module _ (ws plates cuts : List ℕ) (k : ℕ) (lent : ModelLent ws plates cuts 
 
     -- the words of the cut are there, and they are the cut
     pub cut-there : (1 ≤ c) × (wordsOfCut * c ≤ length cuts)
-    cut-there = (able .from-one, omega (arith, cuts-there, able .to-last, lent .cuts-number))
+    cut-there = (able .from-one, omega (arith, cuts-there, able .to-last))
 
     pub cut-is : (r : CutRecord) → cutIn r ≡ cutRead cuts (c - 1) → cutIn r ≡ cutAt l c
     cut-is r e = e ∙ held-cut (l .cuts) (lent .cuts-held) (c - 1) ∙ cut-place l c (able .from-one)

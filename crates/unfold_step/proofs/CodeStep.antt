@@ -1,8 +1,9 @@
 -- A step of the code, on plain values: what it asks of a cut, and that what it makes is the step that document 01 names.
-use Prim.Native.Nat.{ℕ, _-_}
+use Prim.Native.Nat.{ℕ, _-_, _<_}
 use native.Mathlib.Omega.{arith}
 use mathlib.Core.Path.{_≡_, refl, sym, _∙_}
 use mathlib.Core.Option.{some}
+use lib.ListN.{length}
 use Rattle.job.specs.declared.size.Size.{Size}
 use Rattle.job.specs.Job.{Job, sizeAt}
 use Rattle.listing.specs.Listing.{Listing}
@@ -43,6 +44,10 @@ module _ (job : Job) (l : Listing) (m : Model job l) (st : State) (t : Taken) (e
   -- it is as ready as the state was
   pub rest-ready : Ready job l st → Ready job l (resting st t)
   rest-ready r = record { counted = r .counted; within = taken-in job l m size (st .waiting) t e (r .within) .1; turns = r .turns }
+
+  -- the piece taken is of a plate type of the listing
+  pub taken-listed : Ready job l st → t .piece .plate < length (l .plates)
+  taken-listed r = taken-in job l m size (st .waiting) t e (r .within) .0 .listed
 
   module _ (c : ℕ) (f : search (t .piece .plate) 1 (l .cuts) (st .counts) ≡ some c) where
     -- the cut found can be done on the piece

@@ -2,4 +2,5 @@
 pub mod Steps
 pub mod Inside
 pub mod CodeCut
+pub mod CodeParts
 pub mod CodeStep

@@ -13,18 +13,29 @@ use Rattle.listing.specs.Model.{Model}
 use Rattle.listing.specs.Records.{plateWords, cutWords}
 use Rattle.listing.specs.Holds.{Holds}
 use Rattle.layouts.specs.Unfold.{Piece, Waiting, State}
+use Rattle.unfold_waiting.specs.Begins.{Begins}
 use Rattle.unfold_waiting.specs.Turns.{maxSteps, TurnTo}
 use Rattle.unfold_step.specs.declared.state.State.{State as CodeState}
 use Rattle.unfold_step.specs.Meaning.{stateOf}
 
--- `ws` are the words of an admitted job, and the buffers hold its listing, which has k cuts
-pub record ModelLent (ws plates cuts : List ℕ) (k : ℕ) : Type 0 where
+-- `ws` are the words of an admitted job, and the buffers hold its listing
+pub record JobLent (ws plates cuts : List ℕ) : Type 0 where
   pub words : length ws ≡ jobSize (boardSizes ws) (length (jobOf ws .items))
   pub admitted : Admitted (jobOf ws)
   pub model : Model (jobOf ws) (listingOf (jobOf ws))
   pub plates-held : Holds plates (plateWords (jobOf ws) (listingOf (jobOf ws) .plates))
   pub cuts-held : Holds cuts (cutWords (listingOf (jobOf ws) .cuts))
+
+-- the same, and the listing has k cuts
+pub record ModelLent (ws plates cuts : List ℕ) (k : ℕ) : Type 0 where
+  pub lent : JobLent ws plates cuts
   pub cuts-number : length (listingOf (jobOf ws) .cuts) ≡ k
+
+-- the same, and `begins` has where the cuts of each plate type begin, and a word past the last type (request Seven)
+pub record PartsLent (ws plates cuts begins : List ℕ) : Type 0 where
+  pub lent : JobLent ws plates cuts
+  pub begins-are : Begins (listingOf (jobOf ws) .cuts) begins
+  pub for-each : length (listingOf (jobOf ws) .plates) < length begins
 
 -- a piece is of a plate type of the listing, and lies inside a board of size z (request Six)
 pub record InBoard (z : Size) (l : Listing) (p : Piece) : Type 0 where

@@ -9,7 +9,7 @@ ghost use Rattle.layouts.specs.Demand3.{J, L};
 ghost use Rattle.unfold_waiting.specs.Meaning.{pieceOf, waitingOf, turnOf};
 ghost use Rattle.unfold_waiting.specs.Turns.{TurnTo, maxSteps};
 ghost use Rattle.unfold_step.specs.Meaning.{stateOf, stepMeans, stepSpends, countsAfter};
-ghost use Rattle.unfold_step.specs.Ready.{ModelLent, Cuttable, ReadyOn};
+ghost use Rattle.unfold_step.specs.Ready.{JobLent, PartsLent, Cuttable, ReadyOn};
 use job::counters::CutNumber;
 use job::counters::ItemPosition;
 use job::counters::PlateType;
@@ -76,13 +76,12 @@ impl State {
         blade: u16,
         plates: &[u16],
         cuts: &[u16],
-        k: CutNumber,
         c: CutNumber,
         counts: &mut [u16],
         stage: u16,
         p: Piece,
     ) -> Step
-        requires { ⌜ ModelLent (now job) (now plates) (now cuts) (k .0) ⌝ }
+        requires { ⌜ JobLent (now job) (now plates) (now cuts) ⌝ }
         requires { ⌜ ReadyOn (J (now job)) (L (now job)) self (now counts) ⌝ }
         requires { ⌜ Cuttable (J (now job)) (L (now job)) (now counts) (c .0) (pieceOf p) ⌝ }
         requires { ⌜ blade ≡ J (now job) .blade ⌝ }
@@ -124,10 +123,10 @@ impl State {
         blade: u16,
         plates: &[u16],
         cuts: &[u16],
-        k: CutNumber,
+        begins: &[u16],
         counts: &mut [u16],
     ) -> Step
-        requires { ⌜ ModelLent (now job) (now plates) (now cuts) (k .0) ⌝ }
+        requires { ⌜ PartsLent (now job) (now plates) (now cuts) (now begins) ⌝ }
         requires { ⌜ ReadyOn (J (now job)) (L (now job)) self (now counts) ⌝ }
         requires { ⌜ blade ≡ J (now job) .blade ⌝ }
         ensures { λ r. ⌜ ((z : ℕ) → stepMeans z r (now (counts .exit)) ≡ step (J (now (job .entry))) (L (now (job .entry))) (stateOf z self (now (counts .entry)))) ⌝ }
@@ -146,9 +145,9 @@ impl State {
             waiting: waiting.without(stage),
             turn,
         };
-        let Found::Cut(c) = find_cut(cuts, k, counts, p.plate) else {
+        let Found::Cut(c) = find_cut(counts, begins, p.plate) else {
             return Step::LeftOver(p, rest);
         };
-        rest.cut(job, blade, plates, cuts, k, c, counts, stage, p)
+        rest.cut(job, blade, plates, cuts, c, counts, stage, p)
     }
 }

@@ -1,58 +1,73 @@
--- The search for a cut and the count that it spends, on plain values: what is left to search from a cut on is the whole search.
+-- The search for a count that is left and how one is spent, on plain values: what is left to search from a count on is the whole search.
 use Prim.Native.Nat.{ℕ, zero, suc, _+_, _-_, _≤_, _<_}
 use native.Mathlib.Numerals.{add-one}
 use native.Mathlib.Omega.{arith}
-use mathlib.Core.Path.{_≡_, sym, _∙_}
-use mathlib.Core.Bool.{Bool, true, false, cond, _&&_}
+use mathlib.Core.Path.{_≡_, refl, _∙_}
+use mathlib.Core.Bool.{Bool, true, false, cond}
 use mathlib.Core.List.{List, [], _∷_}
 use mathlib.Core.Option.{Option, none, some}
-use borrow.Author.Tests.{eq-eqb, ne-eqb}
-use lib.Dec.{ltb, eqb}
+use lib.Dec.{ltb}
 use lib.ListN.{length, getD, set, drop, drop-of-length-le}
 use lib.Seq.{drop-cons}
-use Rattle.listing.specs.declared.cut.CutRecord.{CutRecord}
+use borrow.Author.Tests.{lt-ltb, le-ltb}
 use Rattle.listing.specs.Listing.{Cut, noCut}
-use Rattle.listing.specs.Records.{cutWords}
-use Rattle.listing.specs.Holds.{Holds}
-use Rattle.listing.specs.CutRead.{cutIn, cutRead}
-use Rattle.listing.proofs.CodeCuts.{held-cut}
-use Rattle.plan.specs.Plan.{countOf, onPlate}
-use Rattle.layouts.specs.Unfold.{search, spent}
+use Rattle.plan.specs.Plan.{countOf}
+use Rattle.layouts.specs.Unfold.{spent}
+use Rattle.layouts.specs.OwnCuts.{firstLeft}
 
--- whether a cut is on plate type j and has a count left
-abbrev pub isOpen : ℕ → Cut → ℕ → Bool
-isOpen j c n = onPlate j c && ltb 0 n
+module _ (ns : List ℕ) (i : ℕ) {whole : Option ℕ} (w : whole ≡ firstLeft i (drop i ns)) where
+  -- past the last count nothing is found
+  pub left-end : length ns ≤ i → whole ≡ none
+  unfolding firstLeft
+  left-end h = w ∙ rw (drop-of-length-le ns {i = i} h)
 
--- as the code tells it by the cut's record: on its plate type the count decides
-module _ (j n : ℕ) (r : CutRecord) {x : Cut} (e : cutIn r ≡ x) where
-  pub on-its-plate : r .plate .0 ≡ j → ltb 0 n ≡ isOpen j x n
-  unfolding onPlate
-  on-its-plate h = rw (← e, eq-eqb _ _ h)
+  -- the first count that is not 0 is found
+  pub left-here : i < length ns → (getD ns i 0 ≡ 0 → ⊥) → whole ≡ some i
+  unfolding firstLeft
+  left-here h t = w ∙ rw (drop-cons ns i 0 h, lt-ltb 0 (getD ns i 0) (omega arith), firstLeft)
 
-  pub on-another : (r .plate .0 ≡ j → ⊥) → eqb (r .plate .0) j ≡ isOpen j x n
-  unfolding onPlate
-  on-another h = rw (← e, ne-eqb _ _ h)
+  -- else the search goes on with the next
+  pub left-next : i < length ns → getD ns i 0 ≡ 0 → whole ≡ firstLeft (i + 1) (drop (i + 1) ns)
+  unfolding firstLeft
+  left-next h t = w ∙ rw (drop-cons ns i 0 h, le-ltb 0 (getD ns i 0) (omega arith), firstLeft, add-one)
 
--- what the code says of cut c + 1 as it reads it, it says of that cut
-pub open-held : {r t : Bool} {buffer : List ℕ} (cs : List Cut) → Holds buffer (cutWords cs) → (j c : ℕ) (ns : List ℕ) → r ≡ isOpen j (cutRead buffer (c + 1 - 1)) (getD ns (c + 1 - 1) 0) → r ≡ t → isOpen j (getD cs c noCut) (getD ns c 0) ≡ t
-open-held cs h j c ns e t = let i : c + 1 - 1 ≡ c = omega arith in rw (← held-cut cs h c) (sym (rw i at e) ∙ t)
+-- numbered from another cut on, the same count is found
+left-from : (k : ℕ) (ns : List ℕ) (a i : ℕ) → firstLeft k ns ≡ some i → firstLeft (a + k) ns ≡ some (a + i)
+unfolding firstLeft
+left-from k [] a i e = absurd (let z : _≡_ {A = ℕ} 0 1 = cc in omega arith)
+left-from k (n ∷ ns) a i e = by (ltb 0 n) refl (left-from (suc k) ns a i)
+  where
+    by : (t : Bool) → ltb 0 n ≡ t → (firstLeft (suc k) ns ≡ some i → firstLeft (a + suc k) ns ≡ some (a + i)) → firstLeft (a + k) (n ∷ ns) ≡ some (a + i)
+    by true t r =
+        let f : some k ≡ some i = rw (t, firstLeft) at e in
+        let g : k ≡ i = cc in
+        rw (t, firstLeft, g)
+    by false t r = let f : suc (a + k) ≡ a + suc k = omega arith in rw (t, firstLeft, f) (r (rw (t, firstLeft) at e))
 
-module _ (j : ℕ) (cs : List Cut) (ns : List ℕ) (c : ℕ) {whole : Option ℕ} (w : whole ≡ search j (suc c) (drop c cs) (drop c ns)) where
-  -- past the last cut nothing is found
-  pub search-end : length cs ≤ c → whole ≡ none
-  unfolding search
-  search-end h = w ∙ rw (drop-of-length-le cs {i = c} h)
+pub left-shifted : (a i : ℕ) (ns : List ℕ) → firstLeft 0 ns ≡ some i → firstLeft a ns ≡ some (a + i)
+left-shifted a i ns e = let z : a + 0 ≡ a = omega arith in rw z at (left-from 0 ns a i e)
 
-  module _ (h : c < length cs) (g : c < length ns) where
-    -- the first cut that is open is found
-    pub search-here : isOpen j (getD cs c noCut) (getD ns c 0) ≡ true → whole ≡ some (c + 1)
-    unfolding search
-    search-here t = w ∙ rw (drop-cons cs c noCut h, drop-cons ns c 0 g, t, search, add-one)
+pub left-none : (k a : ℕ) (ns : List ℕ) → firstLeft k ns ≡ none → firstLeft a ns ≡ none
+unfolding firstLeft
+left-none k a [] e = refl
+left-none k a (n ∷ ns) e = by (ltb 0 n) refl (left-none (suc k) (suc a) ns)
+  where
+    by : (t : Bool) → ltb 0 n ≡ t → (firstLeft (suc k) ns ≡ none → firstLeft (suc a) ns ≡ none) → firstLeft a (n ∷ ns) ≡ none
+    by true t r = absurd (let f : some k ≡ none = rw (t, firstLeft) at e in let z : _≡_ {A = ℕ} 0 1 = cc in omega arith)
+    by false t r = rw (t, firstLeft) (r (rw (t, firstLeft) at e))
 
-    -- else the search goes on with the next
-    pub search-next : isOpen j (getD cs c noCut) (getD ns c 0) ≡ false → whole ≡ search j (suc (c + 1)) (drop (c + 1) cs) (drop (c + 1) ns)
-    unfolding search
-    search-next t = w ∙ rw (drop-cons cs c noCut h, drop-cons ns c 0 g, t, search, add-one)
+-- what is found stands among the counts
+pub left-among : (k : ℕ) (ns : List ℕ) (i : ℕ) → firstLeft k ns ≡ some i → i < k + length ns
+unfolding firstLeft
+left-among k [] i e = absurd (let z : _≡_ {A = ℕ} 0 1 = cc in omega arith)
+left-among k (n ∷ ns) i e = by (ltb 0 n) refl (left-among (suc k) ns i)
+  where
+    by : (t : Bool) → ltb 0 n ≡ t → (firstLeft (suc k) ns ≡ some i → i < suc k + length ns) → i < k + suc (length ns)
+    by true t r =
+        let f : some k ≡ some i = rw (t, firstLeft) at e in
+        let g : k ≡ i = cc in
+        omega arith
+    by false t r = omega (arith, r (rw (t, firstLeft) at e))
 
 -- the counts after cut k is done once
 pub spent-at : (ns : List ℕ) (k : ℕ) → 1 ≤ k → spent ns k ≡ set ns (k - 1) (getD ns (k - 1) 0 - 1)

@@ -5,6 +5,8 @@ use mathlib.Core.Option.{Option, none, some}
 use Rattle.layouts.specs.Placement.{opened, Turn, turn}
 use Rattle.layouts.specs.Unfold.{Piece, Waiting, waiting}
 use Rattle.unfold_pick.specs.declared.Piece.{Piece as CodePiece}
+use Rattle.unfold_waiting.specs.declared.search.Left.{Left}
+use Rattle.unfold_waiting.specs.declared.search.Left.the-variants.{At, Nothing as NoneLeft}
 use Rattle.unfold_waiting.specs.declared.search.Found.{Found}
 use Rattle.unfold_waiting.specs.declared.search.Found.the-variants.{Cut, Nothing}
 use Rattle.unfold_waiting.specs.declared.turn.Turn.{Turn as CodeTurn}
@@ -24,6 +26,11 @@ waitingOf w = waiting (slotOf (w .first)) (slotOf (w .second)) (slotOf (w .third
 -- where the last item was placed, on a board of size z (request Six)
 abbrev pub turnOf : ℕ → CodeTurn → Turn
 turnOf z t = turn (opened (t .board) z) (t .strip) (t .stack) (t .place)
+
+-- the answer of the search in a part (request Seven): the place of the count there, from 0
+abbrev pub leftMeans : Left → Option ℕ
+leftMeans (At i) = some i
+leftMeans NoneLeft = none
 
 -- the answer of the search
 abbrev pub foundMeans : Found → Option ℕ

@@ -1,21 +1,22 @@
 // The lowest-numbered cut on a plate type that has a count left, and how its count falls.
 ghost use mathlib.Core.Path.{_≡_};
-ghost use mathlib.Core.Bool.{_&&_};
-ghost use mathlib.Core.List.{List};
-ghost use Prim.Native.Nat.{_-_, _*_, _≤_, _<_};
-ghost use lib.Dec.{ltb};
+ghost use Prim.Native.Nat.{_-_, _≤_, _<_};
 ghost use lib.ListN.{length, getD};
-ghost use Rattle.job.specs.Sizes.{wordsOfCut};
-ghost use Rattle.listing.specs.Listing.{Cut};
-ghost use Rattle.listing.specs.Records.{cutWords};
-ghost use Rattle.listing.specs.Holds.{Holds};
-ghost use Rattle.listing.specs.CutRead.{cutRead};
-ghost use Rattle.plan.specs.Plan.{onPlate};
+ghost use Rattle.job.specs.Job.{Job};
+ghost use Rattle.listing.specs.Listing.{Listing};
+ghost use Rattle.listing.specs.Model.{Model};
 ghost use Rattle.layouts.specs.Unfold.{search, spent};
-ghost use Rattle.unfold_waiting.specs.Meaning.{foundMeans};
+ghost use Rattle.layouts.specs.OwnCuts.{firstLeft};
+ghost use Rattle.unfold_waiting.specs.Begins.{Begins, PartIn};
+ghost use Rattle.unfold_waiting.specs.Meaning.{leftMeans, foundMeans};
 use job::counters::CutNumber;
 use job::counters::PlateType;
-use listing::cut::cut_at;
+
+// The place of the first count of a part that is left, from 0, if one is.
+pub enum Left {
+    At(usize),
+    Nothing,
+}
 
 // The cut that is found, if there is one.
 pub enum Found {
@@ -23,31 +24,33 @@ pub enum Found {
     Nothing,
 }
 
-// Whether cut c is on plate type j and has a count left.
-fn is_open(cuts: &[u16], counts: &[u16], c: CutNumber, j: PlateType) -> bool
-    requires { ⌜ (1 ≤ c .0) × ((wordsOfCut * c .0 ≤ length (now cuts)) × (c .0 ≤ length (now counts))) ⌝ }
-    ensures { λ r. ⌜ r ≡ (onPlate (j .0) (cutRead (now (cuts .entry)) (c .0 - 1)) && ltb 0 (getD (now (counts .entry)) (c .0 - 1) 0)) ⌝ }
+// The first count of a part that is left.
+fn first_left(part: &[u16]) -> Left
+    ensures { λ r. ⌜ leftMeans r ≡ firstLeft 0 (now (part .entry)) ⌝ }
 {
-    let cut = cut_at(cuts, c);
-    let plate = cut.plate;
-    let at = c.0 as usize - 1;
-    plate.0 == j.0 && 0 < counts[at]
+    let mut i = 0;
+    while i < part.len() {
+        if part[i] != 0 {
+            return Left::At(i);
+        }
+        i += 1;
+    }
+    Left::Nothing
 }
 
-// The lowest-numbered of k cuts on plate type j that has a count left.
-pub fn find_cut(cuts: &[u16], k: CutNumber, counts: &[u16], j: PlateType) -> Found
-    requires { ⌜ (wordsOfCut * k .0 ≤ length (now cuts)) × (k .0 ≤ length (now counts)) ⌝ }
-    ensures { λ r. ⌜ ((cs : List Cut) → length cs ≡ k .0 → Holds (now (cuts .entry)) (cutWords cs) → foundMeans r ≡ search (j .0) 1 cs (now (counts .entry))) ⌝ }
+// The lowest-numbered cut on plate type j that has a count left: the part of the counts from where its cuts begin to where those of the next type begin is
+// handed on, and no other count is read.
+pub fn find_cut(counts: &[u16], begins: &[u16], j: PlateType) -> Found
+    requires { ⌜ PartIn (now begins) (now counts) (j .0) ⌝ }
+    ensures { λ r. ⌜ ((job : Job) (l : Listing) → Model job l → Begins (l .cuts) (now (begins .entry)) → foundMeans r ≡ search (j .0) 1 (l .cuts) (now (counts .entry))) ⌝ }
 {
-    let end = k.0;
-    let mut c: u16 = 0;
-    while c < end {
-        if is_open(cuts, counts, CutNumber(c + 1), j) {
-            return Found::Cut(CutNumber(c + 1));
-        }
-        c += 1;
-    }
-    Found::Nothing
+    let at = j.0 as usize;
+    let from = begins[at] as usize;
+    let to = begins[at + 1] as usize;
+    let Left::At(i) = first_left(&counts[from..to]) else {
+        return Found::Nothing;
+    };
+    Found::Cut(CutNumber((from + i + 1) as u16))
 }
 
 // A cut is done once: its count falls by 1.

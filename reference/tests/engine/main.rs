@@ -26,6 +26,7 @@ mod model;
 mod numbers;
 mod offcuts;
 mod order;
+mod own_cuts;
 mod plan;
 mod prices;
 mod programs;

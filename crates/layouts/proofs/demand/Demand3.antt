@@ -70,7 +70,8 @@ module _ (ws : List ℕ) (listed : Listed ws) where
   sided : Sided (J ws)
   sided = admitted-sided (J ws) admitted
 
-  model : Model (J ws) (L ws)
+  -- the listing of such a job is a model
+  pub model : Model (J ws) (L ws)
   model = row-model (J ws) sided (admitted-stocked (J ws) admitted) row
 
   folds : (set : List Sheet) → Named (J ws) (L ws) set → Folds (J ws) (L ws) set

@@ -97,6 +97,7 @@ use Prim.Native.Nat.{ℕ}
 use mathlib.Core.Path.{_≡_, refl}
 use mathlib.Core.Bool.{true, false}
 use mathlib.Core.List.{List, [], _∷_, _++_}
+use mathlib.Core.Option.{none, some}
 use lib.ListN.{replicate}
 use Rattle.job.specs.Buffers.{given, refused}
 use Rattle.texts.specs.SawText.{sawText}
@@ -104,7 +105,7 @@ use Rattle.texts.specs.FoldText.{foldText}
 use Rattle.cases.specs.Bytes.{bytes}
 use Rattle.cases.proofs.Opened.{computed}
 use Rattle.layouts.specs.Layout.{sheet}
-use Rattle.agreement.specs.Compared.{outcome, unfoldOutcome, listCall, planCall, priceCall, unfoldCall, foldCall, walkCall, judgement, judged, rules, rectangles, isCheapest, leftOver, areasOn}
+use Rattle.agreement.specs.Compared.{outcome, unfoldOutcome, listCall, planCall, priceCall, unfoldCall, foldCall, walkCall, judgement, judged, rules, rectangles, isCheapest, leftOver, areasOn, parts, partsOf, byParts, unfoldedByParts}
 ";
 
 /// What is compared: a definition on its arguments, and the reference's answer to the same.

@@ -7,6 +7,7 @@
 mod antt;
 mod calls;
 mod offcuts;
+mod own_cuts;
 mod structures;
 mod texts;
 
@@ -32,7 +33,7 @@ pub struct Theorem {
 /// one is made.
 type Subject = (&'static str, usize, fn(&mut Random) -> Theorem);
 
-const SUBJECTS: [Subject; 15] = [
+const SUBJECTS: [Subject; 17] = [
     ("Listing", 3, |random| calls::theorem(random, Call::Listing)),
     ("PlanTest", 3, |random| {
         calls::theorem(random, Call::PlanTest)
@@ -54,6 +55,8 @@ const SUBJECTS: [Subject; 15] = [
     ("Cheapest", 1, structures::cheapest_theorem),
     ("Offcuts", 3, offcuts::offcuts_theorem),
     ("Areas", 3, offcuts::areas_theorem),
+    ("Parts", 3, own_cuts::parts_theorem),
+    ("ByParts", 3, own_cuts::run_theorem),
 ];
 
 /// Whether the listing is small, if there is one: the words are a job's, and it is admitted.

@@ -58,7 +58,7 @@ pub fn areas_theorem(random: &mut Random) -> Theorem {
 }
 
 /// The counts of a plan; in one of three cases a few of them are changed.
-fn random_counts(random: &mut Random, model: &Model) -> Vec<u16> {
+pub fn random_counts(random: &mut Random, model: &Model) -> Vec<u16> {
     let mut counts = random_plan(random, model);
     if random.once_in(3) {
         for _ in 0..=random.below(3) {
@@ -70,7 +70,7 @@ fn random_counts(random: &mut Random, model: &Model) -> Vec<u16> {
 }
 
 /// The six words of an offcut, with any two lengths.
-fn words_of(offcut: &Offcut, [first, second]: [u16; 2]) -> [u16; 6] {
+pub fn words_of(offcut: &Offcut, [first, second]: [u16; 2]) -> [u16; 6] {
     let Offcut {
         board,
         x,

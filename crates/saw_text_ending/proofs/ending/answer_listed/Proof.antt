@@ -65,7 +65,7 @@ returns-2 c place rs o pk pe =
     let e = sym (ap priceSays (c .before .before .before .before .before .number2 .given .1)) ∙ c .before .before .before .before .before .before .before .prices-of-text .ensures (L ws) o sizes (s .pre .0 .types) (s .pre .0 .listed) pe in
     refused-answer (sawOf place ws rs o)
     (prices-refused place ws rs o plan e)
-    (c .before .before .refuse2 .ensures (near-place (near-prices (J ws) (L ws) o (s .pre .0 .model .model .few-cuts)) _ _ (refused-refuse (priceLinesRow (J ws) (L ws) o) _ e)))
+    (c .before .before .refuse2 .ensures (near-place (near-prices (J ws) (L ws) o (s .pre .0 .model .lent .model .few-cuts)) _ _ (refused-refuse (priceLinesRow (J ws) (L ws) o) _ e)))
     (s .pre .1 .cleared)
     refl
 

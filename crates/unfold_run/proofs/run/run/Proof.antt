@@ -14,7 +14,7 @@ use Rattle.layouts.specs.Offcuts.{Offcut}
 use Rattle.layouts.specs.Demand3.{J, L}
 use Rattle.unfold_offcut.specs.declared.Lengths.{Lengths}
 use Rattle.unfold_step.specs.Meaning.{stateOf}
-use Rattle.unfold_step.proofs.CodeCut.{cuts-there}
+use Rattle.unfold_step.proofs.CodeParts.{part-there}
 use Rattle.unfold_run.specs.declared.run.Progress.{Progress}
 use Rattle.unfold_run.specs.declared.run.Advance.{Advance}
 use Rattle.unfold_run.specs.Going.{leftAt, GoingAt, Advanced, Gives, started, startedOffcuts}
@@ -25,12 +25,12 @@ use Rattle.unfold_run.proofs.run.run.Statement.{statement}
 use Rattle.unfold_run.proofs.run.run.Tie as tie
 
 abbrev Inv-loop : tie.InvT-loop
-Inv-loop job blade sizes plates cuts k lengths counts₀ placements₀ offcuts₀ at₀ fuel₀ counts placements offcuts at fuel =
+Inv-loop job blade sizes plates cuts begins lengths counts₀ placements₀ offcuts₀ at₀ fuel₀ counts placements offcuts at fuel =
     GoingAt (J job) (L job) lengths (started (J job) (L job) counts₀) (startedOffcuts (J job) (L job) counts₀) fuel at counts placements offcuts
     × ((length counts ≡ length counts₀) × ((length placements ≡ length placements₀) × (length offcuts ≡ length offcuts₀)))
 
 abbrev μ-loop : tie.MeasureT-loop
-μ-loop job blade sizes plates cuts k lengths counts₀ placements₀ offcuts₀ at₀ fuel₀ counts placements offcuts at fuel = fuel
+μ-loop job blade sizes plates cuts begins lengths counts₀ placements₀ offcuts₀ at₀ fuel₀ counts placements offcuts at fuel = fuel
 
 module _ (job : Job) (l : Listing) (m : Model job l) (lengths : Lengths) (whole : Run) (os : List Offcut) where
   -- what the answer of `advance` says once its case is known
@@ -55,17 +55,17 @@ module _ (job : Job) (l : Listing) (m : Model job l) (lengths : Lengths) (whole 
       }
 
 boards-left-requires : tie.Need-boards-left-requires Inv-loop μ-loop
-boards-left-requires c κs = let s = c .before .before .before .before .before .before .before .before in (cuts-there _ _ _ _ (s .pre .0), s .pre .1 .0 .0)
+boards-left-requires c κs = let s = c .before .before .before .before .before .before .before .before .before in part-there _ _ _ _ (s .pre .0) _ (s .pre .1 .0 .0) 0 (omega (arith, s .pre .0 .lent .model .some-size, s .pre .0 .lent .model .size-plates))
 
 loop-holds : tie.Need-loop-holds Inv-loop μ-loop
 loop-holds c =
-    let s = c .before .before .before .before .before .before .before .before .before in
+    let s = c .before .before .before .before .before .before .before .before .before .before in
     let a = s .args in
-    let lent = s .pre .0 in
+    let lent = s .pre .0 .lent in
     let p = s .pre .1 in
     let start = c .before .before .start .ensures 0 _ in (
       (
-        going-start _ _ (lent .model) _ (now (a .counts)) (now (a .placements)) _ _ start refl (p .1 .0 .0) (omega (arith, p .0 .0, lent .cuts-number)) (opens-first (L (now (a .job))) (length (J (now (a .job)) .sizes)) (now (a .counts)) _ (lent .model .some-size) (c .boards-left .ensures (L (now (a .job))) (lent .cuts-number) (lent .cuts-held))) (p .1 .1 .0 .0) (p .1 .0 .1),
+        going-start _ _ (lent .model) _ (now (a .counts)) (now (a .placements)) _ _ start refl (p .1 .0 .0) (p .0 .0) (opens-first (L (now (a .job))) (length (J (now (a .job)) .sizes)) (now (a .counts)) _ (lent .model .some-size) (c .boards-left .ensures _ (L (now (a .job))) (lent .model) (s .pre .0 .begins-are))) (p .1 .1 .0 .0) (p .1 .0 .1),
         leaving-start _ _ (a .lengths) _ (now (a .counts)) (now (a .offcuts)) _ start refl (p .1 .1 .1 .0) (p .1 .1 .0 .1),
       ),
       (refl, (refl, refl)),
@@ -73,19 +73,19 @@ loop-holds c =
 
 advance-requires : tie.Need-advance-requires Inv-loop μ-loop
 advance-requires c κs =
-    let s = c .before .before .before .before .before .before .before .before .before .before .before .before .before .before in
+    let s = c .before .before .before .before .before .before .before .before .before .before .before .before .before .before .before in
     let d = c .before .before .before .before .loop in
-    (s .pre .0, (record { whole = _; os = _; fuel = d .fuel - 1; going = next _ _ (s .pre .0 .model) _ _ _ (d .fuel) (d .at) _ _ _ (c .before .before .before .loop-test .taken) (d .inv .0) }, (s .pre .1 .1 .1 .1 .1, s .pre .1 .0 .1)))
+    (s .pre .0, (record { whole = _; os = _; fuel = d .fuel - 1; going = next _ _ (s .pre .0 .lent .model) _ _ _ (d .fuel) (d .at) _ _ _ (c .before .before .before .loop-test .taken) (d .inv .0) }, (s .pre .1 .1 .1 .1 .1, s .pre .1 .0 .1)))
 
 returns : tie.Need-returns Inv-loop μ-loop
 returns c =
-    let m = c .before .before .before .before .before .before .before .before .before .before .before .before .before .before .before .before .before .before .before .before .before .before .before .pre .0 .model in
+    let m = c .before .before .before .before .before .before .before .before .before .before .before .before .before .before .before .before .before .before .before .before .before .before .before .before .pre .0 .lent .model in
     let d = c .before .before .before .before .before .before .before .before .before .before .before .before .before .loop in
     gives _ _ m _ _ _ (d .at) _ _ _ (told _ _ m _ _ _ (d .fuel - 1) (d .at) _ _ _ (c .before .before .before .before .before .before .before .before .advance .ensures _ _ (d .fuel - 1) (next _ _ m _ _ _ (d .fuel) (d .at) _ _ _ (c .before .before .before .before .before .before .before .before .before .before .before .before .loop-test .taken) (d .inv .0))) (c .enum-told .given .1))
 
 loop-again : tie.Need-loop-again Inv-loop μ-loop
 loop-again c =
-    let m = c .before .before .before .before .before .before .before .before .before .before .before .before .before .before .before .before .before .before .before .before .before .before .before .before .pre .0 .model in
+    let m = c .before .before .before .before .before .before .before .before .before .before .before .before .before .before .before .before .before .before .before .before .before .before .before .before .before .pre .0 .lent .model in
     let d = c .before .before .before .before .before .before .before .before .before .before .before .before .before .before .loop in
     let r = c .before .before .before .before .before .before .before .before .before .advance in (
       told _ _ m _ _ _ (d .fuel - 1) (d .at) _ _ _ (r .ensures _ _ (d .fuel - 1) (next _ _ m _ _ _ (d .fuel) (d .at) _ _ _ (c .before .before .before .before .before .before .before .before .before .before .before .before .before .loop-test .taken) (d .inv .0))) (c .before .next .given .1),
@@ -105,7 +105,7 @@ returns-2 : tie.Need-returns-2 Inv-loop μ-loop
 returns-2 c =
     let d = c .before .loop in
     let none : d .fuel ≡ 0 = omega (arith, c .loop-test .left) in
-    gives _ _ (c .before .before .before .before .before .before .before .before .before .before .before .pre .0 .model) _ _ _ (d .at) (d .counts) _ _ (rw none at (d .inv .0))
+    gives _ _ (c .before .before .before .before .before .before .before .before .before .before .before .before .pre .0 .lent .model) _ _ _ (d .at) (d .counts) _ _ (rw none at (d .inv .0))
 
 pub run-spec : {M : Type 1} → statement M
 run-spec =

@@ -1,59 +1,61 @@
--- `find_cut` looks at the cuts in rising number: what is left to search from cut c + 1 on is the whole search.
-use mathlib.Core.Path.{_≡_, refl, sym}
-use mathlib.Core.List.{List}
-use Prim.Native.Nat.{suc, _-_, _≤_}
+-- `find_cut` hands on the part of the plate type's cuts, and numbers what is found there from where they begin.
+use mathlib.Core.Path.{sym, ap, _∙_}
+use Prim.Native.Nat.{_+_, _≤_}
 use native.Mathlib.Omega.{arith}
 use borrow.Author.Needs.{needs}
-use lib.ListN.{length, drop}
-use Rattle.listing.specs.Listing.{Cut}
-use Rattle.listing.specs.Records.{cutWords}
-use Rattle.listing.specs.Holds.{Holds}
-use Rattle.layouts.specs.Unfold.{search as searched}
-use Rattle.unfold_waiting.proofs.CodeSearch.{open-held, search-end, search-here, search-next}
+use denote.Ref.{now}
+use lib.ListN.{getD}
+use Rattle.unfold_waiting.specs.Meaning.{leftMeans}
+use Rattle.unfold_waiting.proofs.CodeBegins.{number-below, found-here, found-nowhere}
 use Rattle.unfold_waiting.proofs.search.find_cut.Statement.{statement}
 use Rattle.unfold_waiting.proofs.search.find_cut.Tie as tie
 
-abbrev Inv-loop : tie.InvT-loop
-Inv-loop cuts counts j end c₀ c =
-    (c ≤ end) × ((cs : List Cut) → length cs ≡ end → Holds cuts (cutWords cs) → searched (j .0) 1 cs counts ≡ searched (j .0) (suc c) (drop c cs) (drop c counts))
+returns : tie.Need-returns
+returns c job l m b =
+    let s = c .before .before .before .before .before .before .before .before .before in
+    found-nowhere job l m (now (s .args .begins)) (now (s .args .counts)) (s .args .j .0) (s .pre) b (sym (ap leftMeans (c .enum-told .given .1)) ∙ c .before .before .first-left .ensures)
 
-abbrev μ-loop : tie.MeasureT-loop
-μ-loop cuts counts j end c₀ c = end - c
+-- the number of the cut found, which the next type's cuts begin at or behind
+number : (c : tie.After-known-told) → getD (now (c .before .before .before .before .before .before .before .before .before .before .args .begins)) (c .before .before .before .before .before .before .before .before .before .before .args .j .0) 0 + c .before .i .given .0 .0 + 1 ≤ 65535
+number c =
+    let s = c .before .before .before .before .before .before .before .before .before .before in
+    omega (arith, number-below (now (s .args .begins)) (now (s .args .counts)) (s .args .j .0) (s .pre) _ (sym (ap leftMeans (c .before .i .given .1)) ∙ c .before .before .before .first-left .ensures), c .before .before .before .before .before .shared-slice-known4 .given (s .args .j .0 + 1))
 
-returns : tie.Need-returns Inv-loop μ-loop
-returns c cs e h =
-    let d = c .before .before .before in
-    let a = c .before .before .before .before .before .before .args in
-    let i = d .loop .c in
-    sym (search-here (a .j .0) cs (a .counts .now) i (d .loop .inv .1 cs e h) (omega (arith, c .before .before .loop-test .taken)) (omega (arith, c .before .before .loop-test .taken, c .before .before .before .before .before .before .pre .1)) (open-held cs h (a .j .0) i (a .counts .now) (c .before .is-open .ensures) (c .if1 .taken)))
+add-t8 : tie.Need-add-t8
+add-t8 c = omega (arith, number c)
 
-loop-again : tie.Need-loop-again Inv-loop μ-loop
-loop-again c = (
-  search needs,
-  λ cs e h.
-      let d = c .before .before .before in
-      let a = c .before .before .before .before .before .before .args in
-      let i = d .loop .c in
-      search-next (a .j .0) cs (a .counts .now) i (d .loop .inv .1 cs e h) (omega (arith, c .before .before .loop-test .taken)) (omega (arith, c .before .before .loop-test .taken, c .before .before .before .before .before .before .pre .1)) (open-held cs h (a .j .0) i (a .counts .now) (c .before .is-open .ensures) (c .if1 .left)),
-)
+add-t11 : tie.Need-add-t11
+add-t11 c = omega (arith, number c)
 
-returns-2 : tie.Need-returns-2 Inv-loop μ-loop
-returns-2 c cs e h =
-    let a = c .before .before .before .before .args in
-    sym (search-end (a .j .0) cs (a .counts .now) (c .before .loop .c) (c .before .loop .inv .1 cs e h) (omega (arith, c .loop-test .left)))
+cast-t10 : tie.Need-cast-t10
+cast-t10 c = omega (arith, number c)
+
+returns-2 : tie.Need-returns-2
+returns-2 c job l m b =
+    let s = c .before .before .before .before .before .before .before .before .before .before in
+    found-here job l m (now (s .args .begins)) (now (s .args .counts)) (s .args .j .0) (s .pre) b _ (sym (ap leftMeans (c .before .i .given .1)) ∙ c .before .before .before .first-left .ensures)
 
 pub find-cut-spec : {M : Type 1} → statement M
 find-cut-spec =
     tie.close
     (tie.spec
-    Inv-loop
-    μ-loop
-    (λ c. (search needs, λ cs e h. refl))
+    (λ c. search needs)
+    (λ c. search needs)
+    (λ c. search needs)
+    (λ c. search needs)
+    (λ c. search needs)
+    (λ c. search needs)
+    (λ c. search needs)
+    (λ c. search needs)
+    (λ c. search needs)
+    (λ c. search needs)
+    (λ c. search needs)
     (λ c. search needs)
     (λ c κs. search needs)
     (λ c. search needs)
+    (λ c. search needs)
     returns
-    (λ c. search needs)
-    (λ c. search needs)
-    loop-again
+    add-t8
+    add-t11
+    cast-t10
     returns-2)
