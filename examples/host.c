@@ -1,7 +1,7 @@
 /* A host of the engine: job A of document 01, listed, its plan and prices tested, its plan unfolded, with the offcuts for the
  * storeman's shelf, and folded again; then the job with a blade of 1 mm, and on boards of two sizes; then five refusals; then job A as texts, one of them
  * of a solver that numbers plates otherwise.
- * Build and run: tools/test-hosts. */
+ * Build and run: tools/test-hosts; by hand as the header says. */
 #include <stdio.h>
 #include <string.h>
 
@@ -57,7 +57,7 @@ static const char second_board[] =
 
 static void print_answer(const char *call, const uint32_t answer[3])
 {
-    if (answer[0] == 0)
+    if (answer[0] == SAW_ACCEPTED)
         printf("%s: %u %u\n", call, (unsigned)answer[1], (unsigned)answer[2]);
     else
         printf("%s: refused %u at %u\n", call, (unsigned)answer[0], (unsigned)answer[1]);
@@ -118,7 +118,7 @@ static void list_with_blade(const char *call, uint16_t blade)
     job[BLADE] = blade;
     saw_list(job, LENGTH(job), plates, LENGTH(plates), cuts, LENGTH(cuts), answer);
     print_answer(call, answer);
-    if (answer[0] == 0)
+    if (answer[0] == SAW_ACCEPTED)
         print_records(plates, answer[1] + 1, 4);
 }
 

@@ -1,6 +1,12 @@
 /* The beam saw plan engine as a static library: the calls of document 01 with requests One to Seven of document 02, for a host in C.
  *
- * Link target/staticlib/libengine.a, which `rt staticlib engine` writes for x86-64 Linux. Each function is proved to meet its contract in
+ * Link target/staticlib/libengine.a, which `rt staticlib engine` writes; from the top of the repository, for examples/host.c:
+ *
+ *     rt staticlib engine
+ *     cc -Iinclude examples/host.c target/staticlib/libengine.a -o host
+ *
+ * and where tools/install has put it: cc host.c -lsaw_engine -o host. There is one target: x86-64 Linux, by the calling convention of its C compilers
+ * (System V). The header is C99 and C++. Each function is proved to meet its contract in
  * crates/engine/src/calls.rt or, of the two texts, text_calls.rt. It allocates nothing, keeps no state between calls and always returns; of the C library it
  * uses memcpy and memset alone.
  *
@@ -30,6 +36,44 @@
 #ifdef __cplusplus
 extern "C" {
 #endif
+
+/* The version: 0, the last request of document 02 that the calls keep, and a number within it; and the same as one number, 10,000 for the first and 100 for the second. Words,
+ * records and texts change with requests, so header and library are of one version. */
+#define SAW_ENGINE_VERSION "0.7.0"
+#define SAW_ENGINE_VERSION_NUMBER 700
+
+/* Refusal numbers: answer[0] of a call, or the first number of a text's line 9. */
+#define SAW_ACCEPTED 0
+#define SAW_NOT_OF_THE_FORM 1        /* words or a line not of the form, kind or order, or missing */
+#define SAW_OUTSIDE_LIMITS 2         /* a value outside its limits */
+#define SAW_ITEM_TOO_LARGE 3         /* an item type of which no permitted position fits any size */
+#define SAW_DEMANDS_TOO_HIGH 4       /* demands that add up to more than 4,000 */
+#define SAW_BUFFER_TOO_SHORT 5       /* a buffer shorter than its full size; no text is refused so */
+#define SAW_TOO_MANY_PLATE_TYPES 6   /* a 2,049th plate type */
+#define SAW_TOO_MANY_CUTS 7          /* an 8,193rd cut */
+#define SAW_NO_SUCH_CUT 8            /* a count or a line of the plan for a cut that the listing has not */
+#define SAW_CUT_NOT_RISING 9         /* a line of the plan that does not come after the last; texts alone */
+#define SAW_TOTAL_TOO_HIGH 10        /* more than 4,000 cuts counted, or lines of layouts */
+#define SAW_TYPE_SHORT 11            /* an item type cut, or laid, less often than demanded */
+#define SAW_PLATE_TYPE_OVERDRAWN 12  /* a residual type cut more often than it arises */
+#define SAW_PRICES_NOT_THE_MODELS 13 /* prices whose numbers of types are not the listing's */
+#define SAW_CUT_OVER_LIMIT 14        /* a cut worth more than the plate that it is made on */
+#define SAW_NOT_NEXT_IN_TURN 15      /* board, strip, stack or place not the next in turn, or another size than the board's */
+#define SAW_STAGE_RULE 16            /* a strip that cannot be sawn in the mode */
+#define SAW_PAST_THE_BOARD 17        /* a strip that reaches past its board */
+#define SAW_POSITION_WRONG 18        /* an x or y that is not the item's position */
+#define SAW_TURNED_WITHOUT_LEAVE 19  /* an item turned that has no leave, or is square */
+#define SAW_OTHER_PLATE_SHOWN 20     /* a line of the plan that shows another plate than it numbers; saw text alone */
+
+/* Work. Every loop ends by a limit of the job, whatever the words are; nothing is tried again, and nothing depends on an earlier call. At the most, beside some passes over the words
+ * that are handed in or lent:
+ *   listing      163,840 pairs of a plate type and a permitted position, of which 8,192 are cuts, and for the 16,384 residuals of these 33.6 million comparisons of plate types
+ *   plan test    the listing, and two passes over its cuts
+ *   price test   the listing, and a pass over its cuts
+ *   unfolding    the plan test, a pass over its cuts, and 12,000 searches (4,000 pieces and 8,000 offcuts) among the counts of one plate type, at most 80: 960,000 looks at a count
+ *   folding      the listing, and for 4,000 lines 160 passes, two for each position, and a search by halving among 8,192 cuts
+ *   texts        each byte once, and then as the plan test, the price test and the unfolding, or as the folding
+ * What each call takes for the greatest inputs known is counted in bench/RESULTS.md: none takes more than 62 million instructions. */
 
 /* Full sizes, in words of 16 bits: 2,048 plate types of 4 words, 8,192 cuts of 4 words, their counts, 4,000 placements of 9 words, 8,000 offcuts of 6 words. */
 #define SAW_PLATES 8192

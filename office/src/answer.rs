@@ -1,7 +1,8 @@
 //! The saw's answer: lines of kind 7 and one of kind 8, or one line 9.
 
-use crate::columns::numbers;
-use crate::job::Job;
+use crate::columns::{numbers, thousands};
+use crate::job::{Job, Size};
+use crate::prices::MOST_PRICE;
 
 /// A board that the saw opened: its size and its items.
 #[derive(Debug, Clone, PartialEq, Eq, Hash)]
@@ -20,6 +21,28 @@ pub struct Placement {
     pub turned: bool,
     pub x: usize,
     pub y: usize,
+}
+
+impl Placement {
+    /// The numbers of its line 7 after board and size.
+    pub fn numbers(&self) -> [usize; 7] {
+        let turn = usize::from(self.turned);
+        let [x, y] = [self.x, self.y];
+        [self.strip, self.stack, self.place, self.item, x, y, turn]
+    }
+
+    /// Whether the job has such an item, which may lie so, and a board of this size has room for it there.
+    fn lies_on(&self, job: &Job, size: &Size) -> bool {
+        if !(1..=job.items.len()).contains(&self.item) {
+            return false;
+        }
+        let item = job.item(self.item);
+        let [width, height] = item.sides(self.turned);
+        let may_lie = !self.turned || item.turns();
+        let inside =
+            |at: usize, side: usize, of_board: usize| side <= of_board && at <= of_board - side;
+        may_lie && inside(self.x, width, size.width) && inside(self.y, height, size.height)
+    }
 }
 
 /// The boards, and what line 8 says.
@@ -79,15 +102,17 @@ impl Answer {
                 self.place(job, [board, size], at)
             }
             [8, cost, sum, denominator, cheapest] => {
-                (self.sum, self.denominator, self.cheapest) = (sum, denominator, cheapest == 1);
-                self.cost = cost;
-                match cost == self.cost_of_boards(job) {
-                    true => Ok(()),
-                    false => Err(format!(
-                        "gives a cost of {cost}, but its boards cost {}: is it the output for another job?",
-                        self.cost_of_boards(job)
-                    )),
+                let of_boards = self.cost_of_boards(job);
+                if cost != of_boards {
+                    return Err(format!(
+                        "gives a cost of {cost}, but its boards cost {of_boards}: is it the output for \
+                         another job?"
+                    ));
                 }
+                end([cost, sum, denominator, cheapest])?;
+                (self.cost, self.sum, self.denominator) = (cost, sum, denominator);
+                self.cheapest = cheapest == 1;
+                Ok(())
             }
             _ => Err("is of no kind that the saw writes".into()),
         }
@@ -112,26 +137,18 @@ impl Answer {
             ));
         }
         let last = &mut self.boards[board - 1];
-        let known = (1..=job.items.len()).contains(&placement.item)
-            && size < job.sizes.len()
-            && last.size == size;
-        let fits = known && {
-            let on = job.sizes[size];
-            let item = job.item(placement.item);
-            let [width, height] = item.sides(placement.turned);
-            let may_lie = !placement.turned || item.turns();
-            may_lie && placement.x + width <= on.width && placement.y + height <= on.height
-        };
-        match fits {
-            true => last.placements.push(placement),
+        let of_size = job.sizes.get(size).filter(|_| last.size == size);
+        match of_size.is_some_and(|size| placement.lies_on(job, size)) {
+            true => {
+                last.placements.push(placement);
+                Ok(())
+            }
             false => {
-                return Err(
-                    "places an item that this job has not: is it the output for another job?"
-                        .into(),
-                )
+                let fault =
+                    "places an item that this job has not: is it the output for another job?";
+                Err(fault.into())
             }
         }
-        Ok(())
     }
 
     /// All items placed.
@@ -168,6 +185,26 @@ impl Answer {
     pub fn pieces_of(&self, item_type: usize) -> usize {
         let of_type = |placement: &&Placement| placement.item == item_type;
         self.placements().filter(of_type).count()
+    }
+}
+
+/// An error unless the numbers of a line 8 go together as the saw writes them: cost, sum, D, and whether no
+/// plan is cheaper. The cost is never below the sum over D, and no plan is cheaper just where a cost of one
+/// less would be.
+pub fn end([cost, sum, denominator, cheapest]: [usize; 4]) -> Result<(), String> {
+    if !(1..=MOST_PRICE).contains(&denominator) || cheapest > 1 {
+        return Err(format!(
+            "ends with {denominator} and {cheapest}; D is from 1 to {}, cheapest 0 or 1",
+            thousands(MOST_PRICE)
+        ));
+    }
+    let below = |cost: usize| cost * denominator < sum;
+    match !below(cost) && below(cost.saturating_sub(1)) == (cheapest == 1) {
+        true => Ok(()),
+        false => Err(format!(
+            "gives a bound of {sum}/{denominator} and ends with {cheapest}, which does not go with a cost \
+             of {cost}"
+        )),
     }
 }
 
@@ -217,27 +254,51 @@ mod tests {
         );
     }
 
+    /// Outputs for job A, and what is said of them.
+    const FAULTS: [(&str, &str); 23] = [
+        ("", "not whole"),
+        ("7 1 0 1 1 1 1 0 0 0\n", "not whole"),
+        ("9 12 2\n", "refused the text with 12, place 2"),
+        ("7 2 0 1 1 1 1 0 0 0\n", "neither the last one nor the next"),
+        ("7 0 0 1 1 1 1 0 0 0\n", "neither the last one nor the next"),
+        ("7 1 0 1 1 1 1 5 0 0\n", "another job"),
+        ("7 1 0 1 1 1 3 0 0 0\n", "another job"),
+        ("7 1 1 1 1 1 1 0 0 0\n", "another job"),
+        ("7 1 0 1 1 1 1 0 0 1\n", "another job"),
+        (
+            "7 1 0 1 1 1 1 0 0 0\n8 2 0 1 0\n",
+            "a cost of 2, but its boards cost 1",
+        ),
+        ("7 1 0 1 1 1 1 18446744073709551615 0 0\n", "another job"),
+        ("7 1 0 1 1 1 1 0 18446744073709551612 0\n", "another job"),
+        ("7 1 0 1 1 1 1 99999999999999999999 0 0\n", "not a line of"),
+        (
+            "7 1 0 1 1 1 1 0 0 0\n8 1 5 0 0\n",
+            "line 2 of the saw's output ends with 0 and 0; D is from 1 to 9,999, cheapest 0 or 1",
+        ),
+        ("7 1 0 1 1 1 1 0 0 0\n8 1 5 10000 0\n", "ends with 10000"),
+        ("7 1 0 1 1 1 1 0 0 0\n8 1 5 1 2\n", "ends with 1 and 2"),
+        (
+            "7 1 0 1 1 1 1 0 0 0\n8 1 5 1 0\n",
+            "a bound of 5/1 and ends with 0, which does not go with a cost of 1",
+        ),
+        (
+            "7 1 0 1 1 1 1 0 0 0\n8 1 2 2 0\n",
+            "a bound of 2/2 and ends with 0",
+        ),
+        (
+            "7 1 0 1 1 1 1 0 0 0\n8 1 0 1 1\n",
+            "a bound of 0/1 and ends with 1",
+        ),
+        ("7 1 1 1 1 1 0 0 0\n", "of no kind"),
+        ("3 1 1\n", "of no kind"),
+        ("hello\n", "not a line of numbers"),
+        ("8 0 0 1 0\n8 0 0 1 0\n", "follows"),
+    ];
+
     #[test]
     fn every_fault_is_told() {
-        for (text, told) in [
-            ("", "not whole"),
-            ("7 1 0 1 1 1 1 0 0 0\n", "not whole"),
-            ("9 12 2\n", "refused the text with 12, place 2"),
-            ("7 2 0 1 1 1 1 0 0 0\n", "neither the last one nor the next"),
-            ("7 0 0 1 1 1 1 0 0 0\n", "neither the last one nor the next"),
-            ("7 1 0 1 1 1 1 5 0 0\n", "another job"),
-            ("7 1 0 1 1 1 3 0 0 0\n", "another job"),
-            ("7 1 1 1 1 1 1 0 0 0\n", "another job"),
-            ("7 1 0 1 1 1 1 0 0 1\n", "another job"),
-            (
-                "7 1 0 1 1 1 1 0 0 0\n8 2 0 1 0\n",
-                "a cost of 2, but its boards cost 1",
-            ),
-            ("7 1 1 1 1 1 0 0 0\n", "of no kind"),
-            ("3 1 1\n", "of no kind"),
-            ("hello\n", "not a line of numbers"),
-            ("8 0 0 1 0\n8 0 0 1 0\n", "follows"),
-        ] {
+        for (text, told) in FAULTS {
             let fault = Answer::read(text, &job_a()).unwrap_err();
             assert!(fault.contains(told), "{text}: {fault}");
         }

@@ -1,6 +1,11 @@
-//! The job: board sizes, blade, item types and stage mode, read from lines of kinds 1, 10 and 2.
+//! The job: board sizes, blade, item types and stage mode, read from lines of kinds 1, 10 and 2, or from
+//! a table with names.
 
-use crate::columns::{line, numbers, thousands};
+mod lines;
+mod table;
+
+use crate::columns::{line, thousands};
+pub use table::{csv, is_table};
 
 /// The longest side of a board or an item, in millimetres.
 pub const MOST_SIDE: usize = 10_000;
@@ -14,6 +19,14 @@ pub const MOST_COST: usize = 999;
 pub const MOST_TYPES: usize = 40;
 /// The most pieces of a job, a plan or a set of layouts.
 pub const MOST_PIECES: usize = 4_000;
+
+/// The four modes: name, stages and whether they are exact.
+pub const MODES: [(&str, usize, bool); 4] = [
+    ("2E", 2, true),
+    ("2N", 2, false),
+    ("3E", 3, true),
+    ("3N", 3, false),
+];
 
 /// A board size: its sides, and what a board of it costs.
 #[derive(Debug, Clone, Copy, PartialEq, Eq)]
@@ -55,7 +68,7 @@ impl Item {
 }
 
 /// A job: stage mode, board sizes from 0, width of the blade and item types; item type i stands at
-/// place i - 1.
+/// place i - 1, and so does its name where the job has names.
 #[derive(Debug, Clone, PartialEq, Eq)]
 pub struct Job {
     pub stages: usize,
@@ -63,9 +76,23 @@ pub struct Job {
     pub sizes: Vec<Size>,
     pub blade: usize,
     pub items: Vec<Item>,
+    pub names: Vec<String>,
 }
 
 impl Job {
+    /// The name of an item type, which is empty where it has none. The saw's texts have no names.
+    pub fn name(&self, item_type: usize) -> &str {
+        self.names.get(item_type - 1).map_or("", String::as_str)
+    }
+
+    /// An item type in words, as "item type 3" or "item type 3 (shelf)".
+    pub fn type_words(&self, item_type: usize) -> String {
+        match self.name(item_type) {
+            "" => format!("item type {item_type}"),
+            name => format!("item type {item_type} ({name})"),
+        }
+    }
+
     /// The item type with this number, from 1.
     pub fn item(&self, item_type: usize) -> Item {
         self.items[item_type - 1]
@@ -132,57 +159,32 @@ impl Job {
         text
     }
 
-    /// Reads the job at the beginning of a text; what follows its lines is left alone. Numbers may
-    /// stand with any blanks between them. An error names the line and says what is wrong.
+    /// Reads a job, or the job at the beginning of a whole text for the saw or the fold program; nothing
+    /// else may follow its lines. Numbers may stand with any blanks between them, and blank lines and
+    /// remarks anywhere. A text that does not begin with a number is a table. An error names the line and
+    /// says what is wrong.
     pub fn read(text: &str) -> Result<Job, String> {
-        let job = Job::of_lines(text)?;
-        job.admitted()?;
+        let job = Job::read_large(text)?;
+        job.few_enough()?;
         Ok(job)
     }
 
-    /// Reads the job's lines, whether or not the job they give is admitted.
-    pub fn of_lines(text: &str) -> Result<Job, String> {
-        let mut lines = (1..).zip(text.lines());
-        let [stages, exact, many, types, blade] = match lines.next() {
-            Some((_, first)) => head(first)?,
-            None => {
-                let form = "1, stages, exact, t, n, b";
-                return Err(format!("the job is empty; its first line is {form}"));
+    /// The same, whatever the demands add up to.
+    pub fn read_large(text: &str) -> Result<Job, String> {
+        let job = match is_table(text) {
+            true => table::read(text)?,
+            false => {
+                let job = Job::of_lines(text)?;
+                job.followed(text)?;
+                job
             }
         };
-        let mut sizes = Vec::new();
-        for size in 0..many {
-            let Some((number, next)) = lines.next() else {
-                let there = sizes.len();
-                return Err(format!(
-                    "line 1 announces {many} board size(s), but only {there} line(s) of kind 10 follow"
-                ));
-            };
-            sizes.push(size_line(next, size).map_err(|fault| format!("line {number}: {fault}"))?);
-        }
-        let mut items = Vec::new();
-        for item_type in 1..=types {
-            let Some((number, next)) = lines.next() else {
-                let there = items.len();
-                return Err(format!(
-                    "line 1 announces {types} item types, but only {there} line(s) of kind 2 follow"
-                ));
-            };
-            items.push(
-                item_line(next, item_type).map_err(|fault| format!("line {number}: {fault}"))?,
-            );
-        }
-        Ok(Job {
-            stages,
-            exact: exact == 1,
-            sizes,
-            blade,
-            items,
-        })
+        job.all_fit()?;
+        Ok(job)
     }
 
-    /// Every item fits some size as it may lie, and the demands add up to at most 4,000.
-    fn admitted(&self) -> Result<(), String> {
+    /// Every item fits some size as it may lie.
+    fn all_fit(&self) -> Result<(), String> {
         for (item_type, item) in (1..).zip(&self.items) {
             if !self.fits(item_type) {
                 let turned = match item.leave {
@@ -190,18 +192,29 @@ impl Job {
                     false => "and has no leave to be turned",
                 };
                 return Err(format!(
-                    "item type {item_type} is {} by {} and fits no board ({}), {turned}",
+                    "{} is {} by {} and fits no board ({}), {turned}",
+                    self.type_words(item_type),
                     item.width,
                     item.height,
                     self.sizes_words()
                 ));
             }
         }
-        let demands: usize = self.items.iter().map(|item| item.demand).sum();
+        Ok(())
+    }
+
+    /// The demands added up.
+    pub fn demands(&self) -> usize {
+        self.items.iter().map(|item| item.demand).sum()
+    }
+
+    /// The demands add up to at most 4,000.
+    fn few_enough(&self) -> Result<(), String> {
+        let demands = self.demands();
         match demands <= MOST_PIECES {
             true => Ok(()),
             false => Err(format!(
-                "the demands add up to {}; at most {} are allowed, so split the job",
+                "the demands add up to {}; at most {} are allowed, so split the job (office split)",
                 thousands(demands),
                 thousands(MOST_PIECES)
             )),
@@ -209,23 +222,19 @@ impl Job {
     }
 }
 
-/// The numbers of line 1 after its kind, each within its limits.
-fn head(first: &str) -> Result<[usize; 5], String> {
-    let form = "line 1 must be: 1, stages (2 or 3), exact (1 or 0), t, the number of board sizes, \
-                n, b, the width of the blade";
-    let all = numbers(first).ok_or(format!("{form}; something in it is not a whole number"))?;
-    let [1, stages, exact, sizes, types, blade] = all[..] else {
-        return Err(format!(
-            "{form}; it has {} number(s), the first being the kind",
-            all.len()
-        ));
-    };
-    within("stages", stages, 2, 3)?;
-    within("exact", exact, 0, 1)?;
-    within("t", sizes, 1, MOST_SIZES)?;
-    within("n", types, 1, MOST_TYPES)?;
-    within("b", blade, 0, MOST_BLADE)?;
-    Ok([stages, exact, sizes, types, blade])
+/// The stages of a mode and whether it is exact, by its name in letters of any case.
+pub(crate) fn mode_named(name: &str) -> Result<(usize, bool), String> {
+    let named = |(known, ..): &&(&str, usize, bool)| known.eq_ignore_ascii_case(name);
+    let found = MODES.iter().find(named);
+    let fault = || format!("mode is \"{name}\"; it must be 2E, 2N, 3E or 3N");
+    found
+        .map(|&(_, stages, exact)| (stages, exact))
+        .ok_or_else(fault)
+}
+
+/// An error in a line.
+pub(crate) fn in_line(line: usize) -> impl Fn(String) -> String {
+    move |fault| format!("line {line}: {fault}")
 }
 
 /// Whether an item type fits a size in a position in which it may lie.
@@ -237,21 +246,8 @@ pub fn fits_size(item: &Item, size: &Size) -> bool {
     fits(false) || (item.turns() && fits(true))
 }
 
-/// The size of a line 10, whose running number must be the one given.
-fn size_line(text: &str, size: usize) -> Result<Size, String> {
-    let form = format!("must be: 10, {size}, W, H, cost");
-    let all = numbers(text).ok_or(format!("{form}; something in it is not a whole number"))?;
-    let [10, number, width, height, cost] = all[..] else {
-        return Err(format!(
-            "{form}; it has {} number(s), the first being the kind",
-            all.len()
-        ));
-    };
-    if number != size {
-        return Err(format!(
-            "{form}; sizes stand in order from 0, and {number} is not the next"
-        ));
-    }
+/// A size of these numbers, each within its limits.
+fn size_of([width, height, cost]: [usize; 3]) -> Result<Size, String> {
     within("W", width, 1, MOST_SIDE)?;
     within("H", height, 1, MOST_SIDE)?;
     within("cost", cost, 1, MOST_COST)?;
@@ -262,21 +258,8 @@ fn size_line(text: &str, size: usize) -> Result<Size, String> {
     })
 }
 
-/// The item type of a line 2, whose running number must be the one given.
-fn item_line(text: &str, item_type: usize) -> Result<Item, String> {
-    let form = format!("must be: 2, {item_type}, width, height, demand, leave");
-    let all = numbers(text).ok_or(format!("{form}; something in it is not a whole number"))?;
-    let [2, number, width, height, demand, leave] = all[..] else {
-        return Err(format!(
-            "{form}; it has {} number(s), the first being the kind",
-            all.len()
-        ));
-    };
-    if number != item_type {
-        return Err(format!(
-            "{form}; item types stand in order, and {number} is not the next"
-        ));
-    }
+/// An item type of these numbers, each within its limits.
+fn item_of([width, height, demand, leave]: [usize; 4]) -> Result<Item, String> {
     within("width", width, 1, MOST_SIDE)?;
     within("height", height, 1, MOST_SIDE)?;
     within("demand", demand, 1, MOST_PIECES)?;

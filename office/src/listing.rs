@@ -140,7 +140,7 @@ pub fn too_large(refusal: Refusal) -> String {
     };
     format!(
         "the job has more than {most}, and the saw refuses it with {}; \
-         take fewer item types in one job, or a two-stage or exact mode",
+         take fewer item types in one job, or a two-stage or exact mode: \"office split JOB\" says which",
         refusal.number
     )
 }

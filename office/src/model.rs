@@ -23,7 +23,7 @@ pub fn column(cut: &Cut) -> String {
 }
 
 /// The column of a size: how many of its boards are opened.
-fn column_of_size(size: usize) -> String {
+pub fn column_of_size(size: usize) -> String {
     format!("{SIZE}{size}")
 }
 
@@ -44,7 +44,7 @@ pub fn rows(listing: &Listing, job: &Job) -> Vec<String> {
 
 /// The LP file of a job.
 pub fn lp(job: &Job, listing: &Listing) -> String {
-    let mut text = head(job, listing);
+    let mut text = head(job, listing, "\\");
     text.push_str("Minimize\n");
     let costs = job.sizes.iter().map(|size| size.cost as i32);
     let none = listing.cuts.iter().map(|_| 0);
@@ -77,26 +77,27 @@ pub fn lp(job: &Job, listing: &Listing) -> String {
     text
 }
 
-/// Comments that say what the columns and rows are, and which plate each number P is.
-fn head(job: &Job, listing: &Listing) -> String {
+/// Comments that say what the columns and rows are, and which plate each number P is; each line begins
+/// with the mark of a comment.
+pub fn head(job: &Job, listing: &Listing, mark: &str) -> String {
     let plate = |(number, plate): (usize, &Plate)| match job.sizes.get(number) {
         Some(size) => format!(
-            "\\ Plate {number}: {}; board size {number}, cost {}.\n",
+            "{mark} Plate {number}: {}; board size {number}, cost {}.\n",
             plate.words(),
             size.cost
         ),
-        None => format!("\\ Plate {number}: {}.\n", plate.words()),
+        None => format!("{mark} Plate {number}: {}.\n", plate.words()),
     };
     let plates: String = listing.plates.iter().enumerate().map(plate).collect();
     let said = format!(
-        "\\ One-cut model of a job in mode {}: {}, blade {}, {} item types.\n\
-         \\ {} residual types, {} cuts.\n\
-         \\ Column size_J: how many boards of size J are opened.\n\
-         \\ Column x_P_I_T: how often item type I is cut from plate type P, turned if T is 1.\n\
-         \\ Row item_I: item type I is cut as often as demanded.\n\
-         \\ Row boards_J: each cut from plate type J, which is size J, opens a board of that size.\n\
-         \\ Row plate_P: residual type P is cut at most as often as it arises.\n\
-         \\ Row pieces: a plan has at most 4,000 cuts.\n",
+        "{mark} One-cut model of a job in mode {}: {}, blade {}, {} item types.\n\
+         {mark} {} residual types, {} cuts.\n\
+         {mark} Column size_J: how many boards of size J are opened.\n\
+         {mark} Column x_P_I_T: how often item type I is cut from plate type P, turned if T is 1.\n\
+         {mark} Row item_I: item type I is cut as often as demanded.\n\
+         {mark} Row boards_J: each cut from plate type J, which is size J, opens a board of that size.\n\
+         {mark} Row plate_P: residual type P is cut at most as often as it arises.\n\
+         {mark} Row pieces: a plan has at most 4,000 cuts.\n",
         job.mode(),
         boards(job),
         job.blade,

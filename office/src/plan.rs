@@ -1,7 +1,7 @@
 //! Plans: counts of cuts, their test, and their lines of kind 3, which show the plates of the model.
 
-use crate::columns::{line, numbers, thousands};
-use crate::job::{Job, MOST_PIECES};
+use crate::columns::{line, said, thousands, whole_numbers};
+use crate::job::{in_line, is_table, Job, MOST_PIECES};
 use crate::listing::{Listing, Plate};
 use crate::model::column;
 use crate::solution::Solution;
@@ -9,13 +9,20 @@ use crate::solution::Solution;
 /// How far from a whole number a solver's value may lie.
 const TOLERANCE: f64 = 1e-3;
 
-/// The counts of a solution, one for each cut, rounded to whole numbers.
+/// The counts of a solution, one for each cut, rounded to whole numbers, none of them above 4,000.
 pub fn counts(listing: &Listing, solution: &Solution) -> Result<Vec<usize>, String> {
     let mut counts = Vec::new();
     for cut in &listing.cuts {
         let name = column(cut);
         let value = solution.values.get(&name).copied().unwrap_or(0.0);
         let rounded = value.round();
+        if rounded > MOST_PIECES as f64 {
+            return Err(format!(
+                "{name} is {}; a plan has at most {} cuts",
+                shown(value),
+                thousands(MOST_PIECES)
+            ));
+        }
         if (value - rounded).abs() > TOLERANCE || rounded < 0.0 {
             return Err(format!(
                 "{name} is {value}, not a whole number: \
@@ -25,6 +32,14 @@ pub fn counts(listing: &Listing, solution: &Solution) -> Result<Vec<usize>, Stri
         counts.push(rounded as usize);
     }
     Ok(counts)
+}
+
+/// A solver's value: in full, or with its power of ten where that would be many digits.
+fn shown(value: f64) -> String {
+    match value.abs() < 1e9 {
+        true => value.to_string(),
+        false => format!("{value:e}"),
+    }
 }
 
 /// An error unless the saw accepts the counts: at most 4,000 cuts, each demand reached, no residual
@@ -80,37 +95,61 @@ pub fn balance(listing: &Listing, counts: &[usize], plate: usize) -> [usize; 2] 
     balance
 }
 
-/// The counts that the lines of kind 3 of a saw text give; other lines after the job are left alone.
+/// Whether lines of kind 3 follow a job in a text; a table has none.
+pub fn has_lines(text: &str, job: &Job) -> bool {
+    let of_text = said(text).skip(job.lines());
+    let mut kinds = of_text.map(|(_, line)| line.split_ascii_whitespace().next());
+    !is_table(text) && kinds.any(|kind| kind == Some("3"))
+}
+
+/// The counts that the lines of kind 3 of a saw text give; other lines after the job are left alone. An error
+/// names the line, as one that names a cut again.
 pub fn of_text(text: &str, job: &Job, listing: &Listing) -> Result<Vec<usize>, String> {
     let mut counts = vec![0; listing.cuts.len()];
-    for (number, line) in (1..).zip(text.lines()).skip(job.lines()) {
-        let all = numbers(line).ok_or(format!(
-            "line {number}: something in it is not a whole number"
-        ))?;
-        match all[..] {
-            [3, plate, item, count, width, height, stage, turn] => {
-                let cut = listing.cut_of(plate, item, turn == 1);
-                let turned = if turn == 1 { " turned" } else { "" };
-                let cut = cut.ok_or(format!(
-                    "line {number}: item type {item}{turned} cannot be cut from plate type {plate}"
-                ))?;
-                if let Some(other) = other_shown(&listing.plates[plate], [width, height, stage]) {
-                    let there = listing.plates[plate].words();
-                    return Err(format!(
-                        "line {number}: plate type {plate} is {there}; the line shows {other}"
-                    ));
-                }
-                counts[cut - 1] = count;
-            }
-            [3, ..] => {
-                return Err(format!(
-                    "line {number}: must be: 3, plate, item, count, width, height, stage, turn"
-                ))
-            }
-            _ => {}
+    let mut lines = vec![None; listing.cuts.len()];
+    for (number, line) in said(text).skip(job.lines()) {
+        let all = whole_numbers(line, number)?;
+        if all.first() != Some(&3) {
+            continue;
         }
+        let (place, count) = of_line(listing, &all).map_err(in_line(number))?;
+        if let Some(before) = lines[place].replace(number) {
+            return Err(format!(
+                "line {number}: {} has a count on line {before} already; the saw refuses that with 9",
+                column(&listing.cuts[place])
+            ));
+        }
+        counts[place] = count;
     }
     Ok(counts)
+}
+
+/// The place of the cut that a line 3 names, and its count.
+fn of_line(listing: &Listing, numbers: &[usize]) -> Result<(usize, usize), String> {
+    let [3, plate, item, count, width, height, stage, turn @ (0 | 1)] = *numbers else {
+        let form = "3, plate, item, count, width, height, stage, turn (0 or 1)";
+        return Err(format!("must be: {form}"));
+    };
+    let turned = if turn == 1 { " turned" } else { "" };
+    let cut = listing.cut_of(plate, item, turn == 1).ok_or(format!(
+        "item type {item}{turned} cannot be cut from plate type {plate}"
+    ))?;
+    let there = &listing.plates[plate];
+    if let Some(other) = other_shown(there, [width, height, stage]) {
+        return Err(format!(
+            "plate type {plate} is {}; the line shows {other}",
+            there.words()
+        ));
+    }
+    if count > MOST_PIECES {
+        return Err(format!(
+            "the count of {} is {}; a plan has at most {} cuts",
+            column(&listing.cuts[cut - 1]),
+            thousands(count),
+            thousands(MOST_PIECES)
+        ));
+    }
+    Ok((cut - 1, count))
 }
 
 /// In which of width, height and stage what a line shows differs from a plate, as "width 8 for 9";
@@ -246,20 +285,28 @@ mod tests {
         }
     }
 
-    #[test]
-    fn a_solution_becomes_lines() {
-        let listing = Listing::of(&job_a()).unwrap();
+    /// A solution that is job A's plan, but for what solvers leave to rounding.
+    fn solution() -> Solution {
         let mut solution = Solution::default();
+        let listing = Listing::of(&job_a()).unwrap();
         for (cut, &count) in listing.cuts.iter().zip(&PLAN) {
             solution.values.insert(column(cut), count as f64 - 1e-7);
         }
-        let counts = counts(&listing, &solution).unwrap();
+        solution
+    }
+
+    #[test]
+    fn a_solution_becomes_lines() {
+        let listing = Listing::of(&job_a()).unwrap();
+        let counts = counts(&listing, &solution()).unwrap();
         assert_eq!(counts, PLAN);
         assert_eq!(boards(&listing, &counts), 2);
         assert_eq!(cost(&job_a(), &listing, &counts), 2);
         let text = job_a().text() + &lines(&listing, &counts);
         assert_eq!(text.lines().count(), 8);
-        assert_eq!(of_text(&text, &job_a(), &listing), Ok(counts));
+        assert_eq!(of_text(&text, &job_a(), &listing), Ok(counts.clone()));
+        let remarks = text.replace('\n', " # a remark\n");
+        assert_eq!(of_text(&remarks, &job_a(), &listing), Ok(counts));
         for (line, told) in [
             (
                 "3 1 1 1 9 3 1 0\n",
@@ -273,13 +320,40 @@ mod tests {
                 "3 5 2 1 0\n",
                 "line 9: must be: 3, plate, item, count, width",
             ),
+            ("3 5 2 1 3 3 2 2\n", "line 9: must be: 3, plate, item"),
+            (
+                "3 5 2 4001 3 3 2 0\n",
+                "line 9: the count of x_5_2_0 is 4,001; a plan has at most 4,000 cuts",
+            ),
+            (
+                "3 4 2 1 6 3 2 0\n",
+                "line 9: x_4_2_0 has a count on line 8 already; the saw refuses that with 9",
+            ),
         ] {
             let fault = of_text(&(text.clone() + line), &job_a(), &listing).unwrap_err();
             assert!(fault.contains(told), "{fault}");
         }
-        solution.values.insert("x_0_1_0".into(), 1.5);
-        assert!(super::counts(&listing, &solution)
-            .unwrap_err()
-            .contains("relaxation"));
+    }
+
+    #[test]
+    fn a_count_is_a_whole_number_up_to_4_000() {
+        let listing = Listing::of(&job_a()).unwrap();
+        let mut solution = solution();
+        for (value, told) in [
+            (
+                1.5,
+                "x_0_1_0 is 1.5, not a whole number: a plan needs the integer solution, not the relaxation's",
+            ),
+            (4001.0, "x_0_1_0 is 4001; a plan has at most 4,000 cuts"),
+            (2e30, "x_0_1_0 is 2e30; a plan has at most 4,000 cuts"),
+            (f64::MAX, "308; a plan has at most 4,000 cuts"),
+            (-2e30, "not a whole number"),
+        ] {
+            solution.values.insert("x_0_1_0".into(), value);
+            let fault = counts(&listing, &solution).unwrap_err();
+            assert!(fault.contains(told), "{fault}");
+        }
+        solution.values.insert("x_0_1_0".into(), 4000.0);
+        assert_eq!(counts(&listing, &solution).unwrap()[0], 4000);
     }
 }

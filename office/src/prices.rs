@@ -22,6 +22,11 @@ use crate::solution::Solution;
 /// The greatest price, and the greatest D.
 pub const MOST_PRICE: usize = 9_999;
 
+/// What to say of prices of which no bound comes: the largest item is less than that part of a board.
+pub const NOTHING_SHOWN: &str =
+    "the prices show nothing of the cost: the items are too small beside the boards for whole prices up \
+     to 9,999";
+
 /// A denominator and a price for each item type and each residual type.
 #[derive(Debug, Clone, PartialEq, Eq)]
 pub struct Prices {
@@ -66,6 +71,13 @@ pub fn by_area(job: &Job, listing: &Listing) -> Prices {
     }
 }
 
+/// The best prices that come of a solution's dual prices; none if none come that say anything of the
+/// cost, as where the solver was stopped among prices that nothing could pay.
+pub fn of_duals(job: &Job, listing: &Listing, duals: &[f64]) -> Option<Prices> {
+    let prices = scaled(job, listing, duals);
+    (prices.sum(job) > 0).then_some(prices)
+}
+
 /// Each item type's share of a board's cost by area, sides taken with a blade: of the size that gives
 /// most area for its cost, among those from which an item can be cut.
 pub fn areas(job: &Job, blade: usize) -> Vec<f64> {
@@ -92,7 +104,10 @@ pub fn scaled(job: &Job, listing: &Listing, duals: &[f64]) -> Prices {
     for scale in 1..=MOST_PRICE {
         for rounded in [f64::round, f64::floor] {
             let whole = |dual: &f64| rounded(dual * scale as f64) as usize;
-            let items = duals.iter().map(whole).collect();
+            let items: Vec<usize> = duals.iter().map(whole).collect();
+            if items.iter().any(|&price| price > MOST_PRICE) {
+                continue;
+            }
             let prices = forced(job, listing, &order, items);
             let fits = prices.within_limits();
             if fits && prices.is_better_than(&best, job) {
@@ -188,6 +203,16 @@ mod tests {
             residuals: vec![0, 0, 1, 0, 0],
         };
         assert_eq!(prices, expected);
+        assert_eq!(prices.sum(&job_a()), 2);
+    }
+
+    #[test]
+    fn dual_prices_that_no_board_pays_give_no_prices() {
+        let listing = Listing::of(&job_a()).unwrap();
+        for dual in [1e10, 1e30, f64::MAX, 1e-9] {
+            assert_eq!(of_duals(&job_a(), &listing, &[dual, dual]), None, "{dual}");
+        }
+        let prices = of_duals(&job_a(), &listing, &[1.0, 0.0]).unwrap();
         assert_eq!(prices.sum(&job_a()), 2);
     }
 

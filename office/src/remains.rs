@@ -96,8 +96,9 @@ impl Remains {
     }
 }
 
-/// The two lengths of two words. An error says what is wrong with them.
-pub fn lengths(words: [&str; 2]) -> Result<[usize; 2], String> {
+/// The two lengths of two words, or those that every offcut reaches where there are no words. An error says
+/// what is wrong with them.
+pub fn lengths(words: &[&str]) -> Result<[usize; 2], String> {
     let read = |word: &str| match word.parse() {
         Ok(length @ 1..=MOST_SIDE) => Ok(length),
         Ok(length) => Err(format!(
@@ -107,22 +108,17 @@ pub fn lengths(words: [&str; 2]) -> Result<[usize; 2], String> {
         )),
         Err(_) => Err(format!("{word} is not a number")),
     };
-    Ok([read(words[0])?, read(words[1])?])
+    match words {
+        [] => Ok(LEAST),
+        [first, second] => Ok([read(first)?, read(second)?]),
+        _ => Err("a usable offcut has two lengths, a width and a height".into()),
+    }
 }
 
 /// The lines of the answer, if each number is within its limits.
 fn lines(job: &reference::Job, answer: &Answer) -> Option<Vec<reference::Placement>> {
-    let line = |[board, size]: [usize; 2], placement: &Placement| {
-        let Placement {
-            strip,
-            stack,
-            place,
-            item,
-            turned,
-            x,
-            y,
-        } = *placement;
-        let numbers = [board, size, strip, stack, place, item, x, y, turned.into()];
+    let line = |of_board: [usize; 2], placement: &Placement| {
+        let numbers = of_board.into_iter().chain(placement.numbers());
         let mut words = [0; PLACEMENT_NUMBERS];
         for (word, number) in words.iter_mut().zip(numbers) {
             *word = u32::try_from(number).ok()?;
@@ -210,14 +206,30 @@ fn not_laid_so() -> String {
 }
 
 #[cfg(test)]
-mod tests {
+pub mod tests {
     use super::*;
-    use crate::job::tests::{job, job_a, job_with_blade};
+    use crate::job::tests::{job, job_a, job_with_blade, two_sizes};
+
+    /// The answer that an output is, and what remains of its boards.
+    pub fn answered(job: &Job, output: &str, lengths: [usize; 2]) -> (Answer, Remains) {
+        let answer = Answer::read(output, job).unwrap();
+        let remains = Remains::of(job, &answer, lengths).unwrap();
+        (answer, remains)
+    }
 
     const OUTPUT: &str = "7 1 0 1 1 1 1 0 0 0\n7 1 0 1 2 1 2 5 0 0\n7 1 0 2 1 1 2 0 4 0\n7 1 0 2 2 1 2 3 4 0\n7 2 0 1 1 1 1 0 0 0\n8 2 2 1 1\n";
 
     fn remains(output: &str, lengths: [usize; 2]) -> Result<Remains, String> {
         Remains::of(&job_a(), &Answer::read(output, &job_a()).unwrap(), lengths)
+    }
+
+    /// The job on two sizes, and its answer and remains of two boards of size 0 that are alike and these lines.
+    pub fn two_alike(more: &str) -> (Job, Answer, Remains) {
+        let board =
+            |number: usize| format!("7 {number} 0 1 1 1 1 0 0 0\n7 {number} 0 1 2 1 2 5 0 0\n");
+        let output = board(1) + &board(2) + more;
+        let (answer, remains) = answered(&two_sizes(), &output, LEAST);
+        (two_sizes(), answer, remains)
     }
 
     /// x, y, width, height and whether it is usable, of each offcut of each board.
@@ -252,8 +264,7 @@ mod tests {
     fn the_swath_of_a_strip_with_a_trim() {
         let job = job_with_blade("2N", [20, 10], 2, &[[8, 9, 1], [8, 6, 1]]);
         let output = "7 1 0 1 1 1 1 0 0 0\n7 1 0 1 2 1 2 10 0 0\n8 1 0 1 0\n";
-        let answer = Answer::read(output, &job).unwrap();
-        let found = Remains::of(&job, &answer, LEAST).unwrap();
+        let (_, found) = answered(&job, output, LEAST);
         let [board] = &found.boards[..] else { panic!() };
         let band = |band: &Band| [band.x, band.y, band.width, band.height];
         let bands: Vec<[usize; 4]> = board.swath.iter().map(band).collect();
@@ -289,14 +300,15 @@ mod tests {
 
     #[test]
     fn lengths_are_1_to_10_000() {
-        assert_eq!(lengths(["1", "10000"]), Ok([1, 10_000]));
+        assert_eq!(lengths(&["1", "10000"]), Ok([1, 10_000]));
+        assert_eq!(lengths(&[]), Ok(LEAST));
         for (words, told) in [
             (["0", "3"], "a length of 0"),
             (["3", "10001"], "a length of 10,001"),
             (["3", "wide"], "wide is not a number"),
             (["-3", "3"], "-3 is not a number"),
         ] {
-            let fault = lengths(words).unwrap_err();
+            let fault = lengths(&words).unwrap_err();
             assert!(fault.contains(told), "{fault}");
         }
     }

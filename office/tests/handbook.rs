@@ -32,7 +32,7 @@ impl Example {
         let answer = match (env::var_os("PROGRAMS"), self.fold) {
             (Some(folder), fold) => {
                 let name = if fold { "fold" } else { "saw" };
-                answer_of(&Path::new(&folder).join(name), text.as_bytes())
+                answer_of(&Path::new(&folder).join(name), &[], text.as_bytes())
             }
             (None, true) => reference::fold_text(text.as_bytes()),
             (None, false) => reference::saw_text(text.as_bytes()),
@@ -41,9 +41,10 @@ impl Example {
     }
 }
 
-/// What a program writes when it reads a text.
-fn answer_of(program: &Path, text: &[u8]) -> Vec<u8> {
+/// What a program writes with these arguments when it reads a text.
+fn answer_of(program: &Path, arguments: &[&str], text: &[u8]) -> Vec<u8> {
     let mut child = Command::new(program)
+        .args(arguments)
         .stdin(Stdio::piped())
         .stdout(Stdio::piped())
         .spawn()
@@ -212,6 +213,78 @@ fn listing(example: &Example) -> Vec<String> {
         .map(cut)
         .take(listed.cuts as usize);
     plates.chain(cuts).collect()
+}
+
+/// The command that goes from layouts to boards: the saw is given a text that it accepts, and lays the boards out.
+#[test]
+fn layouts_go_to_the_saw_in_one_command() {
+    let path = concat!(env!("CARGO_MANIFEST_DIR"), "/../docs/FORMAT.md");
+    let handbook = fs::read_to_string(path).unwrap();
+    let is_command = |line: &&str| line.trim().starts_with("{ grep ");
+    let command = handbook.lines().find(is_command).unwrap().trim();
+    let examples = examples(&blocks());
+    let [layouts, plan] = [examples["fold-a"].text(), examples["fold-a"].answer()];
+    let folder = env::temp_dir().join(format!("office-fold-{}", std::process::id()));
+    fs::create_dir_all(&folder).unwrap();
+    fs::write(folder.join("layouts.txt"), &layouts).unwrap();
+    fs::write(folder.join("plan.txt"), &plan).unwrap();
+    // The fold program stands for its answer, the saw for the text that it is given.
+    let script =
+        format!("fold() {{ cmp -s - layouts.txt && cat plan.txt; }}\nsaw() {{ cat; }}\n{command}");
+    let output = Command::new("sh")
+        .args(["-c", &script])
+        .current_dir(&folder)
+        .output()
+        .unwrap();
+    fs::remove_dir_all(&folder).unwrap();
+    let job: String = layouts
+        .lines()
+        .take(4)
+        .map(|line| format!("{line}\n"))
+        .collect();
+    assert_eq!(
+        String::from_utf8(output.stdout).unwrap(),
+        job.clone() + &plan
+    );
+    let answer = reference::saw_text((job + &plan).as_bytes());
+    assert!(answer.ends_with(b"        8        2        0        1        0\n"));
+}
+
+/// The handbook says that arguments are not looked at, and so it is.
+#[test]
+fn the_programs_take_no_arguments() {
+    let path = concat!(env!("CARGO_MANIFEST_DIR"), "/../docs/FORMAT.md");
+    let handbook = fs::read_to_string(path).unwrap();
+    assert!(handbook.contains("Neither takes arguments"));
+    let Some(folder) = env::var_os("PROGRAMS") else {
+        return;
+    };
+    let examples = examples(&blocks());
+    for (program, name) in [("saw", "job-a"), ("fold", "fold-a")] {
+        let program = Path::new(&folder).join(program);
+        let text = examples[name].text();
+        let answer = answer_of(&program, &["--help", "job.txt"], text.as_bytes());
+        assert_eq!(String::from_utf8(answer).unwrap(), examples[name].answer());
+    }
+}
+
+/// The README's first command: its answer stands there, and the text is the handbook's.
+#[test]
+fn the_readme_shows_what_the_first_command_prints() {
+    let file = |name: &str| {
+        let path = format!("{}/../{name}", env!("CARGO_MANIFEST_DIR"));
+        fs::read_to_string(path).unwrap()
+    };
+    let [readme, text] = [file("README.md"), file("examples/a.txt")];
+    assert!(readme.contains("target/bin/saw <examples/a.txt"));
+    let example = &examples(&blocks())["job-a"];
+    assert_eq!(text, example.text());
+    let printed: String = example
+        .answer()
+        .lines()
+        .map(|line| format!("{line}\n"))
+        .collect();
+    assert!(readme.contains(&printed), "{printed}");
 }
 
 #[test]

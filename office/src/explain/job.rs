@@ -35,13 +35,14 @@ pub fn larger(sent: &Sent, item_type: usize) -> Option<Told> {
 
 /// Refusal 4.
 pub fn demands(sent: &Sent) -> Option<Told> {
-    let demands: usize = sent.job()?.items.iter().map(|item| item.demand).sum();
+    let demands = sent.job()?.demands();
     (demands > MOST_PIECES).then(|| {
         let fault = format!(
             "the demands add up to {}; at most 4,000 are allowed",
             thousands(demands)
         );
-        Told::new("the whole job", fault, "Split the job into several")
+        let cure = "Split the job into several; \"office split JOB FOLDER\" does";
+        Told::new("the whole job", fault, cure)
     })
 }
 
@@ -85,7 +86,8 @@ pub fn model(sent: &Sent, number: usize) -> Option<Told> {
         };
         let fault = format!("the job has more than {most}");
         let cure = "Take fewer item types in one job, or a two-stage or exact mode; \
-                    small items on large boards take most, and each size adds its own";
+                    small items on large boards take most, and each size adds its own. \
+                    \"office split JOB FOLDER\" says which types and modes, and parts the job";
         Told::new("the whole job", fault, cure)
     })
 }

@@ -2,7 +2,7 @@
 //! neighbours.
 
 use super::sent::Sent;
-use super::Told;
+use super::{form, Told};
 use crate::job::{Job, Size};
 
 /// A line of kind 7.
@@ -28,17 +28,21 @@ impl Row {
     }
 }
 
-/// The lines of kind 7.
+/// The lines of kind 7, those left out that have a number outside its limits: they are refused before
+/// any layout is looked at.
 pub fn rows(sent: &Sent) -> Vec<Row> {
     let row = |line| match sent.numbers(line)?[..] {
-        [7, board, size, strip, stack, place, item, x, y, turn] => Some(Row {
-            line,
-            size,
-            turn: [board, strip, stack, place],
-            item,
-            turned: turn == 1,
-            at: [x, y],
-        }),
+        [7, board, size, strip, stack, place, item, x, y, turn] => {
+            let told = form::value(sent, line);
+            told.is_none().then_some(Row {
+                line,
+                size,
+                turn: [board, strip, stack, place],
+                item,
+                turned: turn == 1,
+                at: [x, y],
+            })
+        }
         _ => None,
     };
     (sent.body()..=sent.count()).filter_map(row).collect()

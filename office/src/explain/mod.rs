@@ -9,6 +9,9 @@ mod sent;
 
 use sent::Sent;
 
+/// The last refusal; they are numbered from 1.
+pub const LAST: usize = 20;
+
 /// An explanation: the place in words, what is wrong there, what to change.
 struct Told {
     place: String,
@@ -53,7 +56,7 @@ pub fn explain(text: &[u8], number: usize, place: usize) -> Result<String, Strin
         20 => plan::other_plate(&sent, place),
         _ => {
             return Err(format!(
-                "there is no refusal {number}; they run from 1 to 20"
+                "there is no refusal {number}; they run from 1 to {LAST}"
             ))
         }
     };
@@ -65,6 +68,8 @@ pub fn explain(text: &[u8], number: usize, place: usize) -> Result<String, Strin
     }
 }
 
+#[cfg(test)]
+mod layouts_tests;
 #[cfg(test)]
 mod sizes_tests;
 #[cfg(test)]

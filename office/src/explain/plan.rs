@@ -24,7 +24,8 @@ pub fn no_such_cut(sent: &Sent, line: usize) -> Option<Told> {
         return None;
     }
     let fault = why_no_cut(&job, &listing, plate, item, turned);
-    let cure = "Number plate types as docs/FORMAT.md says, and name a cut of the listing";
+    let cure = "Number plate types as docs/FORMAT.md says, and name a cut of the listing, which \
+                \"office list\" prints";
     Some(Told::new(format!("line {line}"), fault, cure))
 }
 
@@ -98,7 +99,7 @@ pub fn other_plate(sent: &Sent, line: usize) -> Option<Told> {
     );
     let cure = match meant(&listing, shown) {
         Some(meant) => format!(
-            "Number plate types as docs/FORMAT.md says: what the line shows is plate type {meant} there"
+            "Number plate types as \"office list\" does: what the line shows is plate type {meant} there"
         ),
         None => "Take width, height and stage from the listing of this very job, blade and mode \
                  included; no plate type of it is what the line shows"

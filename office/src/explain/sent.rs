@@ -97,6 +97,8 @@ impl<'a> Sent<'a> {
         };
         let [head, sizes] = [self.price_head().unwrap_or(usize::MAX), self.sizes()];
         match line {
+            // There is no line 0, and nothing may stand on it.
+            0 => any(&[]),
             1 => any(&[1]),
             _ if line - 2 < sizes => one(10, line - 2),
             _ if line < self.body() => one(2, line - 1 - sizes),
@@ -108,7 +110,7 @@ impl<'a> Sent<'a> {
                     [2, 3].map(|place| announced.get(place).copied().unwrap_or(0));
                 match line - head {
                     after if after <= items => one(5, after),
-                    after if after <= items + plates => one(6, sizes + after - items - 1),
+                    after if after - items <= plates => one(6, sizes + after - items - 1),
                     _ => any(&[]),
                 }
             }

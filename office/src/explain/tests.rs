@@ -3,10 +3,10 @@
 use super::explain;
 use crate::answer::refusal;
 use crate::columns::line;
-use crate::job::tests::{job, job_a, job_with_blade, job_with_leave};
+use crate::job::tests::{job, job_a, job_with_leave};
 
 /// Job A and these lines.
-fn text(lines: &[&[usize]]) -> String {
+pub fn text(lines: &[&[usize]]) -> String {
     lines
         .iter()
         .fold(job_a().text(), |text, numbers| text + &line(numbers))
@@ -80,7 +80,7 @@ fn a_text_sent_to_the_other_program() {
 }
 
 #[test]
-fn values_outside_their_limits() {
+fn values_of_a_job_outside_their_limits() {
     check(&[
         (
             line(&[1, 4, 0, 1, 2, 0]),
@@ -102,6 +102,12 @@ fn values_outside_their_limits() {
             line(&[1, 2, 0, 1, 2, 21]),
             "Refusal 2, line 1: b is 21, outside its limits. Write b from 0 to 20.",
         ),
+    ]);
+}
+
+#[test]
+fn values_outside_their_limits() {
+    check(&[
         (
             text(&[&[3, 0, 3, 1, 9, 7, 1, 0]]),
             "line 5: item is 3, outside its limits. Write item from 1 to 2",
@@ -177,9 +183,9 @@ fn plates_shown() {
     let whole = [3, 0, 1, 2, 9, 7, 1, 0];
     check(&[
         (text(&[&[3, 0, 1, 2, 8, 7, 1, 0]]), "Refusal 20, line 5: in the model plate type 0 is 9 by 7, stage 1; the line shows width 8 for 9. Take width, height and stage from the listing"),
-        (text(&[&whole, &[3, 1, 2, 1, 9, 4, 1, 0]]), "Refusal 20, line 6: in the model plate type 1 is 9 by 3, stage 1; the line shows height 4 for 3. Number plate types as docs/FORMAT.md says: what the line shows is plate type 3 there."),
+        (text(&[&whole, &[3, 1, 2, 1, 9, 4, 1, 0]]), "Refusal 20, line 6: in the model plate type 1 is 9 by 3, stage 1; the line shows height 4 for 3. Number plate types as \"office list\" does: what the line shows is plate type 3 there."),
         (text(&[&whole, &[3, 2, 2, 1, 4, 4, 3, 0]]), "the line shows stage 3 for 2. Take"),
-        (text(&[&whole, &[3, 1, 2, 1, 4, 4, 2, 0]]), "the line shows width 4 for 9, height 4 for 3, stage 2 for 1. Number plate types as docs/FORMAT.md says: what the line shows is plate type 2 there."),
+        (text(&[&whole, &[3, 1, 2, 1, 4, 4, 2, 0]]), "the line shows width 4 for 9, height 4 for 3, stage 2 for 1. Number plate types as \"office list\" does: what the line shows is plate type 2 there."),
         (text(&[&[3, 0, 1, 2, 65_545, 7, 1, 0]]), "the line shows width 65,545 for 9. Take"),
         (text(&[&[3, 0, 1, 2, 9, 7, 999_999_999, 0]]), "the line shows stage 999,999,999 for 1"),
         (text(&[&[3, 0, 1, 1, 9, 7, 1, 0], &[3, 0, 1, 1, 8, 7, 1, 0]]), "Refusal 20, line 6: in the model"),
@@ -228,132 +234,6 @@ fn prices() {
     check(&[
         (text(&[&plan[..], &few].concat()), "Refusal 13, the whole price list: line 9 gives n 1 and m 0; this job has 2 item types and 5"),
         (text(&[&plan[..], &low].concat()), "Refusal 14, cut 5: item type 1 and plate type 2 are worth 1, above 0, the price of plate type 3"),
-    ]);
-}
-
-/// A fold text of a job and these lines of kind 7.
-pub fn fold(job: crate::job::Job, lines: &[[usize; 9]]) -> String {
-    lines.iter().fold(job.text(), |text, numbers| {
-        text + &line(&[&[7], &numbers[..]].concat())
-    })
-}
-
-const FIRST: [usize; 9] = [1, 0, 1, 1, 1, 1, 0, 0, 0];
-
-#[test]
-fn stage_rules() {
-    let two = job("2E", [9, 7], &[[5, 4, 2], [3, 3, 3]]);
-    let three = job("3N", [5, 5], &[[3, 5, 1], [2, 2, 2]]);
-    let exact = job("3E", [5, 5], &[[3, 5, 1], [2, 2, 2], [1, 2, 1]]);
-    let single = fold(job_a(), &[FIRST, [1, 0, 1, 1, 2, 2, 0, 4, 0]]);
-    let heights = fold(two, &[FIRST, [1, 0, 1, 2, 1, 2, 5, 0, 0]]);
-    let full = fold(
-        three,
-        &[[1, 0, 1, 1, 1, 2, 0, 0, 0], [1, 0, 1, 1, 2, 2, 0, 2, 0]],
-    );
-    let widths = fold(
-        exact,
-        &[
-            FIRST,
-            [1, 0, 1, 2, 1, 2, 3, 0, 0],
-            [1, 0, 1, 2, 2, 3, 3, 2, 0],
-        ],
-    );
-    check(&[
-        (
-            single,
-            "Refusal 16, strip from line 5: in two stages each stack is one item",
-        ),
-        (heights, "equally high"),
-        (
-            full,
-            "no stack of the strip is a single item of the strip's height, 4",
-        ),
-        (widths, "equally wide"),
-    ]);
-}
-
-#[test]
-fn layouts() {
-    let turn = fold(job_a(), &[[1, 0, 1, 2, 1, 1, 0, 0, 0]]);
-    let across = fold(job_a(), &[FIRST, [1, 0, 1, 2, 1, 1, 5, 0, 0]]);
-    let upwards = fold(job_a(), &[FIRST, [1, 0, 2, 1, 1, 1, 0, 4, 0]]);
-    let position = fold(job_a(), &[FIRST, [1, 0, 1, 2, 1, 2, 5, 1, 0]]);
-    let many: Vec<[usize; 9]> = (1..=4001)
-        .map(|board| [board, 0, 1, 1, 1, 1, 0, 0, 0])
-        .collect();
-    check(&[
-        (
-            turn,
-            "Refusal 15, line 5: board, strip, stack, place are 1 1 2 1",
-        ),
-        (
-            across,
-            "Refusal 17, strip from line 5: its stacks are 10 wide",
-        ),
-        (
-            upwards,
-            "Refusal 17, strip from line 6: it reaches up to 8, the board to 7",
-        ),
-        (
-            position,
-            "Refusal 18, line 6: x and y are 5 and 1, the item's position is 5 and 0",
-        ),
-        (
-            fold(job_a(), &[FIRST]),
-            "Refusal 11, item type 1: it lies on the boards 1 times",
-        ),
-        (fold(job_a(), &many), "Refusal 2, line 4005: board is 4,001"),
-    ]);
-}
-
-#[test]
-fn layouts_with_a_blade() {
-    let blade = |board| job_with_blade("2N", board, 2, &[[5, 4, 2], [3, 3, 3]]);
-    let beside = [1, 0, 1, 2, 1, 1, 7, 0, 0];
-    let across = fold(blade([11, 7]), &[FIRST, beside]);
-    let upwards = fold(blade([12, 9]), &[FIRST, [1, 0, 2, 1, 1, 1, 0, 6, 0]]);
-    let near = fold(blade([12, 10]), &[FIRST, [1, 0, 1, 2, 1, 1, 6, 0, 0]]);
-    let three = job_with_blade("3N", [20, 20], 2, &[[4, 8, 1], [4, 4, 2]]);
-    let stack = fold(
-        three,
-        &[
-            FIRST,
-            [1, 0, 1, 2, 1, 2, 6, 0, 0],
-            [1, 0, 1, 2, 2, 2, 6, 6, 0],
-        ],
-    );
-    let post = job_with_blade("3N", [20, 20], 2, &[[4, 12, 1], [4, 4, 2]]);
-    let high = fold(
-        post,
-        &[
-            FIRST,
-            [1, 0, 1, 2, 1, 2, 6, 0, 0],
-            [1, 0, 1, 2, 2, 2, 6, 5, 0],
-        ],
-    );
-    check(&[
-        (
-            across,
-            "its stacks are 12 wide together with a blade of 2 between them, the board 11",
-        ),
-        (
-            upwards,
-            "Refusal 17, strip from line 6: it reaches up to 10, the board to 9",
-        ),
-        (
-            near,
-            "x and y are 6 and 0, the item's position is 7 and 0",
-        ),
-        (
-            stack,
-            "no stack of the strip is a single item of the strip's height, 10",
-        ),
-        (
-            high,
-            "the item's position is 6 and 6. x is the widths of the stacks before it; y the strips \
-             below plus the items below it in its stack, and 2 for the blade after each of them",
-        ),
     ]);
 }
 

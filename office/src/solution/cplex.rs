@@ -1,12 +1,15 @@
 //! CPLEX's form, an XML file: an element for each variable with its value, and one for each
 //! constraint with its dual price where the problem solved has them.
 
-use super::{number, Entry, Names, Solution};
+use super::{number, Entry, Names, Solution, Unproved};
 
 /// Reads every element `variable` and `constraint`.
 pub fn read(text: &str, names: &Names) -> Result<Solution, String> {
     let mut solution = Solution::default();
     for element in text.split('<') {
+        if let Some(status) = attribute(element, "solutionStatusString") {
+            solution.unproved = Unproved::of(status);
+        }
         let (Some(name), column) = (attribute(element, "name"), element.starts_with("variable "))
         else {
             continue;

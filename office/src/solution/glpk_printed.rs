@@ -1,11 +1,16 @@
 //! GLPK's printable form, `glpsol -o`: two tables, of rows and of columns, in fixed columns of text
-//! that a line of dashes marks.
+//! that a line of dashes marks. Its head says how many columns there are, and its last line that it is
+//! the last. HiGHS writes it too (write_solution_style = 3).
 
-use super::{number, Entry, Names, Solution};
+use super::{all_there, cut_short, number, Entry, Names, Solution, Unproved};
 use std::ops::Range;
+
+/// The last line of a file.
+const END: &str = "End of output";
 
 /// Where the fields of a table stand.
 struct Table {
+    of_columns: bool,
     name: Range<usize>,
     activity: Range<usize>,
     marginal: Option<Range<usize>>,
@@ -13,10 +18,16 @@ struct Table {
 
 /// Reads both tables.
 pub fn read(text: &str, names: &Names) -> Result<Solution, String> {
-    found(text)?;
-    let mut solution = Solution::default();
-    let mut table = None;
+    if !text.lines().any(|line| line == END) {
+        return Err(cut_short(&format!("its last line, \"{END}\", is missing")));
+    }
+    let mut solution = Solution {
+        unproved: found(of_head(text, "Status:"))?,
+        ..Solution::default()
+    };
+    let mut table: Option<Table> = None;
     let mut header = "";
+    let mut columns = 0;
     for line in text.lines() {
         if line.starts_with("------") {
             table = Some(Table::of(header, line).ok_or("the solution's tables are not GLPK's")?);
@@ -27,18 +38,28 @@ pub fn read(text: &str, names: &Names) -> Result<Solution, String> {
                 .entry(line)
                 .ok_or(format!("this line of the solution is not GLPK's: {line}"))?;
             solution.enter(names, entry)?;
+            columns += usize::from(table.of_columns);
         }
         header = line;
     }
+    // "58 (58 integer, 0 binary)"
+    let announced = of_head(text, "Columns:").split(' ').next();
+    all_there(announced.unwrap_or(""), columns)?;
     Ok(solution)
 }
 
-/// An error if the status says that there is no solution.
-fn found(text: &str) -> Result<(), String> {
-    let status = text.lines().find_map(|line| line.strip_prefix("Status:"));
-    let status = status.map_or("", str::trim);
+/// What the head says after a word.
+fn of_head<'a>(text: &'a str, word: &str) -> &'a str {
+    let found = text.lines().find_map(|line| line.strip_prefix(word));
+    found.map_or("", str::trim)
+}
+
+/// What the status says, unless it is that the solution is the best one. An error if there is none.
+fn found(status: &str) -> Result<Option<Unproved>, String> {
     match status {
-        "OPTIMAL" | "FEASIBLE" | "INTEGER OPTIMAL" | "INTEGER NON-OPTIMAL" => Ok(()),
+        "OPTIMAL" | "FEASIBLE" | "INTEGER OPTIMAL" | "INTEGER NON-OPTIMAL" => {
+            Ok(Unproved::of(status))
+        }
         _ => Err(format!(
             "GLPK found no solution; its status is {status}: give it more time"
         )),
@@ -52,6 +73,7 @@ impl Table {
         let widest = |span: &&Range<usize>| span.len() >= 13;
         let marginal = header.contains("Marginal").then(|| spans.last().cloned());
         Some(Table {
+            of_columns: header.contains("Column name"),
             name: spans.get(1)?.clone(),
             activity: spans.iter().find(widest)?.clone(),
             marginal: marginal.flatten(),

@@ -1,25 +1,30 @@
 //! Solutions: the values and dual prices in a solver's solution file.
 //!
-//! Five forms are told apart by their first lines: GLPK's printable form (`glpsol -o`), GLPK's plain
-//! form (`glpsol -w`), CBC's (`solution`), CPLEX's, and lists of names and values (HiGHS, SCIP,
-//! Gurobi).
+//! Six forms are told apart by their first lines: GLPK's printable form (`glpsol -o`), GLPK's plain
+//! form (`glpsol -w`), CBC's (`solution`), CPLEX's, HiGHS's pretty form, and lists of names and values
+//! (HiGHS, lp_solve, SYMPHONY, SCIP, Gurobi, QSopt_ex).
 
 mod cbc;
 mod cplex;
 mod glpk_plain;
 mod glpk_printed;
+mod highs_pretty;
 mod named;
+mod status;
 
 use crate::job::Job;
 use crate::listing::Listing;
 use crate::model;
+pub use status::Unproved;
 use std::collections::HashMap;
 
-/// What a solution file says: values of columns and, if it has them, dual prices of rows.
+/// What a solution file says: values of columns, dual prices of rows if it has them, and the solver's
+/// status unless it is that no solution is better.
 #[derive(Debug, Clone, Default, PartialEq)]
 pub struct Solution {
     pub values: HashMap<String, f64>,
     pub duals: HashMap<String, f64>,
+    pub unproved: Option<Unproved>,
 }
 
 /// The names of a model's columns and rows, each in the model's order, and which of them is which.
@@ -65,8 +70,9 @@ impl Names {
 struct Entry<'a>(&'a str, f64, Option<f64>);
 
 impl Solution {
-    /// Reads a solution file, whichever form it has.
+    /// Reads a solution file, whichever form it has; a byte order mark says nothing.
     pub fn read(text: &str, names: &Names) -> Result<Solution, String> {
+        let text = text.strip_prefix('\u{feff}').unwrap_or(text);
         let first = text
             .lines()
             .find(|line| !line.trim().is_empty())
@@ -81,6 +87,7 @@ impl Solution {
                 cbc::read(text, names)
             }
             _ if first.starts_with("<?xml") => cplex::read(text, names),
+            "Columns" => highs_pretty::read(text, names),
             _ => named::read(text, names),
         }
     }
@@ -114,6 +121,21 @@ fn foreign(name: &str) -> Option<&'static str> {
         _ if name.starts_with(model::CUT) => Some("cut"),
         _ if name.starts_with(model::SIZE) => Some("size"),
         _ => None,
+    }
+}
+
+/// What to say of a file whose end is missing.
+fn cut_short(what: &str) -> String {
+    format!("the solution file is cut short: {what}; was the solver stopped while it wrote?")
+}
+
+/// An error unless as many columns are there as a file announces.
+fn all_there(announced: &str, there: usize) -> Result<(), String> {
+    match announced.parse() == Ok(there) {
+        true => Ok(()),
+        false => Err(cut_short(&format!(
+            "it announces {announced} columns, and {there} are there"
+        ))),
     }
 }
 

@@ -21,59 +21,18 @@ fn nonzero(solution: &Solution, name: &str) -> (f64, usize) {
     (solution.values[name], others)
 }
 
-const PRINTED: &str = "Problem:    
-Rows:       9
-Columns:    9 (9 integer, 0 binary)
-Non-zeros:  33
-Status:     INTEGER OPTIMAL
-Objective:  cost = 2 (MINimum)
-
-   No.   Row name        Activity     Lower bound   Upper bound
------- ------------    ------------- ------------- -------------
-     1 item_1                      2             2               
-     3 boards_0                    0             0             = 
-     9 pieces                      5                        4000 
-
-   No. Column name       Activity     Lower bound   Upper bound
------- ------------    ------------- ------------- -------------
-     1 size_0       *              2             0               
-     2 x_0_1_0      *              2             0               
-     3 x_0_2_0      *              0             0               
-     4 x_1_2_0      *              2             0               
-     5 x_2_2_0      *              1             0               
-
-Integer feasibility conditions:
-
-KKT.PE: max.abs.err = 0.00e+00 on row 0
-";
-
-const PRINTED_DUALS: &str = "Problem:    
-Status:     OPTIMAL
-
-   No.   Row name   St   Activity     Lower bound   Upper bound    Marginal
------- ------------ -- ------------- ------------- ------------- -------------
-     1 item_1       NL             2             2                           1 
-     2 item_2       NL             3             3                       < eps
-     3 boards_0     NS             0             0             =            -1 
-     5 plate_2      B              1             0               
-
-   No. Column name  St   Activity     Lower bound   Upper bound    Marginal
------- ------------ -- ------------- ------------- ------------- -------------
-     1 size_0       B              2             0               
-     2 x_0_1_0      B              2             0               
-     7 x_3_2_0      NL             0             0                           1 
-
-Karush-Kuhn-Tucker optimality conditions:
-";
+/// What GLPK 5.0 printed for job A: the integer solution, and the relaxation.
+const PRINTED: &str = include_str!("../../tests/road/a.sol");
+const PRINTED_DUALS: &str = include_str!("../../tests/road/a.dual");
 
 #[test]
 fn glpk_printed() {
     let solution = read(PRINTED);
-    assert_eq!(nonzero(&solution, "x_1_2_0"), (2.0, 4));
+    assert_eq!(nonzero(&solution, "x_3_1_0"), (2.0, 4));
     assert_eq!(solution.values["size_0"], 2.0);
     assert!(solution.duals.is_empty());
     let solution = read(PRINTED_DUALS);
-    assert_eq!(nonzero(&solution, "x_0_1_0"), (2.0, 2));
+    assert_eq!(nonzero(&solution, "x_0_1_0"), (2.0, 4));
     assert_eq!(solution.duals["item_1"], 1.0);
     assert_eq!(solution.duals["item_2"], 0.0);
     assert_eq!(solution.duals["boards_0"], -1.0);
@@ -116,6 +75,8 @@ fn names_and_values() {
         "solution status: optimal\nobjective value: 2\nsize_0   2 \t(obj:1)\nx_0_1_0   2 \t(obj:0)\nx_2_2_0  1 (obj:0)\n",
     );
     assert_eq!(nonzero(&solution, "x_2_2_0"), (1.0, 3));
+    let solution = read("\u{feff}x_0_1_0 = 2\nx_2_2_0 = 1\n");
+    assert_eq!(nonzero(&solution, "x_0_1_0"), (2.0, 2));
     let solution = read("# Columns 3\nsize_0 2\nx_0_1_0 2\nx_1_2_0 0\n# Rows 2\nitem_1 2\nboards_0 0\n# Dual solution values\nitem_1 1\nboards_0 -1\nx_0_1_0 7\n");
     assert_eq!(nonzero(&solution, "x_0_1_0"), (2.0, 2));
     assert_eq!(solution.duals["item_1"], 1.0);
@@ -132,17 +93,37 @@ fn cplex() {
     ));
     assert_eq!(nonzero(&solution, "x_0_1_0"), (2.0, 2));
     assert_eq!(solution.duals["item_1"], 1.0);
+    assert_eq!(solution.unproved, None);
+    let stopped = head.replace(
+        "problemName=\"a\"",
+        "problemName=\"a\"\n   solutionStatusString=\"time limit exceeded\"",
+    );
+    let solution = read(&format!(
+        "{stopped} <variables>\n  <variable name=\"x_0_1_0\" index=\"1\" value=\"2\"/>\n </variables>\n"
+    ));
+    assert_eq!(solution.unproved, Unproved::of("time limit exceeded"));
 }
 
 #[test]
 fn every_fault_is_told() {
     for (text, told) in [
         ("", "empty"),
-        ("Problem:\nStatus:     INTEGER UNDEFINED\n", "no solution"),
-        ("s mip 9 9 u 0\n", "no solution"),
-        ("s mip 8 9 o 0\n", "8 rows and 9 columns"),
-        ("s mip 9 9 o 0\nj 10 1\n", "not the model's"),
+        (
+            "Problem:\nStatus:     INTEGER UNDEFINED\nEnd of output\n",
+            "no solution",
+        ),
+        ("Problem:\nStatus:     INTEGER OPTIMAL\n", "cut short"),
+        ("s mip 9 9 u 0\ne o f\n", "no solution"),
+        ("s bas 9 9 f n 0\ne o f\n", "no solution"),
+        ("s mip 8 9 o 0\ne o f\n", "8 rows and 9 columns"),
+        ("s mip 9 9 o 0\nj 10 1\ne o f\n", "not the model's"),
+        ("s mip 9 9 o 0\nj 1 1\n", "cut short"),
         ("Infeasible - objective value 0\n", "no solution"),
+        (
+            "Integer infeasible - objective value 0\n",
+            "CBC found no solution; it says: Integer infeasible",
+        ),
+        ("Unbounded - objective value 0\n", "CBC found no solution"),
         (
             "Optimal - objective value 2\n 0 x_9_9_0 1 0\n",
             "no such cut",
@@ -153,6 +134,10 @@ fn every_fault_is_told() {
         ),
         ("Optimal - objective value 2\n 0 x_0_1_0\n", "not CBC's"),
         ("hello\n", "no column of the job's model"),
+        (
+            "x_0_1_0 inf\nx_1_2_0 1\n",
+            "x_0_1_0 is inf in the solution, which is no number",
+        ),
         ("<?xml?>\n", "no variable of the job's model"),
     ] {
         let fault = Solution::read(text, &names()).unwrap_err();
