@@ -67,13 +67,14 @@ extern "C" {
 
 /* Work. Every loop ends by a limit of the job, whatever the words are; nothing is tried again, and nothing depends on an earlier call. At the most, beside some passes over the words
  * that are handed in or lent:
- *   listing      163,840 pairs of a plate type and a permitted position, of which 8,192 are cuts, and for the 16,384 residuals of these 33.6 million comparisons of plate types
+ *   listing      13,439 looks at a position, then 163,840 pairs of a plate type and a permitted position, of which 8,192 are cuts, and for the 16,384 residuals of these 2.7 million
+ *                comparisons of plate types, at most 166 for each
  *   plan test    the listing, and two passes over its cuts
  *   price test   the listing, and a pass over its cuts
  *   unfolding    the plan test, a pass over its cuts, and 12,000 searches (4,000 pieces and 8,000 offcuts) among the counts of one plate type, at most 80: 960,000 looks at a count
  *   folding      the listing, and for 4,000 lines 160 passes, two for each position, and a search by halving among 8,192 cuts
  *   texts        each byte once, and then as the plan test, the price test and the unfolding, or as the folding
- * What each call takes for the greatest inputs known is counted in bench/RESULTS.md: none takes more than 62 million instructions. */
+ * What each call takes for the greatest inputs known is counted in bench/RESULTS.md: none takes more than 38 million instructions. */
 
 /* Full sizes, in words of 16 bits: 2,048 plate types of 4 words, 8,192 cuts of 4 words, their counts, 4,000 placements of 9 words, 8,000 offcuts of 6 words. */
 #define SAW_PLATES 8192
@@ -82,7 +83,18 @@ extern "C" {
 #define SAW_PLACEMENTS 36000
 #define SAW_OFFCUTS 48000
 
-/* Stack that a call may use, in bytes, and that a text may use. */
+/* Stack that a call may use, in bytes, and that a text may use. What each does use, rounded up to hundreds:
+ *   listing       30,000
+ *   plan test     30,000
+ *   price test    30,000
+ *   unfolding     30,100
+ *   folding       30,000
+ *   saw text     205,800
+ *   fold text    201,100
+ * In each of them 29,518 are the tables of the listing, where every call is deepest: 24,110 the index of plate types, 4,096 their least sides, 1,312 the positions. Of a saw text 174,846
+ * more, of a fold text 170,670, are its own arrays of words, as other calls are handed and lent them. Measured by a thread's stack that is filled with a pattern, on the jobs of data/limits,
+ * from before the arguments that are passed on the stack. The frames of the compiled code are of fixed sizes and add up to the same, whatever the words are. Where a loader binds memset at its
+ * first call, it uses stack of its own below that: 3,200 where it was measured. */
 #define SAW_STACK 65536
 #define SAW_TEXT_STACK 262144
 

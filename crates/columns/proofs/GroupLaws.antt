@@ -250,6 +250,13 @@ pub put-nil : (d : List ℕ) (at : ℕ) → put d at [] ≡ d
 unfolding put
 put-nil d at = rw (add-zero at) (take-append-drop at d)
 
+-- eight blanks stored one after another are the columns before the last of 0
+pub put-eight : (d : List ℕ) (at : ℕ) → at + leadBytes ≤ length d → set (set (set (set (set (set (set (set d at 32) (at + 1) 32) (at + 2) 32) (at + 3) 32) (at + 4) 32) (at + 5) 32) (at + 6) 32) (at + 7) 32 ≡ put d at (lead leadBytes 0)
+unfolding lead mark
+put-eight d at h =
+    let one : set d at 32 ≡ put d at (32 ∷ []) = rw (put-nil d at, add-zero at) at (put-more d at [] 32 (omega arith)) in
+    rw (one, put-more d at (32 ∷ []) 32 (omega arith), put-more d at (32 ∷ 32 ∷ []) 32 (omega arith), put-more d at (32 ∷ 32 ∷ 32 ∷ []) 32 (omega arith), put-more d at (32 ∷ 32 ∷ 32 ∷ 32 ∷ []) 32 (omega arith), put-more d at (32 ∷ 32 ∷ 32 ∷ 32 ∷ 32 ∷ []) 32 (omega arith), put-more d at (32 ∷ 32 ∷ 32 ∷ 32 ∷ 32 ∷ 32 ∷ []) 32 (omega arith), put-more d at (32 ∷ 32 ∷ 32 ∷ 32 ∷ 32 ∷ 32 ∷ 32 ∷ []) 32 (omega arith)) refl
+
 -- what is put just after what was put
 pub put-put : (d : List ℕ) (at : ℕ) (xs ys : List ℕ) → at + length xs ≤ length d → put (put d at xs) (at + length xs) ys ≡ put d at (xs ++ ys)
 unfolding put

@@ -133,6 +133,10 @@ fn put_lead(out: &mut [u8], at: usize, n: u32)
     requires { ⌜ at + leadBytes ≤ length (now out) ⌝ }
     ensures { λ _. ⌜ now (out .exit) ≡ put (now (out .entry)) at (lead leadBytes n) ⌝ }
 {
+    if n == 0 {
+        put_blanks(out, at);
+        return;
+    }
     let mut rest = n;
     let mut i: usize = LEAD;
     while i > 0 {
@@ -140,4 +144,19 @@ fn put_lead(out: &mut [u8], at: usize, n: u32)
         out[at + i] = mark(rest);
         rest /= 10;
     }
+}
+
+// Writes eight blanks: the columns before the last of a number of one digit.
+fn put_blanks(out: &mut [u8], at: usize)
+    requires { ⌜ at + leadBytes ≤ length (now out) ⌝ }
+    ensures { λ _. ⌜ now (out .exit) ≡ put (now (out .entry)) at (lead leadBytes 0) ⌝ }
+{
+    out[at] = 32;
+    out[at + 1] = 32;
+    out[at + 2] = 32;
+    out[at + 3] = 32;
+    out[at + 4] = 32;
+    out[at + 5] = 32;
+    out[at + 6] = 32;
+    out[at + 7] = 32;
 }

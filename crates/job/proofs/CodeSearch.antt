@@ -1,4 +1,4 @@
--- Loops over the item types, or the positions, in rising number, on plain values: what is left to do from one of them on is the whole.
+-- Loops over the item types in rising number, on plain values: what is left to do from one of them on is the whole.
 use mathlib.Core.Path.{_≡_, sym, _∙_}
 use Prim.Native.Nat.{ℕ, _+_, _-_, _≤_, _<_}
 use mathlib.Core.Bool.{Bool, true, false}
@@ -6,26 +6,10 @@ use native.Mathlib.Numerals.{add-one}
 use native.Mathlib.Omega.{arith}
 use lib.ListN.{length, drop}
 use Rattle.job.specs.declared.item.Item.{Item}
-use Rattle.job.specs.declared.item.Position.{Position}
-use Rattle.job.specs.Lists.{any, sumOf}
+use Rattle.job.specs.Lists.{sumOf}
 use Rattle.job.specs.Verdict.{Verdict, pass, refuse, lowest}
-use Rattle.job.specs.Job.{Job, itemAt, positions, positionAt}
-use Rattle.job.proofs.CodeItems.{items-from, items-end, positions-from, positions-end}
-
--- a test that some position passes: the loop ends with the first that does
-module _ (job : Job) (test : Position → Bool) (q : ℕ) {whole : Bool} (w : whole ≡ any test (drop (q - 1) (positions job))) where
-  pub any-end : length (positions job) < q → false ≡ whole
-  unfolding any
-  any-end h = sym (w ∙ rw (positions-end job q h))
-
-  module _ (h : 1 ≤ q) (l : q ≤ length (positions job)) where
-    pub any-found : test (positionAt job q) ≡ true → true ≡ whole
-    unfolding any
-    any-found t = sym (w ∙ rw (positions-from job q h l, t, any))
-
-    pub any-next : test (positionAt job q) ≡ false → whole ≡ any test (drop (q + 1 - 1) (positions job))
-    unfolding any
-    any-next t = w ∙ rw (positions-from job q h l, t, any)
+use Rattle.job.specs.Job.{Job, itemAt}
+use Rattle.job.proofs.CodeItems.{items-from, items-end}
 
 -- a check over all item types: the loop ends with the lowest that fails
 module _ (job : Job) (number : ℕ) (bad : ℕ → Item → Bool) (i : ℕ) {whole : Verdict} (w : whole ≡ lowest number bad i (drop (i - 1) (job .items))) where

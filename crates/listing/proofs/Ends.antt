@@ -10,9 +10,10 @@ use Rattle.job.proofs.Tests.{at-most-or-above}
 use Rattle.listing.specs.declared.plate.Residuals.{Residuals}
 use Rattle.listing.specs.Plate.{board, mayCut, leaves}
 use Rattle.listing.specs.Listing.{Listing, Walk, going, stopped, plateAt, limited, pair, overItems, overPlates, walkWithin, walkStart}
+use Rattle.listing.specs.Reached.{Reached, start, skipped, done, row, after}
 use Rattle.listing.proofs.Growth.{done-longer, done-plate, done-count}
 use Rattle.listing.proofs.Steps.{limited-going, limited-cuts, limited-plates, pair-skipped, pair-cut, items-drop-going, items-drop-stopped, items-drop-end, plates-going, plates-stopped, plates-end}
-use Rattle.listing.proofs.Reached.{Reached, start, skipped, done, row, after, Few}
+use Rattle.listing.proofs.Reached.{Few}
 
 -- the pair that makes listing l into l′ passes a limit: as a cut that of cuts, which is 7, or else by its residuals that of plate types, which is 6
 pub data Over (P C n : ℕ) (l l′ : Listing) : Type 0 where

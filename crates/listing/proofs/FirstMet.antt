@@ -12,10 +12,11 @@ use Rattle.listing.specs.declared.plate.Residuals.{Residuals}
 use Rattle.listing.specs.Plate.{leaves}
 use Rattle.listing.specs.Listing.{Listing, plateAt, cutAt, entered}
 use Rattle.listing.specs.Numbering.{Met, AsMet}
+use Rattle.listing.specs.Reached.{Reached, start, skipped, done, row, after}
 use Rattle.listing.proofs.Numbers.{Entering, not-kept, met, fresh, entering}
 use Rattle.listing.proofs.Growth.{done-count, done-cut, done-last}
 use Rattle.listing.proofs.Steps.{done-sizes}
-use Rattle.listing.proofs.Reached.{Reached, start, skipped, done, row, after, reached-sizes}
+use Rattle.listing.proofs.Reached.{reached-sizes}
 use Rattle.listing.proofs.Origin.{entered-last, reached-left}
 
 -- a residual's number is that of a plate type or the next

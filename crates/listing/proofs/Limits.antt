@@ -15,10 +15,11 @@ use Rattle.job.proofs.CodeEnds.{Not5, not5-pass, not5-refuse}
 use Rattle.listing.specs.declared.plate.Plate.{Plate}
 use Rattle.listing.specs.Plate.{mayCut, leaves}
 use Rattle.listing.specs.Listing.{Listing, Walk, going, stopped, plateAt, cutDone, limited, pair, overItems, overPlates, walkStart, walkWithin, modelRow, maxPlates, maxCuts}
+use Rattle.listing.specs.Reached.{done, after}
 use Rattle.listing.proofs.Growth.{Grown, grown-same, grown-trans, done-count}
 use Rattle.listing.proofs.Steps.{going-one, going-not-stopped, walk-limits, row-going, row-stopped}
 use Rattle.listing.proofs.Along.{plates-grown, items-grown}
-use Rattle.listing.proofs.Reached.{done, after, Few, onward, rest, rest-row, rest-end, reached-rest, reached-end, reached-seven, reached-six}
+use Rattle.listing.proofs.Reached.{Few, onward, rest, rest-row, rest-end, reached-rest, reached-end, reached-seven, reached-six}
 use Rattle.listing.proofs.Ends.{over-seven, over-six, Halted, walk-complete, walk-halted}
 
 -- a walk that is stopped is so with 6 or 7, whatever the job: also one of more sizes than plate types may be

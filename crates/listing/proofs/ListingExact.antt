@@ -13,9 +13,9 @@ use Rattle.job.proofs.Tests.{at-most-or-above}
 use Rattle.listing.specs.Plate.{waste, leaves}
 use Rattle.listing.specs.Listing.{Listing, Walk, going, stopped, noCut, plateAt, cutAt, walkWithin, walk, modelRow, listingOf, maxPlates, maxCuts}
 use Rattle.listing.specs.Numbering.{IsListing, OneListing, ListingExact}
+use Rattle.listing.specs.Reached.{done, after}
 use Rattle.listing.proofs.Growth.{Grown, done-count}
 use Rattle.listing.proofs.Steps.{going-one, going-not-stopped, walk-limits, row-going, row-listing, listing-going}
-use Rattle.listing.proofs.Reached.{done, after}
 use Rattle.listing.proofs.Walked.{Walked}
 use Rattle.listing.proofs.Ends.{Over, by-cut, by-plate, Halted, walk-complete, walk-halted}
 use Rattle.listing.proofs.WalkModel.{walk-model, walk-walked}

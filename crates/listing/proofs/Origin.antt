@@ -12,10 +12,10 @@ use Rattle.listing.specs.declared.plate.Residuals.{Residuals}
 use Rattle.listing.specs.Plate.{board, leaves}
 use Rattle.listing.specs.Listing.{Listing, going, plateAt, entered, walkWithin}
 use Rattle.listing.specs.Numbering.{Left}
+use Rattle.listing.specs.Reached.{Reached, start, skipped, done, row, after}
 use Rattle.listing.proofs.Numbers.{Entering, not-kept, met, fresh, entering}
 use Rattle.listing.proofs.Steps.{done-plates}
 use Rattle.listing.proofs.Growth.{done-count, done-cut, done-last}
-use Rattle.listing.proofs.Reached.{Reached, start, skipped, done, row, after}
 use Rattle.listing.proofs.Ends.{walk-complete}
 
 -- a plate type that is added with a residual is the residual's

@@ -15,6 +15,7 @@ use Rattle.listing.specs.Plate.{board, waste, mayCut, leaves, kept}
 use Rattle.listing.specs.Listing.{Cut, Listing, noCut, plateAt, cutAt, entered, walkStart}
 use Rattle.listing.specs.Model.{Model, Numbered, Before, leftBy}
 use Rattle.listing.specs.Numbering.{LeavesType, Met, IsListing}
+use Rattle.listing.specs.Reached.{Reached, start, skipped, done, row, after}
 use Rattle.listing.proofs.Kept.{CutFrom}
 use Rattle.listing.proofs.Numbers.{Entering, not-kept, met, fresh, entering}
 use Rattle.listing.proofs.Steps.{cutMade, done-plates, done-cuts}
@@ -22,7 +23,7 @@ use Rattle.listing.proofs.Growth.{Longer, longer-none, longer-one, Grow
 use Rattle.listing.proofs.PlateTypes.{board-at}
 use Rattle.listing.proofs.ModelLaws.{before-plate, numbered-below, numbered-kept, kept-numbered, one-cut}
 use Rattle.listing.proofs.Walked.{Walked, Passed, IsCut}
-use Rattle.listing.proofs.Reached.{Reached, start, skipped, done, row, after, reached-walked, reached-from-one}
+use Rattle.listing.proofs.Reached.{reached-walked, reached-from-one}
 
 -- two cuts with the same four numbers
 same-cut : (c : Cut) (j i t r : ℕ) → c .plate ≡ j → c .item ≡ i → c .top ≡ t → c .right ≡ r → c ≡ record { plate = j; item = i; top = t; right = r }

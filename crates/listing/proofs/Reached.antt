@@ -1,4 +1,4 @@
--- The places of the walk, whatever its limits: the listing before position i of plate type j; and the rest of the walk from such a place.
+-- What is true at every place of the walk; and the rest of the walk from such a place.
 use Prim.Native.Nat.{ℕ, zero, suc, _-_, _≤_, _<_}
 use native.Mathlib.Omega.{arith}
 use mathlib.Core.Path.{_≡_, refl, sym, _∙_, ap}
@@ -11,56 +11,29 @@ use Rattle.job.specs.Job.{Job, positions, positionAt}
 use Rattle.job.specs.Admitted.{Sided, Stocked}
 use Rattle.job.proofs.Tests.{not-both, at-most-or-above}
 use Rattle.listing.specs.Plate.{mayCut, leaves}
-use Rattle.listing.specs.Listing.{Listing, Walk, going, stopped, plateAt, cutDone, pair, overItems, overPlates, walkWithin, walkStart}
+use Rattle.listing.specs.Listing.{Listing, Walk, going, stopped, plateAt, pair, overItems, overPlates, walkWithin, walkStart}
+use Rattle.listing.specs.Reached.{Reached, start, skipped, done, row, after}
 use Rattle.listing.proofs.Growth.{done-longer, done-plate, done-count}
 use Rattle.listing.proofs.Steps.{done-sizes, limited-going, limited-cuts, limited-plates, pair-skipped, pair-cut, items-drop-going, items-drop-stopped, items-drop-end, plates-going, plates-stopped, plates-end}
 use Rattle.listing.proofs.Walked.{Walked, walked-start, walked-skip, walked-row, walked-cut}
 
--- the listing after the pair of plate type j and position i, which is permitted
-abbrev pub after : Job → ℕ → ℕ → Listing → Listing
-after job j i l = cutDone job j i (leaves (job .mode) (job .blade) (positionAt job i) (plateAt l j)) l
-
 module _ (job : Job) where
-  -- the walk comes to position i of plate type j with listing l; past the last position it comes to the next plate type
-  pub data Reached : ℕ → ℕ → Listing → Type 0 where
-    start : Reached 0 1 (walkStart job)
-    skipped :
-        {j i : ℕ} {l : Listing}
-        → Reached j i l
-        → j < length (l .plates)
-        → i ≤ length (positions job)
-        → mayCut (job .mode) (positionAt job i) (plateAt l j) ≡ false
-        → Reached j (suc i) l
-    done :
-        {j i : ℕ} {l : Listing}
-        → Reached j i l
-        → j < length (l .plates)
-        → i ≤ length (positions job)
-        → mayCut (job .mode) (positionAt job i) (plateAt l j) ≡ true
-        → Reached j (suc i) (after job j i l)
-    row :
-        {j i : ℕ} {l : Listing}
-        → Reached j i l
-        → j < length (l .plates)
-        → length (positions job) < i
-        → Reached (suc j) 1 l
-
   -- positions are numbered from 1
-  pub reached-from-one : {j i : ℕ} {l : Listing} → Reached j i l → 1 ≤ i
+  pub reached-from-one : {j i : ℕ} {l : Listing} → Reached job j i l → 1 ≤ i
   reached-from-one start = omega arith
   reached-from-one (skipped r a b c) = omega arith
   reached-from-one (done r a b c) = omega arith
   reached-from-one (row r a b) = omega arith
 
   -- the sizes stay
-  pub reached-sizes : {j i : ℕ} {l : Listing} → Reached j i l → l .sizes ≡ length (job .sizes)
+  pub reached-sizes : {j i : ℕ} {l : Listing} → Reached job j i l → l .sizes ≡ length (job .sizes)
   reached-sizes start = refl
   reached-sizes (skipped r a b c) = reached-sizes r
   reached-sizes (done {j = j} {i = i} {l = l} r a b c) = done-sizes job j i (leaves (job .mode) (job .blade) (positionAt job i) (plateAt l j)) l ∙ reached-sizes r
   reached-sizes (row r a b) = reached-sizes r
 
   -- what is true at every place
-  pub reached-walked : Sided job → Stocked job → {j i : ℕ} {l : Listing} → Reached j i l → Walked job j i l
+  pub reached-walked : Sided job → Stocked job → {j i : ℕ} {l : Listing} → Reached job j i l → Walked job j i l
   reached-walked sided stocked start = walked-start job (stocked .0)
   reached-walked sided stocked (skipped {j = j} {i = i} {l = l} r a b c) = walked-skip job j i l (reached-walked sided stocked r) (λ f. not-both (f .allowed) c)
   reached-walked sided stocked (done {j = j} {i = i} {l = l} r a b c) =

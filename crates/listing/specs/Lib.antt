@@ -2,6 +2,7 @@
 pub mod Plate
 pub mod Waste
 pub mod Listing
+pub mod Reached
 pub mod Model
 pub mod Numbering
 pub mod WalkLaws

@@ -3,13 +3,17 @@ use mathlib.Core.Path.{_≡_, refl, sym, ap, subst, _∙_}
 use Prim.Native.Nat.{ℕ, _-_, _≤_, _<_}
 use mathlib.Core.List.{List, [], _∷_, flatMap, map}
 use native.Mathlib.Omega.{arith}
-use lib.ListN.{length, replicate, length-map}
+use lib.ListN.{length, getD, replicate, length-map}
 use Rattle.job.specs.declared.counters.PlateTypes.{PlateTypes}
 use Rattle.job.specs.declared.counters.CutNumber.{CutNumber}
 use Rattle.job.specs.Sizes.{maxSizes, platesSize, cutsSize}
 use Rattle.job.specs.Verdict.{Verdict, pass, refuse, _then_}
 use Rattle.job.specs.Buffers.{Answer, given, refused, answer, ends, sized}
-use Rattle.job.specs.Job.{Job, jobOf, jobWords, admission}
+use Rattle.job.specs.Job.{Job, jobOf, unturned, turned, jobWords, admission}
+use Rattle.job.specs.Admitted.{Sided}
+use Rattle.job.proofs.Admission.{words-right}
+use Rattle.job.proofs.CodeItems.{items-length}
+use Rattle.job.proofs.Positions.{permitted-by}
 use Rattle.job.proofs.Verdicts.{then-assoc, then-first, then-second}
 use Rattle.job.proofs.Buffers.{sized-pass}
 use Rattle.job.proofs.CodeEnds.{given-pass, not5-refuse, ends-zeros}
@@ -26,6 +30,14 @@ use Rattle.listing_call.specs.declared.call.Listed.{Listed}
 use Rattle.listing_call.specs.declared.call.Listed.the-variants.{Done, Refused}
 use Rattle.listing_call.specs.ListSays.{saysOf, SizesListed, OnListed}
 use Rattle.listing_call.specs.Steps.{Rep, Here}
+
+-- words that passed have item types with sides of at least 1
+pub passed-sided : (ws : List ℕ) → jobWords ws ≡ pass → Sided (jobOf ws)
+unfolding unturned turned
+passed-sided ws e =
+    let r = words-right ws e in
+    permitted-by (jobOf ws) (λ p. (1 ≤ p .width) × (1 ≤ p .height))
+    (λ i a b. let l = r .each-item i a (omega (arith, items-length ws (getD ws 3 0) (r .whole))) in ((l .width-limits .0, l .height-limits .0), (l .height-limits .0, l .width-limits .0)))
 
 -- before the walk: cleared buffers, and the sizes written as the first plate types
 pub none-held : (job : Job) {buffer : List ℕ} (n : ℕ) → buffer ≡ replicate n 0 → Holds buffer (plateWords job [])

@@ -1,6 +1,7 @@
 -- The laws of this crate.
-pub mod Finding
 pub mod Entering
+pub mod Keeping
+pub mod Lying
 pub mod Pairing
 pub mod Sizing
 pub mod Walking

@@ -15,16 +15,25 @@ use Rattle.listing.specs.Listing.{Listing, Walk, going, stopped, Entry, entered
 use Rattle.listing.specs.Records.{cutWords}
 use Rattle.listing.specs.Holds.{Holds, cutOfWords}
 use Rattle.listing.proofs.Steps.{limited-cuts, limited-plates, limited-going, pair-skipped, pair-cut}
-use Rattle.listing_call.specs.Steps.{Rep, Here, EnteredIn}
+use Rattle.listing_call.specs.Steps.{Rep, Here, Known, Holding, EnteredIn}
 use Rattle.listing_call.proofs.Entering.{entered-more}
 
-module _ (job : Job) (j : ℕ) (p : Plate) (i : ℕ) (item : Position) (l : Listing) {plates cuts : List ℕ} {m k : ℕ} (h : Rep job l plates cuts m k) where
+-- what a pair makes of the walk, as the buffers hold it
+pub record Paired (job : Job) (w : Walk) (plates index leasts cuts : List ℕ) (m k : ℕ) : Type 0 where
+  pub here : Here job going w plates cuts m k
+  pub known : Known job (here .l .plates) index leasts
+
+module _ (job : Job) (j : ℕ) (p : Plate) (i : ℕ) (item : Position) (l : Listing) {plates index leasts cuts : List ℕ} {m k : ℕ} (h : Rep job l plates cuts m k) (n : Known job (l .plates) index leasts) where
   abbrev of-pair : Walk
   of-pair = pair maxPlates maxCuts job j p i item l
 
+  -- the plate types as they are held and known
+  pub all-held : Holding job (l .plates) plates index leasts m
+  all-held = record { count = h .plate-count; sizes = h .some-plates; few = h .few-plates; held = h .of-plates; known = n }
+
   -- the pair is not permitted
-  pub step-none : mayCut (job .mode) item p ≡ false → Here job going of-pair plates cuts m k
-  step-none e = record { l = l; rep = h; goes-on = sym (pair-skipped maxPlates maxCuts job j p i item l e) }
+  pub step-none : mayCut (job .mode) item p ≡ false → Paired job of-pair plates index leasts cuts m k
+  step-none e = record { here = record { l = l; rep = h; goes-on = sym (pair-skipped maxPlates maxCuts job j p i item l e) }; known = n }
 
   -- the pair is permitted, and leaves `left`
   module _ (e : mayCut (job .mode) item p ≡ true) (left : Residuals) (el : left ≡ leaves (job .mode) (job .blade) item p) where
@@ -60,18 +69,21 @@ module _ (job : Job) (j : ℕ) (p : Plate) (i : ℕ) (item : Position) (l : List
       step-top-full full = step-right-full (omega (arith, entered-more job (left .right) (top .plates)))
 
       -- both residuals are entered, and the cut is written
-      pub step-next : {t m₁ r m₂ : ℕ} {plates₁ plates₂ cuts₂ : List ℕ} → EnteredIn job top t m₁ plates₁ → EnteredIn job right r m₂ plates₂ → Holds cuts₂ (cutWords (l .cuts ++ cutOfWords j i t r ∷ [])) → Here job going of-pair plates₂ cuts₂ m₂ (k + 1)
+      pub step-next : {t m₁ r m₂ : ℕ} {plates₁ index₁ leasts₁ plates₂ index₂ leasts₂ cuts₂ : List ℕ} → EnteredIn job top t m₁ plates₁ index₁ leasts₁ → EnteredIn job right r m₂ plates₂ index₂ leasts₂ → Holds cuts₂ (cutWords (l .cuts ++ cutOfWords j i t r ∷ [])) → Paired job of-pair plates₂ index₂ leasts₂ cuts₂ m₂ (k + 1)
       step-next a b c = record {
-        l = after;
-        rep = record {
-          of-sizes = h .of-sizes;
-          of-plates = b .held;
-          of-cuts = rw (← a .number, ← b .number) c;
-          plate-count = b .types;
-          cut-count = one-more;
-          few-plates = b .few;
-          few-cuts = omega arith;
-          some-plates = omega (arith, h .some-plates, h .plate-count, b .types, entered-more job (left .top) (l .plates), entered-more job (left .right) (top .plates));
+        here = record {
+          l = after;
+          rep = record {
+            of-sizes = h .of-sizes;
+            of-plates = b .holding .held;
+            of-cuts = rw (← a .number, ← b .number) c;
+            plate-count = b .holding .count;
+            cut-count = one-more;
+            few-plates = b .holding .few;
+            few-cuts = omega arith;
+            some-plates = b .holding .sizes;
+          };
+          goes-on = sym (limited-going maxPlates maxCuts job after (omega (arith, one-more)) (omega (arith, b .holding .count, b .holding .few))) ∙ permitted;
         };
-        goes-on = sym (limited-going maxPlates maxCuts job after (omega (arith, one-more)) (omega arith)) ∙ permitted;
+        known = b .holding .known;
       }

@@ -1,60 +1,33 @@
 // The listing call.
 ghost use mathlib.Core.Path.{_≡_};
-ghost use mathlib.Core.List.{[], _∷_, map};
-ghost use Prim.Native.Nat.{_*_, _≤_};
+ghost use mathlib.Core.List.{[], _∷_};
+ghost use Prim.Native.Nat.{_≤_};
 ghost use lib.ListN.{length};
-ghost use Rattle.job.specs.Sizes.{wordsOfPlate, wordsBefore, platesSize, cutsSize};
+ghost use Rattle.job.specs.Sizes.{platesSize, cutsSize};
 ghost use Rattle.job.specs.Verdict.{pass, _then_};
 ghost use Rattle.job.specs.Buffers.{answer, sized};
-ghost use Rattle.job.specs.Job.{boardSizes, jobOf, jobWords, admission};
+ghost use Rattle.job.specs.Job.{jobOf, jobWords, admission};
 ghost use Rattle.job.specs.Row.{rowVerdict};
-ghost use Rattle.listing.specs.Plate.{board};
-ghost use Rattle.listing.specs.Records.{plateWords};
-ghost use Rattle.listing.specs.Holds.{Holds};
 ghost use Rattle.listing.specs.Listing.{listingOf, modelRow, residualTypes};
 ghost use Rattle.listing.specs.Numbering.{IsListing};
 ghost use Rattle.listing.specs.ListCall.{listVerdict, listAnswer, platesEnd, cutsEnd};
 ghost use Rattle.listing_call.specs.ListSays.{saysOf, SizesListed, OnListed};
+use crate::sizes::put_sizes;
 use crate::walk::Step;
 use crate::walk::walk;
 use job::admit::check_job;
-use job::counters::BoardSizes;
 use job::counters::CutNumber;
-use job::counters::PlateType;
 use job::counters::PlateTypes;
 use job::head::head_of;
 use job::lent::end_refused;
 use job::lent::model_sized;
 use job::row::Row;
 use job::words::clear;
-use job::words::size_at;
-use listing::plate::Plate;
-use listing::words::put_plate;
 
 // The numbers of plate types and cuts; or the number of a refusal and the place that it names.
 pub enum Listed {
     Done(PlateTypes, CutNumber),
     Refused(u16, usize),
-}
-
-// Writes the sizes of a job, t of them, as the first plate types into a buffer that holds none.
-fn put_sizes(job: &[u16], sizes: BoardSizes, plates: &mut [u16])
-    requires { ⌜ (sizes .0 ≡ boardSizes (now job)) × ((wordsBefore (boardSizes (now job)) ≤ length (now job)) × (wordsOfPlate * sizes .0 ≤ length (now plates))) ⌝ }
-    requires { ⌜ Holds (now plates) (plateWords (jobOf (now job)) []) ⌝ }
-    ensures { λ _. ⌜ Holds (now (plates .exit)) (plateWords (jobOf (now (job .entry))) (map board (jobOf (now (job .entry)) .sizes))) ⌝ }
-{
-    let t = sizes.0;
-    let mut j: u16 = 0;
-    while j < t {
-        let size = size_at(job, PlateType(j));
-        let board = Plate {
-            width: size.width,
-            height: size.height,
-            stage: 1,
-        };
-        put_plate(plates, PlateTypes(j), board, size.cost);
-        j += 1;
-    }
 }
 
 // Lists a job whose words have passed into buffers of full size: plate types and cuts, and zeros past them. Refused are 6 and 7, naming 0; every word of

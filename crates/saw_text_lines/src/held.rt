@@ -156,7 +156,7 @@ fn count_line(
 }
 
 // The numbers of a line 3: its position is twice the type plus the turn, its last number; the plate is shown after the count.
-fn plan_numbers(numbers: &[u32]) -> PlanLine
+pub fn plan_numbers(numbers: &[u32]) -> PlanLine
     requires { ⌜ PlanNumbers maxTypes (now numbers) ⌝ }
     ensures { λ r. ⌜ LineOf r (countedIn (now (numbers .entry))) ⌝ }
 {

@@ -4,3 +4,7 @@ pub mod LineSteps
 pub mod PartSteps
 pub mod HeldSame
 pub mod SawSplits
+pub mod WholeSteps
+pub mod BodySteps
+pub mod KnownNumber
+pub mod PriceSteps

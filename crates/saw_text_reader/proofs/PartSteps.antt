@@ -14,9 +14,11 @@ use Rattle.texts_reading.specs.LineEnd.{LineEnd}
 use Rattle.texts_reading.specs.Standing.{lineEnds, Rest}
 use Rattle.texts_reading.proofs.CodeText.{whole, rest-kept, rest-same, line-fed}
 use Rattle.saw_text_lines.specs.SawKept.{Lent}
+use Rattle.saw_text_lines.proofs.KeptSound.{room-again}
 use Rattle.saw_text_reader.specs.declared.saw.SawReader.{SawReader}
 use Rattle.saw_text_reader.specs.SawFed.{SawReady, SawKept, Step, Fed}
 use Rattle.saw_text_reader.specs.Parts.{AsLong}
+use Rattle.saw_text_reader.specs.Onward.{ReadOn}
 
 abbrev place : Saw → definition.Place
 place s = s .place
@@ -82,6 +84,25 @@ module _ (part : List ℕ) (f₀ : SawReader) (b₀ : Lent) (f : SawReader) (b :
           text = w .0;
           held = rw (w .1, n) (kp .held);
         })
+
+-- lines that stand whole in the part are taken
+pub going-on :
+    (part : List ℕ) (f₀ : SawReader) (b₀ : Lent) (f : SawReader) (b : Lent) (at : ℕ) {f′ : SawReader} {b′ : Lent} {at′ : ℕ}
+    → Going part f₀ b₀ f b at
+    → AsLong b′ b
+    → ReadOn part at f b at′ f′ b′
+    → Going part f₀ b₀ f′ b′ at′
+going-on part f₀ b₀ f b at g l on =
+    let g₀ = g .long in
+    record {
+      ready = record { text = on .ready; room = room-again (g .ready .room) (l .job) (l .plates) (l .cuts) (l .counts) (l .prices) };
+      within = on .within;
+      long = record { job = l .job ∙ g₀ .job; plates = l .plates ∙ g₀ .plates; cuts = l .cuts ∙ g₀ .cuts; counts = l .counts ∙ g₀ .counts; prices = l .prices ∙ g₀ .prices };
+      going = λ r k.
+          let h = g .going r k in
+          let w = on .onward (h .0) (h .1) in
+          (w .0, w .1, h .2 ∙ w .2);
+    }
 
 -- a state that is ready is changed only by what it is fed
 pub fed-ready :

@@ -1,19 +1,12 @@
 // The reader of the saw text: its state goes in and comes back by value, beside lent buffers.
-ghost use mathlib.Core.Path.{_≡_};
-ghost use mathlib.Core.Bool.{true};
-ghost use mathlib.Core.List.{_++_};
 ghost use mathlib.Core.Option.{some};
-ghost use Prim.Native.Nat.{_+_, _-_, _<_};
-ghost use lib.ListN.{length, take, drop};
-ghost use Rattle.columns.specs.Line.{readLine};
-ghost use Rattle.texts.specs.Reader.{maxLines, longestLine, lineRead};
+ghost use Prim.Native.Nat.{_<_};
+ghost use Rattle.texts.specs.Reader.{maxLines, lineRead};
 ghost use Rattle.texts.specs.SawText.{sawGrammar};
-ghost use Rattle.texts_reading.specs.LineEnd.{LineEnd};
-ghost use Rattle.texts_reading.specs.Standing.{lineEnds};
 ghost use Rattle.saw_text_lines.specs.SawKept.{lent};
 ghost use Rattle.saw_text_reader.specs.SawFed.{NoneHeld, SawReady, Step, Started, Fed};
-use columns::line::Complete;
-use columns::widths::GROUP;
+use crate::next::Next;
+use crate::next::next_line;
 use columns::widths::MOST_NUMBERS;
 use job::head::head_of;
 use job::words::clear;
@@ -23,8 +16,6 @@ use saw_text_body::price_lines::no_prices;
 use saw_text_lines::held::SawHeld;
 use saw_text_lines::numbers::sound;
 use saw_text_lines::numbers::take_numbers;
-use texts::widths::LONGEST_LINE;
-use texts_reading::scan::line_end;
 use texts_reading::text::TextReader;
 
 // A saw text so far: where it stands, and what is kept of it beside the lent buffers.
@@ -114,39 +105,6 @@ impl SawReader {
         }
     }
 
-    // A line that ends at `end` of a part: it began before the part or at `at`.
-    fn line(
-        self,
-        part: &[u8],
-        at: usize,
-        end: usize,
-        job: &mut [u16],
-        plates: &mut [u16],
-        cuts: &mut [u16],
-        counts: &mut [u16],
-        prices: &mut [u16],
-    ) -> SawReader
-        requires { ⌜ SawReady self (lent (now job) (now plates) (now cuts) (now counts) (now prices)) ⌝ }
-        requires { ⌜ LineEnd (now part) at (longestLine - self .text .pending .length) end ⌝ }
-        requires { ⌜ lineEnds (self .text) at end (length (now part)) ≡ true ⌝ }
-        ensures { λ r. ⌜ Step (λ q. lineRead sawGrammar q (readLine (q .pending ++ take (end + 1 - at) (drop at (now (part .entry)))))) self (lent (now (job .entry)) (now (plates .entry)) (now (cuts .entry)) (now (counts .entry)) (now (prices .entry))) r (lent (now (job .exit)) (now (plates .exit)) (now (cuts .exit)) (now (counts .exit)) (now (prices .exit))) ⌝ }
-    {
-        let text = self.text;
-        let held = self.held;
-        let pending = text.pending;
-        let begun = pending.length;
-        let line = pending.line(part, at, end + 1);
-        if !line.good {
-            return SawReader {
-                text: text.refused(1),
-                held,
-            };
-        }
-        let groups = (begun + (end + 1 - at)) / GROUP;
-        let numbers = line.numbers;
-        self.numbers(&numbers[..groups], job, plates, cuts, counts, prices)
-    }
-
     // A part, where the state is sound and the lent buffers are of full size.
     fn feed_ready(
         self,
@@ -164,25 +122,30 @@ impl SawReader {
         let mut at: usize = 0;
         while at < part.len() {
             let text = reader.text;
-            let mut numbers = [0u32; MOST_NUMBERS];
-            if let Complete::Numbers(k) = text.line_within(part, at, &mut numbers) {
-                let end = at + GROUP * k;
-                reader = reader.numbers(&numbers[..k], job, plates, cuts, counts, prices);
-                at = end + 1;
-                continue;
-            }
             let held = reader.held;
-            let pending = text.pending;
-            let begun = pending.length;
-            let end = line_end(part, at, LONGEST_LINE - begun);
-            if !text.line_ends(at, end, part.len()) {
-                return SawReader {
-                    text: text.rest(part, at, end),
-                    held,
-                };
+            let mut numbers = [0u32; MOST_NUMBERS];
+            let next = next_line(text, part, at, &mut numbers);
+            match next {
+                Next::Numbers(k, end) => {
+                    let after = reader.numbers(&numbers[..k], job, plates, cuts, counts, prices);
+                    let read = after.whole_lines(part, end + 1, job, plates, cuts, counts, prices);
+                    reader = read.reader;
+                    at = read.at;
+                }
+                Next::Malformed(end) => {
+                    reader = SawReader {
+                        text: text.refused(1),
+                        held,
+                    };
+                    at = end + 1;
+                }
+                Next::Rest(end) => {
+                    return SawReader {
+                        text: text.rest(part, at, end),
+                        held,
+                    };
+                }
             }
-            reader = reader.line(part, at, end, job, plates, cuts, counts, prices);
-            at = end + 1;
         }
         reader
     }

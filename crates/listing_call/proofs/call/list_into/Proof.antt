@@ -8,7 +8,7 @@ use Rattle.job.specs.Job.{jobOf}
 use Rattle.job.proofs.CodeAdmission.{passed-length, passed-few-sizes, passed-words}
 use Rattle.job.proofs.CodeJobWords.{words-sizes}
 use Rattle.listing_call.proofs.Walking.{as-next, as-stop}
-use Rattle.listing_call.proofs.CodeEnding.{none-held, sizes-held, zeros, walked, walk-stopped}
+use Rattle.listing_call.proofs.CodeEnding.{passed-sided, none-held, sizes-held, zeros, walked, walk-stopped}
 use Rattle.listing_call.proofs.call.list_into.Statement.{statement}
 use Rattle.listing_call.proofs.call.list_into.Tie as tie
 
@@ -36,11 +36,9 @@ walk-requires c κs =
       record {
         of-job = w;
         of-blade = d .of-blade;
+        sided = passed-sided (now (s .args .job)) (s .pre .0);
         plate-room = omega (arith, s .pre .1 .0, x .kept .1 .1 .0, y .kept .0);
         cut-room = omega (arith, s .pre .1 .1, z .kept .0);
-        some-plates = omega arith;
-        few-plates = omega (arith, w .few-sizes);
-        few-cuts = omega arith;
       },
       sizes-held (jobOf (now (s .args .job))) (length (now (s .args .cuts))) _ (words-sizes w) (w .few-sizes) (x .ensures) (z .ensures),
     )
