@@ -1,4 +1,4 @@
-//! Where the static libraries are that `rt staticlib` writes.
+//! Where the static libraries are that `tools/build` puts there.
 
 use std::path::Path;
 

@@ -1,12 +1,12 @@
 /* The beam saw plan engine as a static library: the calls of document 01 with requests One to Seven of document 02, for a host in C.
  *
- * Link target/staticlib/libengine.a, which `rt staticlib engine` writes; from the top of the repository, for examples/host.c:
+ * Link target/staticlib/libengine.a, which `tools/build engine` puts there; from the top of the repository, for examples/host.c:
  *
- *     rt staticlib engine
+ *     tools/build engine
  *     cc -Iinclude examples/host.c target/staticlib/libengine.a -o host
  *
- * and where tools/install has put it: cc host.c -lsaw_engine -o host. There is one target: x86-64 Linux, by the calling convention of its C compilers
- * (System V). The header is C99 and C++. Each function is proved to meet its contract in
+ * and where tools/install has put it: cc host.c -lsaw_engine -o host. There is one target: x86-64 Linux on processors of the level
+ * x86-64-v2, by the calling convention of its C compilers (System V). The header is C99 and C++. Each function is proved to meet its contract in
  * crates/engine/src/calls.rt or, of the two texts, text_calls.rt. It allocates nothing, keeps no state between calls and always returns; of the C library it
  * uses memcpy and memset alone.
  *
@@ -83,7 +83,7 @@ extern "C" {
 #define SAW_PLACEMENTS 36000
 #define SAW_OFFCUTS 48000
 
-/* Stack that a call may use, in bytes, and that a text may use. What each does use, rounded up to hundreds:
+/* Stack that a call may use, in bytes, and that a text may use. What each used as the older kit built it, rounded up to hundreds:
  *   listing       30,000
  *   plan test     30,000
  *   price test    30,000

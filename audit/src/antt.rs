@@ -70,7 +70,7 @@ pub struct Parts<'a> {
 }
 
 /// The words that may stand in front of a declaration.
-const MARKS: [&str; 4] = ["unfoldable", "abbrev", "pub", "axiom"];
+const MARKS: [&str; 5] = ["pattern", "unfoldable", "abbrev", "pub", "axiom"];
 
 /// The parts of a text.
 pub fn parse(text: &str) -> Parts<'_> {
@@ -83,19 +83,22 @@ pub fn parse(text: &str) -> Parts<'_> {
     parts
 }
 
-/// The items of a range: each begins with the first token of a line at the column of the first.
+/// The items of a range: each begins with the first token of a line at the column of the first,
+/// which stands in no bracket and closes none.
 pub fn items(tokens: &[Token<'_>], range: Range<usize>) -> Vec<Range<usize>> {
     let mut out: Vec<Range<usize>> = Vec::new();
     let Some(first) = tokens.get(range.start).filter(|_| !range.is_empty()) else {
         return out;
     };
-    for i in range.clone() {
+    let mut i = range.start;
+    while i < range.end {
         if i == range.start || tokens[i].first && tokens[i].column <= first.column {
             if let Some(last) = out.last_mut() {
                 last.end = i;
             }
             out.push(i..range.end);
         }
+        i = past(tokens, i);
     }
     out
 }
@@ -109,6 +112,11 @@ fn block(parts: &mut Parts<'_>, range: Range<usize>, section: Option<usize>) {
             "use" => import(parts, head, item),
             "mod" | "infix" | "infixl" | "infixr" => {}
             "module" => open_section(parts, item, section),
+            "mutual" => block(parts, item.start + 1..item.end, section),
+            "ruleset" => {
+                ruleset(parts, head, item, section);
+                current = Some(parts.decls.len() - 1);
+            }
             "unfolding" => extend(parts, current, |d| {
                 d.unfolding.push(item.start + 1..item.end)
             }),
@@ -176,13 +184,30 @@ fn plain_decl(
     });
 }
 
+/// A named list of lemmas: a declaration with one clause and no signature.
+fn ruleset(parts: &mut Parts<'_>, head: usize, item: Range<usize>, section: Option<usize>) {
+    let ts = &parts.tokens;
+    let name = (head + 1).min(item.end - 1);
+    parts.decls.push(Decl {
+        name: ts[name].text,
+        sort: Sort::Plain,
+        line: ts[head].line,
+        marks: (item.start..head).map(|i| ts[i].text).collect(),
+        section,
+        signature: name..name,
+        unfolding: Vec::new(),
+        clauses: std::iter::once(name..item.end).collect(),
+        members: Vec::new(),
+    });
+}
+
 /// A record or a data type: its members are the items behind `where`.
 fn type_decl(parts: &mut Parts<'_>, head: usize, item: Range<usize>, section: Option<usize>) {
     let ts = &parts.tokens;
     let end = find(ts, head, item.end, "where").unwrap_or(item.end);
     let clauses: Vec<Range<usize>> = items(ts, (end + 1).min(item.end)..item.end)
         .into_iter()
-        .filter(|i| !ts[i.start].is("deriving"))
+        .filter(|i| !ts[i.start].is("deriving") && !ts[marks_end(ts, i)].is("open"))
         .collect();
     let names = |i: &Range<usize>| {
         let from = marks_end(ts, i);
@@ -220,38 +245,55 @@ fn open_section(parts: &mut Parts<'_>, item: Range<usize>, parent: Option<usize>
     block(parts, (end + 1).min(item.end)..item.end, Some(section));
 }
 
-/// A `use` line: a module with names in braces, or a whole module.
+/// A `use` line of the file.
 fn import(parts: &mut Parts<'_>, head: usize, item: Range<usize>) {
-    let ts = &parts.tokens;
-    let path = ts[(head + 1).min(item.end - 1)];
     let passed_on = head > item.start;
-    let add = |name, local, line| Import {
-        module: path.text.to_string(),
+    let new = imports(&parts.tokens, head, item.end, passed_on);
+    parts.imports.extend(new);
+}
+
+/// What a `use` line brings, from the word `use` to its end: names of a module in braces, or a
+/// whole module.
+pub fn imports<'a>(ts: &[Token<'a>], head: usize, end: usize, passed_on: bool) -> Vec<Import<'a>> {
+    let path = ts[(head + 1).min(end - 1)];
+    let add = |below: Option<&str>, name, local, line| Import {
+        module: match below {
+            Some(below) => format!("{}.{below}", path.text),
+            None => path.text.to_string(),
+        },
         name,
         local,
         line,
         passed_on,
     };
-    let brace = item.clone().find(|&i| ts[i].opens("{"));
-    let Some(brace) = brace else {
-        let local = if head + 3 < item.end {
+    let Some(brace) = (head..end).find(|&i| ts[i].opens("{")) else {
+        let local = if head + 3 < end {
             ts[head + 3].text
         } else {
-            path.text.rsplit('.').next().unwrap_or("")
+            last_name(path.text)
         };
-        parts.imports.push(add(None, local, path.line));
-        return;
+        return vec![add(None, None, local, path.line)];
     };
     let mut i = brace + 1;
     let mut new = Vec::new();
     while i < ts[brace].mate {
-        let name = if ts[i].is("syntax") { i + 1 } else { i };
-        let renamed = ts[name + 1].is("as");
-        let local = if renamed { name + 2 } else { name };
-        new.push(add(Some(ts[name].text), ts[local].text, ts[name].line));
+        let at = if ts[i].is("syntax") { i + 1 } else { i };
+        let renamed = ts[at + 1].is("as");
+        let local = if renamed { at + 2 } else { at };
+        let (below, name) = match ts[at].text.rsplit_once('.') {
+            Some((below, name)) => (Some(below), name),
+            None => (None, ts[at].text),
+        };
+        let own = last_name(ts[local].text);
+        new.push(add(below, Some(name), own, ts[at].line));
         i = local + 2;
     }
-    parts.imports.extend(new);
+    new
+}
+
+/// The last of names joined by dots.
+fn last_name(path: &str) -> &str {
+    path.rsplit('.').next().unwrap_or("")
 }
 
 #[cfg(test)]
@@ -260,8 +302,9 @@ mod tests {
 
     const TEXT: &str = "-- A file.
 use a.B.{c, d as e,
-  f}
+  f, C.◌+◌}
 use g.H as h
+use g.I
 
 -- one
 abbrev pub one : ℕ
@@ -287,6 +330,16 @@ pub record R (n : ℕ) : Type 0 where
   -- a field
   pub x : ℕ
   y : ℕ
+  pub open x use *
+
+mutual
+  even : ℕ → ℕ
+  even n = odd n
+
+  odd : ℕ → ℕ
+  odd n = even n
+
+pub ruleset laws = (one, ← two)
 ";
 
     #[test]
@@ -300,10 +353,13 @@ pub record R (n : ℕ) : Type 0 where
         assert_eq!(
             names,
             [
-                ("one", 7, 1, None),
-                ("two", 12, 2, Some(0)),
-                ("three", 23, 1, Some(1)),
-                ("R", 26, 2, None)
+                ("one", 8, 1, None),
+                ("two", 13, 2, Some(0)),
+                ("three", 24, 1, Some(1)),
+                ("R", 27, 2, None),
+                ("even", 34, 1, None),
+                ("odd", 37, 1, None),
+                ("laws", 40, 1, None)
             ]
         );
         assert_eq!(parts.decls[0].marks, ["abbrev", "pub"]);
@@ -313,17 +369,35 @@ pub record R (n : ℕ) : Type 0 where
     }
 
     #[test]
+    fn a_bracket_that_closes_at_the_margin_ends_no_clause() {
+        let text = "one : R\none = record {\n  x = 1;\n}\n  where\n    two : ℕ\n    two = 2\n\nthree : ℕ\nthree = 3\n";
+        let parts = parse(text);
+        let names: Vec<(&str, usize)> = parts
+            .decls
+            .iter()
+            .map(|d| (d.name, d.clauses.len()))
+            .collect();
+        assert_eq!(names, [("one", 1), ("three", 1)]);
+        assert_eq!(parts.tokens[parts.decls[0].last_token()].text, "2");
+    }
+
+    #[test]
     fn imports_have_their_names() {
         let parts = parse(TEXT);
-        let names: Vec<(Option<&str>, &str)> =
-            parts.imports.iter().map(|i| (i.name, i.local)).collect();
+        let names: Vec<(&str, Option<&str>, &str)> = parts
+            .imports
+            .iter()
+            .map(|i| (i.module.as_str(), i.name, i.local))
+            .collect();
         assert_eq!(
             names,
             [
-                (Some("c"), "c"),
-                (Some("d"), "e"),
-                (Some("f"), "f"),
-                (None, "h")
+                ("a.B", Some("c"), "c"),
+                ("a.B", Some("d"), "e"),
+                ("a.B", Some("f"), "f"),
+                ("a.B.C", Some("◌+◌"), "◌+◌"),
+                ("g.H", None, "h"),
+                ("g.I", None, "I")
             ]
         );
     }

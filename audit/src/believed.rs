@@ -71,10 +71,10 @@ fn text_of<'a>(tree: &Tree<'a>, item: Item) -> &'a str {
     }
 }
 
-/// Which lines, from 1, are comments alone.
+/// Which lines, from 1, are comments or attributes alone.
 fn comment_lines(text: &str) -> Vec<bool> {
-    let comment =
-        |line: &str| line.trim_start().starts_with("--") || line.trim_start().starts_with("//");
+    let begins = ["--", "//", "#["];
+    let comment = |line: &str| begins.iter().any(|b| line.trim_start().starts_with(b));
     std::iter::once(false)
         .chain(text.lines().map(comment))
         .collect()
@@ -228,5 +228,18 @@ pub record R : Type 0 where
             }
         );
         assert_eq!(all_files(&tree), (1, 19));
+    }
+
+    #[test]
+    fn attributes_count_with_the_comment_above_them() {
+        let code = "// A type.\n#[derive(Clone, Copy)]\npub struct T(pub u8);\n";
+        let sources = [Source {
+            path: "crates/a/src/lib.rt".into(),
+            text: code.into(),
+        }];
+        let tree = Tree::new(&sources);
+        let graph = Graph::new(&tree);
+        let found = files(&tree, &graph.reached([Item::Type(0, 0)]));
+        assert_eq!(found[0].lines, 3);
     }
 }

@@ -3,6 +3,7 @@
 use crate::antt::{Decl, Sort};
 use crate::graph::Graph;
 use crate::lex::{past, Kind, Token};
+use crate::scope::PLACE;
 use crate::tree::{Item, Tree};
 use crate::walk::{Walk, Word};
 use std::collections::HashMap;
@@ -75,7 +76,8 @@ fn all_said<'a>(tree: &Tree<'a>, graph: &Graph<'a>) -> Vec<Said<'a>> {
     out
 }
 
-/// Whether what a declaration is of is a plain number: two such may be equal and mean different things.
+/// Whether what a declaration is of is a plain number: two such may be equal and mean different
+/// things.
 fn names_number(signature: &[Token<'_>]) -> bool {
     matches!(signature, [token] if token.text == "ℕ")
 }
@@ -228,7 +230,7 @@ fn is_law(statement: &Statement<'_>) -> bool {
         Word::Global(name) => name
             .rsplit('.')
             .next()
-            .is_some_and(|n| n.starts_with(|c: char| c == '_' || c.is_lowercase())),
+            .is_some_and(|n| n.starts_with(|c: char| c == PLACE || c.is_lowercase())),
         Word::Text(text) => RELATIONS.contains(text),
     };
     !universe(&statement.conclusion) && statement.conclusion.iter().any(speaks)
@@ -326,8 +328,8 @@ mod tests {
 
     #[test]
     fn bound_names_sections_and_braces_do_not_matter() {
-        let low = "use lib.Path.{_≡_}\nlaw : (n m : ℕ) → n ≡ m → m ≡ n\nlaw n m e = sym e\n";
-        let high = "use lib.Path.{_≡_}
+        let low = "use lib.Path.{◌≡◌}\nlaw : (n m : ℕ) → n ≡ m → m ≡ n\nlaw n m e = sym e\n";
+        let high = "use lib.Path.{◌≡◌}
 module _ {a : ℕ} where
   module _ (b : ℕ) (e : a ≡ b) where
     pub again : b ≡ a
@@ -338,8 +340,8 @@ module _ {a : ℕ} where
 
     #[test]
     fn another_order_or_another_name_of_a_crate_matters() {
-        let low = "use lib.Path.{_≡_}\nuse lib.A.{f}\nlaw : (n m : ℕ) → f n ≡ m → m ≡ n\nlaw n m e = sym e\n";
-        let high = "use lib.Path.{_≡_}\nuse lib.B.{f}\nlaw : (n m : ℕ) → f n ≡ m → m ≡ n\nlaw n m e = sym e
+        let low = "use lib.Path.{◌≡◌}\nuse lib.A.{f}\nlaw : (n m : ℕ) → f n ≡ m → m ≡ n\nlaw n m e = sym e\n";
+        let high = "use lib.Path.{◌≡◌}\nuse lib.B.{f}\nlaw : (n m : ℕ) → f n ≡ m → m ≡ n\nlaw n m e = sym e
 other : (n m : ℕ) → f n ≡ m → n ≡ m\nother n m e = cc\n";
         assert!(groups(low, high).is_empty());
     }
@@ -360,13 +362,13 @@ other : (n m : ℕ) → f n ≡ m → n ≡ m\nother n m e = cc\n";
 
     #[test]
     fn laws_of_definitions_that_are_the_same_are_the_same() {
-        let text = "use lib.Path.{_≡_}\nabbrev pub f : ℕ → ℕ\nf n = n\n\nlaw : (n : ℕ) → f n ≡ n\nlaw n = refl\n";
+        let text = "use lib.Path.{◌≡◌}\nabbrev pub f : ℕ → ℕ\nf n = n\n\nlaw : (n : ℕ) → f n ≡ n\nlaw n = refl\n";
         assert_eq!(groups(text, text), [["f", "f"], ["law", "law"]]);
     }
 
     #[test]
     fn laws_of_definitions_that_are_held_apart_are_not_the_same() {
-        let text = "use lib.Path.{_≡_}
+        let text = "use lib.Path.{◌≡◌}
 abbrev pub apart : ℕ → ℕ
 apart n = n
 

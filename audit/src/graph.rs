@@ -26,6 +26,8 @@ pub struct Graph<'a> {
     pub used_code: Vec<HashSet<usize>>,
     /// What `pub use` lines pass on.
     pub passed_on: Vec<Item>,
+    /// What ghost fields, ghost members and `tactic` attributes of the code cite.
+    pub in_code: Vec<Item>,
     /// The helpers behind `where` that nothing uses: file, line and name.
     pub idle_helpers: Vec<(usize, usize, &'a str)>,
 }
@@ -40,6 +42,7 @@ impl<'a> Graph<'a> {
             used_antt: Vec::new(),
             used_code: Vec::new(),
             passed_on: Vec::new(),
+            in_code: Vec::new(),
             idle_helpers: Vec::new(),
         };
         for file in 0..tree.antt.len() {
@@ -98,13 +101,36 @@ impl<'a> Graph<'a> {
                 items: walk.items,
             });
         }
-        self.used_code.push(used);
         for (i, declared) in code.types.iter().enumerate() {
             let own = Item::Type(file, i);
-            let named = named_in(tree, file, declared.body.clone());
+            let mut named = named_in(tree, file, declared.body.clone());
+            for ghost in &declared.ghosts {
+                let mut walk = Walk::new(tree, &scope, &code.tokens);
+                for field in &declared.fields {
+                    walk.bind(field);
+                }
+                walk.expression(ghost.clone());
+                used.extend(walk.imports);
+                self.in_code.extend(&walk.items);
+                named.extend(walk.items);
+            }
             self.cites
                 .insert(own, named.into_iter().filter(|&item| item != own).collect());
         }
+        for ghost in &code.ghosts {
+            let mut walk = Walk::new(tree, &scope, &code.tokens);
+            walk.expression(ghost.clone());
+            used.extend(walk.imports);
+            self.in_code.extend(walk.items);
+        }
+        // A trait or an impl may import again what stands at the top.
+        let again = |i: &usize| {
+            let local = code.imports[*i].local;
+            used.iter().any(|&j| code.imports[j].local == local)
+        };
+        let all: HashSet<usize> = (0..code.imports.len()).filter(again).collect();
+        self.used_code.push(all);
+        self.in_code.extend(tactics(tree, file));
     }
 
     /// All that the roots cite, themselves included.
@@ -130,6 +156,25 @@ impl<'a> Graph<'a> {
         out.values_mut().for_each(|by| by.sort());
         out
     }
+}
+
+/// What the `tactic` attributes of a code file name: `crate::proofs::Laws::one`.
+fn tactics(tree: &Tree<'_>, file: usize) -> Vec<Item> {
+    let own = tree.code[file].path.split('/').nth(1).unwrap_or("");
+    let found = |path: &&str| {
+        let (module, name) = path.rsplit_once("::")?;
+        let module = match module.strip_prefix("crate::") {
+            Some(below) => format!("{own}/{below}"),
+            None => module.to_string(),
+        };
+        Some(tree.find(&module.replace("::", "/"), name)?.item)
+    };
+    tree.code[file]
+        .code
+        .cited
+        .iter()
+        .filter_map(found)
+        .collect()
 }
 
 fn antt_scope<'a>(tree: &Tree<'a>, file: usize) -> Scope<'a> {

@@ -116,7 +116,7 @@ mod tests {
     use crate::exceptions::parse;
     use crate::tree::Source;
 
-    const LAWS: &str = "use lib.Path.{_≡_, refl}
+    const LAWS: &str = "use lib.Path.{◌≡◌, refl}
 low : (n : ℕ) → n ≡ n
 low n = refl
 

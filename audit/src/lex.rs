@@ -142,7 +142,8 @@ fn next_token(line: &str, at: usize, c: char) -> (Kind, usize, usize) {
     }
 }
 
-/// Fills in which brackets belong together.
+/// Fills in which brackets belong together. One that closes no open one, as in `#[tactic(auto)]`,
+/// whose first one is part of a name, stands alone.
 fn match_brackets(tokens: &mut [Token<'_>]) {
     let mut open = Vec::new();
     for i in 0..tokens.len() {
@@ -150,7 +151,14 @@ fn match_brackets(tokens: &mut [Token<'_>]) {
         match tokens[i].kind {
             Kind::Open => open.push(i),
             Kind::Close => {
-                if let Some(from) = open.pop() {
+                let pair = |from: &&usize| {
+                    matches!(
+                        (tokens[**from].text, tokens[i].text),
+                        ("(", ")") | ("{", "}") | ("[", "]")
+                    )
+                };
+                if let Some(&from) = open.last().filter(pair) {
+                    open.pop();
                     tokens[from].mate = i;
                     tokens[i].mate = from;
                 }
@@ -192,14 +200,14 @@ mod tests {
     #[test]
     fn names_end_at_spaces_and_brackets() {
         assert_eq!(
-            texts("f (x∷y) z-w′ -- a comment"),
-            ["f", "(", "x∷y", ")", "z-w′"]
+            texts("f (x∷y) z-w' ◌+◌ -- a comment"),
+            ["f", "(", "x∷y", ")", "z-w'", "◌+◌"]
         );
     }
 
     #[test]
     fn dots_are_projections_paths_or_ends_of_binders() {
-        let kinds: Vec<Kind> = tokens("λ x. r.f (y) .g m.a.b", "--")
+        let kinds: Vec<Kind> = tokens("λ x. r.f (y).g m.a.b", "--")
             .iter()
             .map(|t| t.kind)
             .collect();
@@ -215,6 +223,12 @@ mod tests {
         let ts = tokens("f (a { b }) [ c ] []", "--");
         assert_eq!((ts[1].mate, ts[3].mate, ts[7].mate), (6, 5, 9));
         assert_eq!(ts[10].kind, Kind::Name);
+    }
+
+    #[test]
+    fn a_bracket_that_closes_none_stands_alone() {
+        let ts = tokens("{ #[tactic(auto)] a[f(x)] }", "//");
+        assert_eq!((ts[0].mate, ts[2].mate), (ts.len() - 1, 4));
     }
 
     #[test]

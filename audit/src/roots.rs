@@ -112,19 +112,19 @@ mod tests {
     use super::*;
     use crate::tree::Source;
 
-    const CODE: &str = "ghost use Rattle·a·specs.specs.S.{three, four};
+    const CODE: &str = "ghost use Rattle.a.specs.S.{three, four};
 pub struct Kept {
     pub n: u8,
 }
 
 pub extern \"C\" fn one(k: Kept) -> u8
-    ensures { λ r. ⌜ r ≡ three ⌝ }
+    ensures { result ≡ three }
 {
     3
 }
 
 pub fn two() -> u8
-    requires { ⌜ four ≡ 4 ⌝ }
+    requires { four ≡ 4 }
 {
     3
 }

@@ -1,7 +1,7 @@
-//! A code file by its parts: imports, contracts, structs and enums.
+//! A code file by its parts: imports, contracts, ghost members, tactics, structs and enums.
 
-use crate::antt::Import;
-use crate::lex::{tokens, Kind, Token};
+use crate::antt::{imports, Import};
+use crate::lex::{past, tokens, Kind, Token};
 use std::ops::Range;
 
 /// The contract of a function: ranges of the file's tokens.
@@ -29,13 +29,32 @@ pub struct Type<'a> {
     pub variants: Vec<&'a str>,
     /// What stands behind the name.
     pub body: Range<usize>,
+    /// The names of its fields, and what its ghost fields say.
+    pub fields: Vec<&'a str>,
+    pub ghosts: Vec<Range<usize>>,
 }
 
-/// A `use` line of the code.
+/// A name that a `use` line of the code brings.
 #[derive(Debug)]
 pub struct CodeUse<'a> {
-    pub path: &'a str,
+    /// The whole path of the name.
+    pub path: String,
+    /// What the file calls it.
+    pub local: &'a str,
     pub line: usize,
+    /// Whether the line is a `pub use`.
+    pub passed_on: bool,
+}
+
+impl CodeUse<'_> {
+    /// Whether it is a trait of a library, which code may use by its methods alone.
+    pub fn is_trait_of_library(&self) -> bool {
+        const TRAITS: [&str; 5] = ["Read", "Write", "BufRead", "Seek", "Context"];
+        const LIBRARIES: [&str; 2] = ["std", "anyhow"];
+        let library = self.path.split("::").next().unwrap_or("");
+        let last = self.path.rsplit("::").next().unwrap_or("");
+        LIBRARIES.contains(&library) && TRAITS.contains(&last)
+    }
 }
 
 /// The parts of a code file.
@@ -47,6 +66,10 @@ pub struct Code<'a> {
     pub uses: Vec<CodeUse<'a>>,
     pub contracts: Vec<Contract<'a>>,
     pub types: Vec<Type<'a>>,
+    /// What ghost members of traits and impls say.
+    pub ghosts: Vec<Range<usize>>,
+    /// The paths that `using(..)` and `unfolding(..)` of a `tactic` attribute name.
+    pub cited: Vec<&'a str>,
 }
 
 /// The parts of a text.
@@ -60,6 +83,10 @@ pub fn parse(text: &str) -> Code<'_> {
         i = match code.tokens[i].text {
             "use" if i > 0 && code.tokens[i - 1].is("ghost") => ghost_use(&mut code, i),
             "use" => code_use(&mut code, i),
+            "ghost" if !code.tokens.get(i + 1).is_some_and(|t| t.is("use")) => {
+                ghost_member(&mut code, i)
+            }
+            "#[tactic" | "#![tactic" => tactic(&mut code, i),
             "fn" => contract(&mut code, i),
             "struct" | "enum" => declared(&mut code, i),
             _ => i + 1,
@@ -68,47 +95,116 @@ pub fn parse(text: &str) -> Code<'_> {
     code
 }
 
-/// The names of a `ghost use` line.
-fn ghost_use(code: &mut Code<'_>, at: usize) -> usize {
-    let ts = &code.tokens;
-    let module = ts[at + 1];
-    let Some(brace) = (at..ts.len()).find(|&i| ts[i].opens("{")) else {
-        return at + 1;
-    };
-    let mut i = brace + 1;
-    while i < ts[brace].mate {
-        let name = if ts[i].is("syntax") { i + 1 } else { i };
-        let local = if ts[name + 1].is("as") {
-            name + 2
-        } else {
-            name
-        };
-        code.imports.push(Import {
-            module: module.text.to_string(),
-            name: Some(ts[name].text),
-            local: ts[local].text,
-            line: ts[name].line,
-            passed_on: false,
-        });
-        i = local + 2;
+/// The end of a line that ends with `;`.
+fn semicolon(tokens: &[Token<'_>], at: usize) -> usize {
+    let mut i = at;
+    while i < tokens.len() && tokens[i].text != ";" {
+        i = past(tokens, i);
     }
-    ts[brace].mate + 1
+    i.min(tokens.len())
 }
 
+/// The names of a `ghost use` line.
+fn ghost_use(code: &mut Code<'_>, at: usize) -> usize {
+    let end = semicolon(&code.tokens, at);
+    let new = imports(&code.tokens, at, end, false);
+    code.imports.extend(new);
+    end + 1
+}
+
+/// The names of a `use` line.
 fn code_use(code: &mut Code<'_>, at: usize) -> usize {
-    if let Some(path) = code.tokens.get(at + 1) {
-        code.uses.push(CodeUse {
-            path: path.text,
-            line: path.line,
-        });
+    let end = semicolon(&code.tokens, at);
+    let before = code.uses.len();
+    used(&code.tokens, at + 1..end, ("", ""), &mut code.uses);
+    let passed_on = code.tokens[line_start(&code.tokens, at)]
+        .text
+        .starts_with("pub");
+    code.uses[before..]
+        .iter_mut()
+        .for_each(|u| u.passed_on = passed_on);
+    end + 1
+}
+
+/// Adds what a path, or paths between commas, bring below the path in front of them.
+fn used<'a>(
+    tokens: &[Token<'a>],
+    range: Range<usize>,
+    front: (&str, &'a str),
+    out: &mut Vec<CodeUse<'a>>,
+) {
+    let mut i = range.start;
+    while i < range.end {
+        let Token { text, line, .. } = tokens[i];
+        let path = format!("{}{text}", front.0);
+        let last = |path: &'a str| path.trim_end_matches(':').rsplit("::").next();
+        if i + 1 < range.end && tokens[i + 1].opens("{") {
+            let mate = tokens[i + 1].mate;
+            used(tokens, i + 2..mate, (&path, last(text).unwrap_or("")), out);
+            i = mate + 2;
+            continue;
+        }
+        let (path, local) = match text {
+            "self" => (front.0.trim_end_matches(':').to_string(), front.1),
+            _ => (path, last(text).unwrap_or("")),
+        };
+        let renamed = i + 2 < range.end && tokens[i + 1].is("as");
+        let local = if renamed { tokens[i + 2].text } else { local };
+        if local != "*" && local != "_" {
+            let passed_on = false;
+            out.push(CodeUse {
+                path,
+                local,
+                line,
+                passed_on,
+            });
+        }
+        i += if renamed { 4 } else { 2 };
     }
-    at + 2
+}
+
+/// A ghost member of a trait or an impl: `ghost NAME: { TYPE };`, `ghost NAME = { TERM };`, or
+/// both.
+fn ghost_member(code: &mut Code<'_>, at: usize) -> usize {
+    let (ghosts, end) = ghost_texts(&code.tokens, at);
+    code.ghosts.extend(ghosts);
+    end
+}
+
+/// What stands in the braces of a ghost field or member, and where it ends.
+fn ghost_texts(tokens: &[Token<'_>], at: usize) -> (Vec<Range<usize>>, usize) {
+    let mut out = Vec::new();
+    let mut i = at + 1;
+    while i < tokens.len() && !matches!(tokens[i].kind, Kind::Separator | Kind::Close) {
+        if tokens[i].opens("{") {
+            out.push(i + 1..tokens[i].mate.max(i));
+        }
+        i = past(tokens, i);
+    }
+    (out, i)
+}
+
+/// The paths of an attribute such as `#[tactic(auto, using(crate::proofs::Laws::one))]`.
+fn tactic(code: &mut Code<'_>, at: usize) -> usize {
+    let ts = &code.tokens;
+    let Some(open) = ts.get(at + 1).filter(|t| t.opens("(")) else {
+        return at + 1;
+    };
+    let end = open.mate;
+    for i in at + 2..end {
+        if (ts[i].is("using") || ts[i].is("unfolding")) && ts[i + 1].opens("(") {
+            let paths = i + 2..ts[i + 1].mate;
+            let paths = paths.filter(|&k| ts[k].kind == Kind::Name);
+            code.cited.extend(paths.map(|k| ts[k].text));
+        }
+    }
+    end.max(at) + 1
 }
 
 /// A function: its parameters, and the clauses in front of its body.
 fn contract(code: &mut Code<'_>, at: usize) -> usize {
     let ts = &code.tokens;
-    let Some(open) = (at..ts.len()).find(|&i| ts[i].opens("(")) else {
+    let Some(open) = parameters_open(ts, at) else {
         return at + 1;
     };
     let head = line_start(ts, at);
@@ -125,12 +221,16 @@ fn contract(code: &mut Code<'_>, at: usize) -> usize {
     let mut i = ts[open].mate + 1;
     let end = (i..ts.len()).find(|&k| ts[k].opens("{"));
     found.signature.end = end.unwrap_or(ts.len());
-    while i < ts.len() {
+    while i < ts.len() && ts[i].text != ";" {
         if ts[i].opens("{") {
-            if !ts[i - 1].is("requires") && !ts[i - 1].is("ensures") {
+            let Some(kind) = clause_kind(ts, i) else {
                 break;
+            };
+            found.asks |= kind == "requires";
+            if kind == "ghost" {
+                let name = ts[i - 1].text.trim_end_matches(':');
+                found.parameters.push(name);
             }
-            found.asks |= ts[i - 1].is("requires");
             found.clauses.push(i + 1..ts[i].mate);
             i = ts[i].mate;
         }
@@ -138,6 +238,33 @@ fn contract(code: &mut Code<'_>, at: usize) -> usize {
     }
     code.contracts.push(found);
     i + 1
+}
+
+/// The bracket that opens the parameters of a function, behind its type parameters if it has any.
+fn parameters_open(tokens: &[Token<'_>], at: usize) -> Option<usize> {
+    let mut depth = 0;
+    for (i, token) in tokens.iter().enumerate().skip(at + 1) {
+        if token.opens("(") && depth <= 0 {
+            return Some(i);
+        }
+        let arrows = token.text.matches("->").count() + token.text.matches("=>").count();
+        let count = |c: char| token.text.matches(c).count() as isize;
+        depth += count('<') - count('>') + arrows as isize;
+    }
+    None
+}
+
+/// What the clause in these braces is: `requires`, `ensures` or `ghost`, which may have a name and
+/// a star; none for a body.
+fn clause_kind(tokens: &[Token<'_>], open: usize) -> Option<&'static str> {
+    let kind = |n: usize| {
+        let token = tokens.get(open.checked_sub(n)?)?;
+        let text = token.text.trim_end_matches('*');
+        ["requires", "ensures", "ghost"]
+            .into_iter()
+            .find(|kind| token.kind == Kind::Name && *kind == text)
+    };
+    kind(1).or_else(|| kind(2).filter(|_| tokens[open - 1].kind == Kind::Name))
 }
 
 /// The first token of the line of a token.
@@ -172,13 +299,18 @@ fn declared(code: &mut Code<'_>, at: usize) -> usize {
         Vec::new()
     };
     let last_line = ts.get(end).map_or(name.line, |t| t.line);
-    code.types.push(Type {
-        name: name.text,
+    let ghosts = (open..end).filter(|&i| ts[i].is("ghost"));
+    let ghosts = ghosts.flat_map(|i| ghost_texts(ts, i).0).collect();
+    let found = Type {
+        name: name.text.split('<').next().unwrap_or(""),
         line: ts[line_start(ts, at)].line,
         last_line,
         variants,
         body: open..end,
-    });
+        fields: parameters(ts, open..end),
+        ghosts,
+    };
+    code.types.push(found);
     end + 1
 }
 
@@ -192,7 +324,7 @@ fn variant_names<'a>(tokens: &[Token<'a>], range: Range<usize>) -> Vec<&'a str> 
             out.push(tokens[i].text);
         }
         begins = tokens[i].kind == Kind::Separator;
-        i = crate::lex::past(tokens, i);
+        i = past(tokens, i);
     }
     out
 }
@@ -202,8 +334,11 @@ mod tests {
     use super::*;
 
     const TEXT: &str = "// A file.
+#![tactic(auto)]
 ghost use a.B.{c, d as e};
+ghost use a.C;
 use crate::item::Item;
+pub use low::{self, m::{A, B as C}, n::*};
 
 // An enum.
 pub enum Said {
@@ -213,20 +348,31 @@ pub enum Said {
 
 pub struct Mode(pub u8);
 
+pub struct Room {
+    pub size: u16,
+    ghost within: { size ≤ c },
+}
+
 impl Mode {
-    #[no_mangle]
+    ghost view = { λ m. e m };
+
+    #[tactic(auto, using(crate::proofs::Laws::one, low::proofs::L::two), unfolding(crate::specs::S::three))]
+    #[unsafe(no_mangle)]
     pub extern \"C\" fn two(
         mut x: u16,
         y: &mut [u16; 3],
     ) -> u16
-        requires { ⌜ c x ⌝ }
-        ensures { λ r. ⌜ r ≡ e x ⌝ }
+        requires { c x }
+        ensures value { result ≡ e x }
+        ensures* kept { y.new ≡ y.old }
     {
-        if x { y[0] } else { 1 }
+        if x { y[f(0)] } else { 1 }
     }
 }
 
-fn one(&self) -> bool {
+fn one<F: Fn(u8) -> bool>(&self, f: F) -> bool
+    ghost n: { ℕ }
+{
     true
 }
 ";
@@ -237,10 +383,10 @@ fn one(&self) -> bool {
         let two = &code.contracts[0];
         assert_eq!(
             (two.function, two.line, two.public, two.exported, two.asks),
-            ("two", 15, true, true, true)
+            ("two", 26, true, true, true)
         );
         assert_eq!(two.parameters, ["x", "y"]);
-        assert_eq!(two.clauses.len(), 2);
+        assert_eq!(two.clauses.len(), 3);
         assert_eq!(code.tokens[two.signature.end - 1].text, "requires");
         let one = &code.contracts[1];
         assert_eq!(
@@ -251,9 +397,31 @@ fn one(&self) -> bool {
                 one.asks,
                 one.clauses.len()
             ),
-            ("one", false, false, false, 0)
+            ("one", false, false, false, 1)
         );
-        assert_eq!(one.parameters, ["self"]);
+        assert_eq!(one.parameters, ["self", "f", "n"]);
+    }
+
+    #[test]
+    fn ghosts_and_tactics_are_found() {
+        let code = parse(TEXT);
+        assert_eq!(
+            code.cited,
+            [
+                "crate::proofs::Laws::one",
+                "low::proofs::L::two",
+                "crate::specs::S::three"
+            ]
+        );
+        let text = |range: &Range<usize>| code.tokens[range.clone()].iter().map(|t| t.text);
+        let room = &code.types[2];
+        assert_eq!(
+            (room.name, &room.fields[..]),
+            ("Room", &["size", "within"][..])
+        );
+        assert!(text(&room.ghosts[0]).eq(["size", "≤", "c"]));
+        assert_eq!(code.ghosts.len(), 1);
+        assert!(text(&code.ghosts[0]).eq(["λ", "m", ".", "e", "m"]));
     }
 
     #[test]
@@ -265,14 +433,24 @@ fn one(&self) -> bool {
                 code.types[0].line,
                 code.types[0].last_line
             ),
-            ("Said", 6, 9)
+            ("Said", 9, 12)
         );
         assert_eq!(code.types[0].variants, ["Passed", "Refused"]);
-        assert_eq!((code.types[1].name, code.types[1].line), ("Mode", 11));
+        assert_eq!((code.types[1].name, code.types[1].line), ("Mode", 14));
         assert_eq!(
             code.imports.iter().map(|i| i.local).collect::<Vec<_>>(),
-            ["c", "e"]
+            ["c", "e", "C"]
         );
-        assert_eq!(code.uses[0].path, "crate::item::Item");
+        assert!(!code.uses[0].passed_on && code.uses[1].passed_on);
+        let uses: Vec<(&str, &str)> = code.uses.iter().map(|u| (&u.path[..], u.local)).collect();
+        assert_eq!(
+            uses,
+            [
+                ("crate::item::Item", "Item"),
+                ("low", "low"),
+                ("low::m::A", "A"),
+                ("low::m::B", "C")
+            ]
+        );
     }
 }

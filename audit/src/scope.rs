@@ -35,12 +35,15 @@ const CONSTRUCTORS: [&str; 10] = [
     "true", "false", "zero", "suc", "[]", "some", "none", "inl", "inr", "tt",
 ];
 
-/// The words of an operator's name between its places: `≡` of `_≡_`.
+/// The place of an argument in an operator's name.
+pub const PLACE: char = '◌';
+
+/// The words of an operator's name between its places: `≡` of `◌≡◌`.
 pub fn words_of(name: &str) -> impl Iterator<Item = &str> {
-    let all = std::iter::once(name).filter(|n| !n.contains('_'));
+    let all = std::iter::once(name).filter(|n| !n.contains(PLACE));
     all.chain(
-        name.split('_')
-            .filter(move |w| !w.is_empty() && name.contains('_')),
+        name.split(PLACE)
+            .filter(move |w| !w.is_empty() && name.contains(PLACE)),
     )
 }
 
@@ -97,10 +100,11 @@ impl<'a> Scope<'a> {
                 full: format!("{:?}.{name}", found.item),
             },
             None => {
-                let constructor = name.contains('_')
+                let constructor = name.contains(PLACE)
                     || CONSTRUCTORS.contains(&name)
                     || name.starts_with(char::is_uppercase)
-                    || module.ends_with("the-variants");
+                    || module.ends_with("TheVariants")
+                    || module.ends_with("/Goals");
                 Meaning {
                     item: None,
                     constructor,
@@ -118,11 +122,11 @@ impl<'a> Scope<'a> {
         self.names.insert(name, meaning);
     }
 
-    /// What a token stands for, in a section of an operator too: `_+` and `+_`.
+    /// What a token stands for, in a section of an operator too: `◌+` and `+◌`.
     pub fn find(&self, text: &str) -> Option<&Meaning> {
         self.names
             .get(text)
-            .or_else(|| self.names.get(text.trim_matches('_')))
+            .or_else(|| self.names.get(text.trim_matches(PLACE)))
     }
 }
 
@@ -141,20 +145,21 @@ mod tests {
 
     #[test]
     fn an_operator_is_found_by_its_words() {
-        assert_eq!(words_of("_≡_").collect::<Vec<_>>(), ["≡"]);
-        assert_eq!(words_of("∥_∥₁").collect::<Vec<_>>(), ["∥", "∥₁"]);
-        assert_eq!(words_of("le-trans").collect::<Vec<_>>(), ["le-trans"]);
+        assert_eq!(words_of("◌≡◌").collect::<Vec<_>>(), ["≡"]);
+        assert_eq!(words_of("∥◌∥₁").collect::<Vec<_>>(), ["∥", "∥₁"]);
+        assert_eq!(words_of("get_or-drop").collect::<Vec<_>>(), ["get_or-drop"]);
     }
 
     #[test]
     fn imports_bring_names_and_modules() {
-        let parts = crate::antt::parse("use lib.Nat.{_+_, length as size}\nuse lib.List as l\n");
+        let parts = crate::antt::parse("use lib.Nat.{◌+◌, length as size}\nuse lib.List as l\n");
         let scope = Scope::new(&Tree::default(), 0, &parts.decls, &parts.imports);
         assert_eq!(
             scope.find("+").map(|m| m.full.as_str()),
-            Some("lib.Nat._+_")
+            Some("lib.Nat.◌+◌")
         );
-        assert_eq!(scope.find("_+").and_then(|m| m.import), Some(0));
+        assert_eq!(scope.find("◌+").and_then(|m| m.import), Some(0));
+        assert!(scope.find("_").is_none());
         assert_eq!(
             scope.find("size").map(|m| m.full.as_str()),
             Some("lib.Nat.length")

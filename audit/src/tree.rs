@@ -1,6 +1,6 @@
 //! All files of the crates, and which file or type a module is.
 
-use crate::antt::{self, Parts, Sort};
+use crate::antt::{self, Decl, Parts, Sort};
 use crate::rt::{self, Code};
 use std::collections::{HashMap, HashSet};
 use std::io;
@@ -25,10 +25,24 @@ impl AnttFile<'_> {
         self.path.split('/').nth(2) == Some("specs")
     }
 
-    /// The name of the theorem of a function's proof: `F-spec`.
-    pub fn theorem(&self) -> Option<String> {
-        let folder = self.path.strip_suffix("/Proof.antt")?.rsplit('/').next()?;
-        Some(format!("{}-spec", folder.replace('_', "-")))
+    /// Whether a declaration stands by itself, since the check asks for it: in a function's
+    /// `Proof.antt` its theorem `F_spec`, and in its `Invariants.antt` and `Answers.antt` what is
+    /// of a type that the check generates, as `goal.returns`.
+    pub fn is_asked(&self, decl: &Decl<'_>) -> bool {
+        let mut names = self.path.rsplit('/');
+        let (file, folder) = (names.next().unwrap_or(""), names.next().unwrap_or(""));
+        match file {
+            "Proof.antt" => decl.name.replace('-', "_") == format!("{folder}_spec"),
+            "Invariants.antt" | "Answers.antt" => {
+                let first = self.parts.tokens[decl.signature.clone()].first();
+                let (module, _) = first.map_or("", |t| t.text).split_once('.').unzip();
+                self.parts.imports.iter().any(|i| {
+                    let generated = i.module.ends_with(".Given") || i.module.ends_with(".Goals");
+                    i.name.is_none() && generated && Some(i.local) == module
+                })
+            }
+            _ => false,
+        }
     }
 }
 
@@ -62,7 +76,13 @@ pub struct Tree<'a> {
     names: HashMap<(String, &'a str), (Item, bool)>,
     /// The antt files as modules, and the modules that hold them.
     modules: HashSet<String>,
+    /// What `pub use` lines of a module pass on under a name: a name of another module, or a whole
+    /// one.
+    passed: HashMap<(String, &'a str), (String, Option<&'a str>)>,
 }
+
+/// So many `pub use` lines lead from a name to its declaration at the most.
+const MOST_PASSES: usize = 16;
 
 /// Reads `crates.txt`, and every antt file and code file of `crates/*/{src,specs,proofs}` below a
 /// folder, sorted by path.
@@ -104,28 +124,26 @@ fn layers(text: &str) -> Vec<&str> {
     text.lines()
         .filter(|line| !line.starts_with('#'))
         .filter_map(|line| line.split_once(':'))
-        .map(|(name, _)| name)
+        .filter_map(|(head, _)| head.split_whitespace().next())
         .collect()
 }
 
-/// A module by its crate and its path there, the same for a crate's own name of it and for that of
-/// others: `job/specs/Job`. Modules of no crate stay.
+/// What the path of a crate's module begins with.
+pub const CRATES: &str = "Rattle.";
+
+/// A module by its crate and its path there: `job/specs/Job`. Modules of no crate stay.
 pub fn canonical(module: &str) -> String {
-    let Some(path) = module.strip_prefix("Rattle·") else {
-        return module.to_string();
-    };
-    let mut parts = path.split('.');
-    let owner = parts.next().unwrap_or("").split('·').next().unwrap_or("");
-    std::iter::once(owner)
-        .chain(parts)
-        .collect::<Vec<_>>()
-        .join("/")
+    match module.strip_prefix(CRATES) {
+        Some(path) => path.replace('.', "/"),
+        None => module.to_string(),
+    }
 }
 
-/// The module of an antt file.
+/// The module of an antt file; a folder's own is its `Lib.antt`.
 fn module_of(path: &str) -> String {
     let path = path.strip_prefix("crates/").unwrap_or(path);
-    path.strip_suffix(".antt").unwrap_or(path).to_string()
+    let path = path.strip_suffix(".antt").unwrap_or(path);
+    path.strip_suffix("/Lib").unwrap_or(path).to_string()
 }
 
 /// The module that declares the types of a code file.
@@ -163,6 +181,10 @@ impl<'a> Tree<'a> {
             .chain([module.len()]);
         self.modules
             .extend(ends.map(|end| module[..end].to_string()));
+        for import in parts.imports.iter().filter(|i| i.passed_on) {
+            let target = (canonical(&import.module), import.name);
+            self.passed.insert((module.clone(), import.local), target);
+        }
         for (i, decl) in parts.decls.iter().enumerate() {
             let item = Item::Decl(self.antt.len(), i);
             self.names
@@ -188,7 +210,7 @@ impl<'a> Tree<'a> {
             let own = format!("{module}/{}", declared.name);
             for variant in &declared.variants {
                 self.names
-                    .insert((format!("{own}/the-variants"), variant), (item, true));
+                    .insert((format!("{own}/TheVariants"), variant), (item, true));
             }
             self.names.insert((own, declared.name), (item, false));
         }
@@ -199,15 +221,42 @@ impl<'a> Tree<'a> {
         });
     }
 
-    /// What a name of a module stands for; the module is a canonical one.
+    /// What a name of a module stands for, also where the module passes it on; the module is a
+    /// canonical one.
     pub fn find(&self, module: &str, name: &'a str) -> Option<Found> {
-        let &(item, constructor) = self.names.get(&(module.to_string(), name))?;
-        Some(Found { item, constructor })
+        let mut place = (self.declares(module), name);
+        for _ in 0..MOST_PASSES {
+            if let Some(&(item, constructor)) = self.names.get(&place) {
+                return Some(Found { item, constructor });
+            }
+            let (module, name) = self.passed.get(&place)?;
+            place = (self.declares(module), (*name)?);
+        }
+        None
+    }
+
+    /// The module itself, where a path leads to it by a module that passes it on whole.
+    fn declares(&self, module: &str) -> String {
+        let mut out = String::new();
+        for name in module.split('/') {
+            let whole = self.passed.get(&(out.clone(), name));
+            out = match whole {
+                Some((target, None)) => target.clone(),
+                _ if out.is_empty() => name.to_string(),
+                _ => format!("{out}/{name}"),
+            };
+        }
+        out
+    }
+
+    /// Whether there is such a module.
+    pub fn is_module(&self, module: &str) -> bool {
+        self.modules.contains(&self.declares(module))
     }
 
     /// The module of a name in a module, if there is one.
     pub fn below(&self, module: &str, name: &str) -> Option<String> {
-        let below = format!("{module}/{name}");
+        let below = self.declares(&format!("{module}/{name}"));
         self.modules.contains(&below).then_some(below)
     }
 
@@ -247,10 +296,39 @@ mod tests {
 
     #[test]
     fn a_module_has_one_name() {
-        assert_eq!(canonical("Rattle·job·specs.specs.Job"), "job/specs/Job");
-        assert_eq!(canonical("Rattle·job.specs.Job"), "job/specs/Job");
-        assert_eq!(canonical("Rattle·a·proofs.proofs.b.C"), "a/proofs/b/C");
+        assert_eq!(canonical("Rattle.job.specs.Job"), "job/specs/Job");
+        assert_eq!(canonical("Rattle.a.proofs.b.C"), "a/proofs/b/C");
         assert_eq!(canonical("lib.Dec"), "lib.Dec");
+        assert_eq!(module_of("crates/job/specs/Job.antt"), "job/specs/Job");
+        assert_eq!(module_of("crates/job/specs/Lib.antt"), "job/specs");
+    }
+
+    #[test]
+    fn names_and_modules_that_are_passed_on_are_found() {
+        let source = |path: &str, text: &str| Source {
+            path: path.into(),
+            text: text.into(),
+        };
+        let sources = [
+            source(
+                "crates/high/specs/H.antt",
+                "pub use Rattle.mid.specs.Low.{a as b}\n",
+            ),
+            source("crates/low/specs/Low.antt", "pub a : ℕ\na = 1\n"),
+            source(
+                "crates/mid/specs/Lib.antt",
+                "pub use Rattle.low.specs.Low\n",
+            ),
+        ];
+        let tree = Tree::new(&sources);
+        let found = |module: &str, name| tree.find(module, name).map(|f| f.item);
+        assert_eq!(found("mid/specs/Low", "a"), Some(Item::Decl(1, 0)));
+        assert_eq!(found("high/specs/H", "b"), Some(Item::Decl(1, 0)));
+        assert_eq!(found("high/specs/H", "a"), None);
+        assert_eq!(
+            tree.below("mid/specs", "Low").as_deref(),
+            Some("low/specs/Low")
+        );
     }
 
     #[test]
@@ -273,7 +351,7 @@ mod tests {
             .find("job/specs/declared/item/Item", "Item")
             .is_some_and(|f| !f.constructor));
         assert!(tree
-            .find("job/specs/declared/item/Item/the-variants", "A")
+            .find("job/specs/declared/item/Item/TheVariants", "A")
             .is_some_and(|f| f.constructor));
         assert!(tree.find("job/specs/V", "other").is_none());
         assert_eq!(tree.below("job/specs", "V").as_deref(), Some("job/specs/V"));
@@ -287,7 +365,7 @@ mod tests {
             text: text.into(),
         };
         let sources = [
-            source("crates.txt", "# Bottom up.\nlow:\nhigh: low\n"),
+            source("crates.txt", "# Bottom up.\nlow:\nhigh staticlib: low\n"),
             source("crates/high/specs/A.antt", "a : ℕ\na = 1\n"),
             source("crates/low/specs/B.antt", "b : ℕ\nb = 1\n"),
         ];
@@ -296,19 +374,44 @@ mod tests {
         assert!(tree.layer(Item::Decl(1, 0)) < tree.layer(Item::Decl(0, 0)));
     }
 
-    #[test]
-    fn a_function_has_its_theorem() {
+    /// The names of the declarations of a file that stand by themselves.
+    fn asked<'a>(path: &'a str, text: &'a str) -> Vec<&'a str> {
         let file = AnttFile {
-            path: "crates/a/proofs/b/cut_at/Proof.antt",
-            text: "",
-            parts: Parts::default(),
+            path,
+            text,
+            parts: antt::parse(text),
         };
-        assert_eq!(file.theorem().as_deref(), Some("cut-at-spec"));
-        let law = AnttFile {
-            path: "crates/a/proofs/Laws.antt",
-            text: "",
-            parts: Parts::default(),
-        };
-        assert_eq!(law.theorem(), None);
+        let decls = file.parts.decls.iter().filter(|d| file.is_asked(d));
+        decls.map(|d| d.name).collect()
+    }
+
+    #[test]
+    fn what_the_check_asks_for_stands_by_itself() {
+        let text = "use Rattle.a.proofs.b.cut_at.Goals as goal
+use Rattle.a.proofs.b.cut_at.Given as given
+use Rattle.a.specs.B as other
+low : other.returns
+low = refl
+
+pub returns : goal.returns
+returns c = low
+
+abbrev pub invariant-loop-i : given.invariant-loop-i
+invariant-loop-i l = low
+
+pub cut_at_spec : {M : Type 1} → statement M
+cut_at_spec = low
+";
+        let at = |file: &str| format!("crates/a/proofs/b/cut_at/{file}.antt");
+        let goals = ["returns", "invariant-loop-i"];
+        assert_eq!(asked(&at("Answers"), text), goals);
+        assert_eq!(asked(&at("Invariants"), text), goals);
+        assert_eq!(asked(&at("Proof"), text), ["cut_at_spec"]);
+        assert!(asked("crates/a/proofs/Laws.antt", text).is_empty());
+        let cycle = "pub +ring_spec : statement M\n+ring_spec = low\n";
+        assert_eq!(
+            asked("crates/a/proofs/+ring/Proof.antt", cycle),
+            ["+ring_spec"]
+        );
     }
 }

@@ -20,10 +20,7 @@ fn named(tree: &Tree<'_>, file: usize, name: &str) -> Option<Item> {
     if let Some(own) = code.types.iter().position(|t| t.name == name) {
         return Some(Item::Type(file, own));
     }
-    let line = code
-        .uses
-        .iter()
-        .find(|u| u.path.rsplit("::").next() == Some(name))?;
+    let line = code.uses.iter().find(|u| u.local == name)?;
     let mut parts: Vec<&str> = line.path.split("::").collect();
     parts.pop();
     let owner = match *parts.first()? {
@@ -37,11 +34,12 @@ fn named(tree: &Tree<'_>, file: usize, name: &str) -> Option<Item> {
     };
     let path = format!("crates/{owner}/src/{module}.rt");
     let target = tree.code.iter().position(|f| f.path == path)?;
+    let declared = line.path.rsplit("::").next();
     let found = tree.code[target]
         .code
         .types
         .iter()
-        .position(|t| t.name == name)?;
+        .position(|t| Some(t.name) == declared)?;
     Some(Item::Type(target, found))
 }
 
@@ -59,7 +57,7 @@ mod tests {
         let sources = [
             source("crates/a/src/lib.rt", "pub struct Top(pub u8);\n"),
             source("crates/a/src/m.rt", "pub enum Inner { A }\n"),
-            source("crates/b/src/n.rt", "use a::m::Inner;\nuse a::Top;\npub struct Own { x: [Inner; 3], y: Top, z: Own, w: u8 }\n"),
+            source("crates/b/src/n.rt", "use a::{Top as High, m::Inner};\npub struct Own { x: [Inner; 3], y: High, z: Own, w: u8 }\n"),
         ];
         let tree = Tree::new(&sources);
         let all = named_in(&tree, 2, 0..tree.code[2].code.tokens.len());

@@ -14,8 +14,8 @@ pub struct Finding {
     pub alone: bool,
 }
 
-/// The items that stand by themselves: theorems of functions, what contracts cite, what is passed
-/// on.
+/// The items that stand by themselves: theorems and answers of functions, what contracts and the
+/// rest of the code cite, what is passed on.
 pub fn roots(tree: &Tree<'_>, graph: &Graph<'_>) -> Vec<Item> {
     let mut out: Vec<Item> = graph
         .contracts
@@ -23,12 +23,11 @@ pub fn roots(tree: &Tree<'_>, graph: &Graph<'_>) -> Vec<Item> {
         .flat_map(|c| c.items.iter().copied())
         .collect();
     out.extend(&graph.passed_on);
+    out.extend(&graph.in_code);
     for (f, file) in tree.antt.iter().enumerate() {
-        let Some(theorem) = file.theorem() else {
-            continue;
-        };
-        let found = file.parts.decls.iter().position(|d| d.name == theorem);
-        out.extend(found.map(|d| Item::Decl(f, d)));
+        let decls = file.parts.decls.iter().enumerate();
+        let asked = decls.filter(|(_, decl)| file.is_asked(decl));
+        out.extend(asked.map(|(d, _)| Item::Decl(f, d)));
     }
     out
 }
@@ -126,8 +125,8 @@ fn unused_in_code(tree: &Tree<'_>, f: usize, used: &HashSet<usize>, out: &mut Ve
     }
     let named = identifiers(tree, f);
     for line in &file.code.uses {
-        let name = line.path.rsplit("::").next().unwrap_or("");
-        if !named.contains(name) {
+        let name = line.local;
+        if !named.contains(name) && !line.passed_on && !line.is_trait_of_library() {
             out.push(format!(
                 "{}:{} {name}  the code does not use it",
                 file.path, line.line
@@ -192,7 +191,7 @@ mod tests {
             .collect()
     }
 
-    const LAWS: &str = "use lib.Path.{_≡_, refl}
+    const LAWS: &str = "use lib.Path.{◌≡◌, refl}
 pub one : (n : ℕ) → n ≡ n
 one n = refl
 
@@ -206,9 +205,9 @@ three n = one n
 
     #[test]
     fn a_law_is_cited_by_the_body_of_another_file() {
-        let proof = "use Rattle·a·proofs.proofs.Laws.{two, three}
-pub f-spec : {M : Type 1} → statement M
-f-spec = two 0
+        let proof = "use Rattle.a.proofs.Laws.{two, three}
+pub f_spec : {M : Type 1} → statement M
+f_spec = two 0
 ";
         let all = found(&[
             ("crates/a/proofs/Laws.antt", LAWS),
@@ -232,9 +231,9 @@ f-spec = two 0
 
     #[test]
     fn a_bound_name_a_field_and_a_label_are_no_citations() {
-        let proof = "use Rattle·a·proofs.proofs.Laws.{one, two, three}
-pub f-spec : (one : ℕ) → statement one
-f-spec r = let two = r .one in record { three = λ three. two three }
+        let proof = "use Rattle.a.proofs.Laws.{one, two, three}
+pub f_spec : (one : ℕ) → statement one
+f_spec r = let two = r.one in record { three = λ three. two three }
 ";
         let all = found(&[
             ("crates/a/proofs/Laws.antt", LAWS),
@@ -245,10 +244,10 @@ f-spec r = let two = r .one in record { three = λ three. two three }
 
     #[test]
     fn a_name_behind_a_module_cites() {
-        let proof = "use Rattle·a·proofs.proofs.Laws as laws
-use Rattle·a·proofs.proofs as all
-pub f-spec : {M : Type 1} → statement M
-f-spec = (laws.two 0, all.Laws.three 0, Rattle·a.proofs.Laws.one 0)
+        let proof = "use Rattle.a.proofs.Laws as laws
+use Rattle.a.proofs as all
+pub f_spec : {M : Type 1} → statement M
+f_spec = (laws.two 0, all.Laws.three 0, Rattle.a.proofs.Laws.one 0)
 ";
         let files = [
             ("crates/a/proofs/Laws.antt", LAWS),
@@ -260,14 +259,14 @@ f-spec = (laws.two 0, all.Laws.three 0, Rattle·a.proofs.Laws.one 0)
     #[test]
     fn a_contract_and_a_line_that_passes_on_cite() {
         let specs = "abbrev pub three : ℕ\nthree = 3\n\nabbrev pub four : ℕ\nfour = 4\n\nabbrev pub five : ℕ\nfive = 5\n";
-        let code = "ghost use Rattle·a·specs.specs.S.{three, five};
+        let code = "ghost use Rattle.a.specs.S.{three, five};
 fn five() -> u8
-    ensures { λ r. ⌜ r ≡ three ⌝ }
+    ensures { result ≡ three }
 {
     five
 }
 ";
-        let on = "pub use Rattle·a·specs.specs.S.{four}\n";
+        let on = "pub use Rattle.a.specs.S.{four}\n";
         let files = [
             ("crates/a/proofs/On.antt", on),
             ("crates/a/specs/S.antt", specs),
@@ -277,18 +276,54 @@ fn five() -> u8
     }
 
     #[test]
+    fn an_answer_an_attribute_and_a_ghost_member_cite() {
+        let answers = "use Rattle.a.proofs.f.Goals as goal
+use Rattle.a.proofs.Laws.{one}
+pub returns : goal.returns
+returns c = one 0
+";
+        let code = "ghost use Rattle.a.specs.S.{three, four};
+pub struct Kept {
+    n: u8,
+    ghost small: { n < three },
+}
+impl Kept {
+    ghost view = { λ k. four };
+    #[tactic(auto, using(crate::proofs::Laws::two))]
+    fn f(&self) {}
+}
+";
+        let specs = "abbrev pub three : ℕ\nthree = 3\n\nabbrev pub four : ℕ\nfour = 4\n";
+        let files = [
+            ("crates/a/proofs/Laws.antt", LAWS),
+            ("crates/a/proofs/f/Answers.antt", answers),
+            ("crates/a/specs/S.antt", specs),
+            ("crates/a/src/lib.rt", code),
+        ];
+        assert_eq!(found(&files), [("three".to_string(), true)]);
+        let without = [files[0], files[2], files[3]];
+        let code = code.replace(
+            "using(crate::proofs::Laws::two)",
+            "unfolding(crate::specs::S::four)",
+        );
+        let without = [without[0], without[1], ("crates/a/src/lib.rt", &code)];
+        assert_eq!(found(&without).len(), 3);
+    }
+
+    #[test]
     fn imports_that_are_not_used_are_found() {
-        let proof = "use lib.Path.{_≡_, refl as r, sym}
+        let proof = "use lib.Path.{◌≡◌, refl as r, sym}
 use lib.A as a
 use lib.B as b
 law : (sym : ℕ) → sym ≡ sym
 law sym = a.first sym
 ";
-        let code = "ghost use lib.Path.{_≡_, refl};
-use crate::item::Item;
-use crate::item::Mode;
+        let code = "ghost use lib.Path.{◌≡◌, refl};
+use crate::item::{Item, Mode};
+pub use crate::item::Size;
+use std::io::Read;
 fn f(refl: Item) -> bool
-    ensures { λ r. ⌜ r ≡ refl ⌝ }
+    ensures { result ≡ refl }
 {
     true
 }

@@ -4,7 +4,7 @@
 use crate::antt::{items, marks_end, signature, Decl, Parts, Sort};
 use crate::lex::{find, Kind, Token};
 use crate::scope::{words_of, Meaning, Scope};
-use crate::tree::{canonical, Item, Tree};
+use crate::tree::{canonical, Item, Tree, CRATES};
 use std::ops::Range;
 
 mod expression;
@@ -139,6 +139,8 @@ impl<'w, 'a> Walk<'w, 'a> {
             if signature(self.tokens, head, item).is_some() {
                 let binder = self.bind(self.tokens[head].text);
                 self.helpers.push((binder, self.tokens[head]));
+            } else if self.tokens[head].is("open") {
+                self.opened(item.clone());
             }
         }
         self.expression(equals..end);
@@ -150,6 +152,19 @@ impl<'w, 'a> Walk<'w, 'a> {
         self.bound.truncate(kept);
     }
 
+    /// A line `open VALUE use {NAMES}`: the value, and the names that it binds for what follows.
+    fn opened(&mut self, item: Range<usize>) {
+        let end = find(self.tokens, item.start, item.end, "use").unwrap_or(item.end);
+        self.expression(item.start + 1..end);
+        let names = end + 2..item.end.saturating_sub(1);
+        for i in names.filter(|i| self.tokens[*i].kind == Kind::Name) {
+            let text = self.tokens[i].text;
+            if text != "as" && !self.tokens[i + 1].is("as") {
+                self.bind(text);
+            }
+        }
+    }
+
     /// A signature, an `unfolding` line or a clause behind `where`.
     fn local(&mut self, item: Range<usize>) {
         let head = marks_end(self.tokens, &item);
@@ -158,6 +173,8 @@ impl<'w, 'a> Walk<'w, 'a> {
             self.expression(colon + 1..item.end);
         } else if self.tokens[head].is("unfolding") {
             self.expression(head + 1..item.end);
+        } else if self.tokens[head].is("open") {
+            // Its names are bound before the body that it stands behind.
         } else {
             self.clause(item);
         }
@@ -178,6 +195,10 @@ impl<'w, 'a> Walk<'w, 'a> {
                     i += 1
                 }
                 Kind::Name => self.pattern_name(token.text, &mut i),
+                Kind::Path => {
+                    self.path(token.text);
+                    i += 1;
+                }
                 _ => {
                     self.words.push(Word::Text(token.text));
                     i += 1;
@@ -215,12 +236,13 @@ impl<'w, 'a> Walk<'w, 'a> {
 
     /// Names joined by dots: a name of a module, or a name and projections.
     fn path(&mut self, text: &'a str) {
-        if let Some((module, name)) = text
-            .rsplit_once('.')
-            .filter(|_| text.starts_with("Rattle·"))
-        {
-            let meaning = Scope::member(self.tree, &canonical(module), name, None);
-            return self.meet(&meaning);
+        if let Some((module, rest)) = self.whole_path(text) {
+            let mut names = rest.split('.');
+            let name = names.next().unwrap_or("");
+            let meaning = Scope::member(self.tree, &module, name, None);
+            self.meet(&meaning);
+            self.words.extend(names.map(Word::Text));
+            return;
         }
         let mut names = text.split('.');
         let head = names.next().unwrap_or("");
@@ -239,6 +261,14 @@ impl<'w, 'a> Walk<'w, 'a> {
             None => self.name(head),
         }
         self.words.extend(names.map(Word::Text));
+    }
+
+    /// The module that a whole path begins with, `Rattle.job.specs.Job` of
+    /// `Rattle.job.specs.Job.job_of`, and what stands behind it.
+    fn whole_path(&self, text: &'a str) -> Option<(String, &'a str)> {
+        let dots = text.rmatch_indices('.').map(|(dot, _)| dot);
+        let mut modules = dots.map(|dot| (canonical(&text[..dot]), &text[dot + 1..]));
+        modules.find(|(module, _)| text.starts_with(CRATES) && self.tree.is_module(module))
     }
 
     fn meet(&mut self, meaning: &Meaning) {
@@ -294,19 +324,32 @@ mod tests {
     }
 
     #[test]
+    fn opened_names_hide_names_in_their_clause() {
+        let text = "use m.{go, r}\nx : b\nx n = go\n  where open r use {other as go}\n";
+        assert_eq!(taken(text), ["r"]);
+    }
+
+    #[test]
     fn patterns_use_constructors_and_bind_names() {
         assert_eq!(
             taken("use m.{suc, length}\nx : b\nx (suc length) = length\n"),
             ["suc"]
         );
-        assert_eq!(taken("use m.{_∷_}\nx : b\nx (a ∷ as) = a\n"), ["_∷_"]);
+        assert_eq!(taken("use m.{◌∷◌}\nx : b\nx (a ∷ b) = a\n"), ["◌∷◌"]);
+        assert_eq!(taken("use m.E as e\nx : b\nx (e.one a) = a\n"), ["one"]);
+        let branch = "use Rattle.a.proofs.f.Goals.{in-Ok}\nx : b\nx = elim c [ in-Ok a ↦ a ]\n";
+        assert_eq!(taken(branch), ["in-Ok"]);
     }
 
     #[test]
     fn labels_and_projections_are_no_names() {
         assert_eq!(
-            taken("use m.{a, b}\nx : c\nx = record { a = r .a; b = r.b }\n"),
+            taken("use m.{a, b}\nx : c\nx = record { a = (f r).a; b = r.b }\n"),
             [""; 0]
+        );
+        assert_eq!(
+            taken("use m.{a, b}\nx : c\nx = record { a : b; c : a ≡ a }\n"),
+            ["b"]
         );
         assert_eq!(
             taken("use m.{a}\nuse n as r\nx : c\nx = f {a = a} r.b\n"),

@@ -25,7 +25,7 @@ fn rests_on(name: &str) -> BTreeSet<String> {
 #[test]
 fn the_first_command_proves_so_many_crates() {
     let readme = include_str!("../../README.md");
-    assert!(readme.contains("\n    rt check saw && target/bin/saw <examples/a.txt "));
+    assert!(readme.contains("\n    tools/build saw && target/bin/saw <examples/a.txt "));
     let crates = rests_on("saw");
     assert!(crates.contains("job") && crates.contains("saw"));
     let told = format!("\nThe first proves {} crates, ", crates.len());

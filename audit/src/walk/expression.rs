@@ -83,7 +83,11 @@ impl<'a> Walk<'_, 'a> {
     pub(super) fn group(&mut self, open: usize) -> usize {
         let close = self.tokens[open].mate;
         self.words.push(Word::Text(self.tokens[open].text));
-        if let Some(colon) = self.telescope(open) {
+        if self.is_record(open) {
+            let kept = self.bound.len();
+            self.labelled(open + 1..close);
+            self.bound.truncate(kept);
+        } else if let Some(colon) = self.telescope(open) {
             self.expression(colon + 1..close);
             for i in open + 1..colon {
                 let number = self.bind(self.tokens[i].text);
@@ -98,6 +102,14 @@ impl<'a> Walk<'_, 'a> {
         }
         self.words.push(Word::Text(self.tokens[close].text));
         close.max(open) + 1
+    }
+
+    /// Whether a record's value or type stands in these braces: `record { .. }`, or `record r { ..
+    /// }`.
+    fn is_record(&self, open: usize) -> bool {
+        let before = |n: usize| open >= n && self.tokens[open - n].is("record");
+        self.tokens[open].text == "{"
+            && (before(1) || before(2) && self.tokens[open - 1].kind != Kind::Close)
     }
 
     /// The parts of a range between tokens of this text.
@@ -129,18 +141,24 @@ impl<'a> Walk<'_, 'a> {
         }
     }
 
-    /// The values in braces: a label and `=` may stand in front of each.
+    /// The values in braces: a label and `=` may stand in front of each, or a label and `:`, which
+    /// is bound in the next ones.
     fn labelled(&mut self, range: Range<usize>) {
         for part in self.split(range, ";") {
-            let label = part.len() > 1 && self.tokens[part.start + 1].is("=");
-            if label {
-                self.words.push(Word::Text(self.tokens[part.start].text));
+            let behind = |text: &str| part.len() > 1 && self.tokens[part.start + 1].is(text);
+            let (value, field) = (behind("="), behind(":"));
+            let label = self.tokens[part.start].text;
+            if value || field {
+                self.words.push(Word::Text(label));
             }
-            self.expression(if label {
+            self.expression(if value || field {
                 part.start + 1..part.end
             } else {
                 part
             });
+            if field {
+                self.bind(label);
+            }
             self.words.push(Word::Text(";"));
         }
     }

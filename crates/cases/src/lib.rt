@@ -1,1 +1,3 @@
 // The proved table of cases: definitions and proofs alone.
+
+#![tactic(auto)]

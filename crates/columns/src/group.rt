@@ -15,7 +15,7 @@ const LEAD_LIMIT: u32 = 100_000_000;
 const LIMIT: u32 = 10 * LEAD_LIMIT;
 
 // What nine columns hold.
-#[derive(Drop)]
+#[derive(Clone, Copy)]
 pub enum Number {
     Value(u32),
     Malformed,

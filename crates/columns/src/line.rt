@@ -8,14 +8,14 @@ use crate::group::{Number, number_at, put_number};
 use crate::widths::{GROUP, MOST_NUMBERS};
 
 // The numbers of a line, the kind first, then zeros; all zeros where it is not of the form.
-#[derive(Drop)]
+#[derive(Clone, Copy)]
 pub struct Line {
     pub good: bool,
     pub numbers: [u32; MOST_NUMBERS],
 }
 
 // How many numbers the line has that stands at a position; or no line of at most ten numbers stands there.
-#[derive(Drop)]
+#[derive(Clone, Copy)]
 pub enum Complete {
     Numbers(usize),
     Nothing,

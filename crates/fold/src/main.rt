@@ -1,16 +1,22 @@
 // The fold program: a fold text comes from standard input in parts, and its answer goes to standard output.
-ghost use Rattle.std.specs.Prelude.{◌≡◌, true, ◌≤◌, length};
+#![tactic(auto)]
+
+ghost use Rattle.std.specs.Prelude.{ℕ, ◌≡◌, ◌≤◌, true, false, IfOk, IfSome, OnOk, OnErr, length};
+ghost use Rattle.std.specs.Io.KnownBytes.{Appends};
 ghost use Rattle.job.specs.Sizes.{longest_job};
 ghost use Rattle.texts.specs.FoldText.{fold_text};
 ghost use Rattle.fold_text_reader.specs.FoldKept.{layouts_size};
 ghost use Rattle.fold_text_reader.specs.Parts.{After, lent};
 ghost use Rattle.fold_text_ending.specs.FoldEnd.{room_to_end};
-ghost use Rattle.programs.specs.Program.{part_size, ReadSome, WholeAnswer, AnswersSome};
+ghost use Rattle.programs.specs.Program.{part_size, ReadFrom, WholeAnswer, AnswersFrom, WritesFrom};
 
 use fold_text_ending::finish::finish;
 use fold_text_reader::fold::{FoldReader, feed, start};
 use job::sizes::{COUNTS_SIZE, CUTS_SIZE, JOB_SIZE, PLACEMENTS_SIZE, PLATES_SIZE};
+use programs::input::Input;
 use programs::parts::PART_SIZE;
+use std::io;
+use std::io::{Read, Write};
 use texts::widths::LONGEST_FOLD_TEXT;
 use texts_writing::sizes::LONGEST_FOLD;
 
@@ -18,23 +24,28 @@ use texts_writing::sizes::LONGEST_FOLD;
 const MOST_PARTS: usize = LONGEST_FOLD_TEXT / PART_SIZE + 1;
 
 // What has been read, and how many bytes the last read gave.
-#[derive(Drop)]
+#[derive(Clone, Copy)]
 struct TextRead {
     reader: FoldReader,
     last: usize,
 }
 
 // Reads a text, part after part, to its end, or so much of it that what follows cannot change the answer. The first read that gives less than a part
-// ends the text, whether standard input ends there or the read fails.
-fn read(part: &mut [u8], job: &mut [u16], layouts: &mut [u16]) -> TextRead
+// ends the text, whether the input ends there or the read fails.
+fn read<R: Read>(
+    input: &mut Input<R>,
+    part: &mut [u8],
+    job: &mut [u16],
+    layouts: &mut [u16],
+) -> TextRead
     requires part_size_in_bounds { part_size ≤ length part.old }
     requires longest_job_in_bounds { (longest_job ≤ length job.old) × (layouts_size ≤ length layouts.old) }
-    ensures { ReadSome fold_text After result.reader (lent job.new layouts.new) (length part.old) result.last }
+    ensures { ReadFrom fold_text (R.remaining input.old.reader) (R.remaining input.new.reader) input.new.failed After result.reader (lent job.new layouts.new) (length part.old) result.last }
 {
     let mut reader = start(job, layouts);
     let mut parts: usize = 0;
     while parts < MOST_PARTS {
-        let n = io::read_full(0, part);
+        let n = input.fill(part);
         reader = feed(reader, &part[..n], job, layouts);
         if n < part.len() {
             return TextRead { reader, last: n };
@@ -43,12 +54,13 @@ fn read(part: &mut [u8], job: &mut [u16], layouts: &mut [u16]) -> TextRead
     }
     TextRead {
         reader,
-        last: PART_SIZE,
+        last: part.len(),
     }
 }
 
 // Reads a text and leaves its answer at the start of the output; the number of its bytes is handed back.
-fn answer(
+fn answer<R: Read>(
+    input: &mut Input<R>,
     part: &mut [u8],
     job: &mut [u16],
     layouts: &mut [u16],
@@ -59,24 +71,28 @@ fn answer(
 ) -> usize
     requires part_size_in_bounds { part_size ≤ length part.old }
     requires out_value { room_to_end (length job.old) (length layouts.old) (length plates.old) (length cuts.old) (length counts.old) (length out.old) ≡ true }
-    ensures { AnswersSome fold_text out.old result out.new }
+    ensures { AnswersFrom fold_text (R.remaining input.old.reader) (R.remaining input.new.reader) input.new.failed out.old result out.new }
 {
-    let text = read(part, job, layouts);
+    let text = read(input, part, job, layouts);
     let reader = text.reader;
     finish(reader, job, layouts, plates, cuts, counts, out)
 }
 
-// Hands bytes to the write that are the answer to some text, whole; their number is handed back.
-fn write_answer(bytes: &[u8]) -> usize
+// Hands bytes to the write that are the answer to some text, whole; their number is handed back, or the error of a write that fails.
+fn write_answer<W: Write>(output: &mut W, bytes: &[u8]) -> io::Result<usize>
     requires { WholeAnswer fold_text bytes.now }
-    ensures { result ≡ length bytes.now }
+    ensures counted { IfOk result (λ n. n ≡ length bytes.now) }
+    ensures written { OnOk result (Appends (W.contents output.old) (W.contents output.new) bytes.now) }
 {
-    io::write_all(1, bytes);
-    bytes.len()
+    output.write_all(bytes)?;
+    Ok(bytes.len())
 }
 
-// Reads a text and writes its answer, which stands at the start of the output; the number of bytes handed to the write is handed back.
-fn run(
+// Reads a text and writes its answer, which stands at the start of `out`; the number of bytes handed to the write is handed back, or the error of a write
+// that fails.
+fn run<R: Read, W: Write>(
+    input: &mut Input<R>,
+    output: &mut W,
     part: &mut [u8],
     job: &mut [u16],
     layouts: &mut [u16],
@@ -84,16 +100,23 @@ fn run(
     cuts: &mut [u16],
     counts: &mut [u16],
     out: &mut [u8],
-) -> usize
+) -> io::Result<usize>
     requires part_size_in_bounds { part_size ≤ length part.old }
     requires out_value { room_to_end (length job.old) (length layouts.old) (length plates.old) (length cuts.old) (length counts.old) (length out.old) ≡ true }
-    ensures { AnswersSome fold_text out.old result out.new }
+    ensures answered { IfOk result (λ n. AnswersFrom fold_text (R.remaining input.old.reader) (R.remaining input.new.reader) input.new.failed out.old n out.new) }
+    ensures failed { OnErr result ((n : ℕ) × AnswersFrom fold_text (R.remaining input.old.reader) (R.remaining input.new.reader) input.new.failed out.old n out.new) }
+    ensures written { OnOk result (WritesFrom fold_text (R.remaining input.old.reader) (R.remaining input.new.reader) input.new.failed (W.contents output.old) (W.contents output.new)) }
 {
-    let n = answer(part, job, layouts, plates, cuts, counts, out);
-    write_answer(&out[..n])
+    let n = answer(input, part, job, layouts, plates, cuts, counts, out);
+    write_answer(output, &out[..n])
 }
 
-fn main() {
+// The program on any input and output, with room for any answer: reads a text and writes its answer. Where no read has failed, what is written is the answer
+// to all the bytes that the input has. The error of a write that fails is handed back.
+fn program<R: Read, W: Write>(input: &mut Input<R>, output: &mut W) -> io::Result<()>
+    ensures written { OnOk result (WritesFrom fold_text (R.remaining input.old.reader) (R.remaining input.new.reader) input.new.failed (W.contents output.old) (W.contents output.new)) }
+    ensures whole { input.new.failed ≡ false → OnOk result (IfSome (R.remaining input.old.reader) (λ text. Appends (W.contents output.old) (W.contents output.new) (fold_text text))) }
+{
     let mut part = [0u8; PART_SIZE];
     let mut job = [0u16; JOB_SIZE];
     let mut layouts = [0u16; PLACEMENTS_SIZE];
@@ -102,6 +125,8 @@ fn main() {
     let mut counts = [0u16; COUNTS_SIZE];
     let mut out = [0u8; LONGEST_FOLD];
     run(
+        input,
+        output,
         &mut part,
         &mut job,
         &mut layouts,
@@ -109,5 +134,82 @@ fn main() {
         &mut cuts,
         &mut counts,
         &mut out,
-    );
+    )?;
+    Ok(())
+}
+
+fn main(rt: HostRuntime) -> io::Result<()> {
+    let mut input = Input::new(rt.stdin());
+    let mut output = rt.stdout();
+    program(&mut input, &mut output)
+}
+
+#[cfg(test)]
+mod tests {
+    use super::*;
+    use std::test::Fail;
+
+    // The text of `stdin`, of two board sizes.
+    const TEXT: &[u8] = b"        1        2        0        2        2        0\n\
+        \x20      10        0        9        7        3\n\
+        \x20      10        1        9        3        1\n\
+        \x20       2        1        5        4        2        0\n\
+        \x20       2        2        3        3        3        0\n\
+        \x20       7        1        0        1        1        1        1        0        0        0\n\
+        \x20       7        2        0        1        1        1        1        0        0        0\n\
+        \x20       7        3        1        1        1        1        2        0        0        0\n\
+        \x20       7        3        1        1        2        1        2        3        0        0\n\
+        \x20       7        3        1        1        3        1        2        6        0        0\n";
+
+    const ANSWER: &[u8] =
+        b"        3        0        1        2        9        7        1        0\n\
+        \x20       3        1        2        1        9        3        1        0\n\
+        \x20       3        5        2        1        6        3        2        0\n\
+        \x20       3        6        2        1        3        3        2        0\n";
+
+    // The bytes of the job's lines before its last.
+    const BEGUN: usize = 202;
+
+    // Line 5 is missing.
+    const MISSING: &[u8] = b"        9        1        5\n";
+
+    // A reader of which each read fails.
+    #[derive(Drop)]
+    struct Broken;
+
+    impl Read for Broken {
+        fn read(&mut self, _buf: &mut [u8]) -> io::Result<usize> {
+            Err(io::Error::from(io::ErrorKind::Other))
+        }
+    }
+
+    #[test]
+    fn a_text_is_answered(rt: HostRuntime) -> Result<(), Fail> {
+        let mut input = Input::new(TEXT);
+        let mut output = Vec::new(rt.alloc());
+        program(&mut input, &mut output)?;
+        assert!(rt; !input.failed);
+        assert_eq!(rt; output.as_slice(), ANSWER);
+        Ok(())
+    }
+
+    #[test]
+    fn a_failed_read_ends_the_text(rt: HostRuntime) -> Result<(), Fail> {
+        let begun = &TEXT[..BEGUN];
+        let mut input = Input::new(begun.chain(Broken));
+        let mut output = Vec::new(rt.alloc());
+        program(&mut input, &mut output)?;
+        assert!(rt; input.failed);
+        assert_eq!(rt; output.as_slice(), MISSING);
+        Ok(())
+    }
+
+    #[test]
+    fn a_failed_write_is_handed_back(rt: HostRuntime) {
+        let mut input = Input::new(TEXT);
+        let mut room = [0u8; 100];
+        let mut output = room.as_mut_slice();
+        let result = program(&mut input, &mut output);
+        assert!(rt; result.is_err());
+    }
 }

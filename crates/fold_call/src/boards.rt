@@ -12,7 +12,7 @@ use job::words::size_at;
 use layouts_strips::begins::{Begins, begins_at, size_named};
 
 // The boards that have ended, what they cost together, and the size of the board that goes on.
-#[derive(Drop)]
+#[derive(Clone, Copy)]
 pub struct Boards {
     pub number: u16,
     pub cost: u32,

@@ -29,7 +29,7 @@ use layouts_row::rows::layouts_row;
 use listing_call::call::{Listed, list_into};
 
 // The boards of the set that is folded and what they cost; or the number of a refusal and the place that it names.
-#[derive(Drop)]
+#[derive(Clone, Copy)]
 pub enum FoldAnswer {
     Folded(u16, u32),
     Refused(u16, usize),

@@ -1,3 +1,5 @@
 // The folding call.
+#![tactic(auto)]
+
 pub mod boards;
 pub mod call;

@@ -9,7 +9,7 @@ use crate::count::count_cut;
 use job::counters::{CutNumber, ItemPosition, PlateType};
 
 // The plate type that the next item is cut from; whether an item has been cut, and what else the first of them left.
-#[derive(Drop)]
+#[derive(Clone, Copy)]
 pub struct Chain {
     pub plate: PlateType,
     pub rest: PlateType,

@@ -13,7 +13,7 @@ use listing::cut::cut_at;
 use listing_find::search::{Found, find_cut};
 
 // What a cut leaves: the plate type that the next item of its run is cut from, and the other one.
-#[derive(Drop)]
+#[derive(Clone, Copy)]
 pub struct Left {
     pub own: PlateType,
     pub other: PlateType,

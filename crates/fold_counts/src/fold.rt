@@ -24,7 +24,7 @@ use layouts_strips::begins::{size_named, strip_plate};
 use layouts_strips::strip::strip_at;
 
 // The line behind the last of a strip, and the plate type that the next strip of the board is cut from.
-#[derive(Drop)]
+#[derive(Clone, Copy)]
 pub struct StripFolded {
     pub end: usize,
     pub board: PlateType,

@@ -1,4 +1,6 @@
 // Folding: the cuts of a set of layouts in folding's order, counted.
+#![tactic(auto)]
+
 pub mod chain;
 pub mod count;
 pub mod fold;

@@ -20,7 +20,7 @@ use layouts_strips::begins::begins_stack;
 use layouts_strips::stack::{StackMeasure, stack_at};
 
 // Where the stacks of a strip stand: the plate type that the next one is cut from, and whether the one that comes to the front is passed.
-#[derive(Drop)]
+#[derive(Clone, Copy)]
 pub struct Others {
     pub strip: PlateType,
     pub passed: bool,

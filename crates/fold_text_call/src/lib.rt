@@ -1,2 +1,4 @@
 // The fold text, from bytes to bytes.
+#![tactic(auto)]
+
 pub mod call;

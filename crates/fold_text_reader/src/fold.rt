@@ -15,7 +15,7 @@ use texts_reading::scan::line_end;
 use texts_reading::text::TextReader;
 
 // A fold text so far, and the number of its lines of kind 7; the words of the first 4,000 of them are kept in lent words.
-#[derive(Drop)]
+#[derive(Clone, Copy)]
 pub struct FoldReader {
     pub text: TextReader,
     pub rows: u32,

@@ -18,3 +18,4 @@ pub mod CodeJobWords
 pub mod CodeAdmission
 pub mod Records
 pub mod CodeEnds
+pub mod Parts

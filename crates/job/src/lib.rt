@@ -1,4 +1,6 @@
 // The job: its stage mode, its board sizes, its item types, the counters of the model, and admission; verdicts, sizes and lent buffers, which every call shares.
+#![tactic(auto)]
+
 pub mod admit;
 pub mod counters;
 pub mod demands;

@@ -3,7 +3,7 @@ ghost use Rattle.std.specs.Prelude.{◌≡◌};
 ghost use Rattle.job.specs.Mode.{mode_of, three, exact};
 
 // Two or three stages, exact or non-exact: 0 is 2E, 1 is 2N, 2 is 3E, 3 is 3N.
-#[derive(Drop)]
+#[derive(Clone, Copy)]
 pub struct Mode(pub u8);
 
 impl Mode {

@@ -1,5 +1,5 @@
 // A board size: its sides in millimetres, and what a board of it costs.
-#[derive(Drop)]
+#[derive(Clone, Copy)]
 pub struct Size {
     pub width: u16,
     pub height: u16,

@@ -1,1 +1,3 @@
 // Sets of layouts, unfolding and folding.
+
+#![tactic(auto)]

@@ -11,6 +11,7 @@ use job::row::Row;
 use placement::{Placement, placement_at};
 
 // Whether a line has this board, of this size, and this strip, stack and place.
+#[tactic(auto, unfolding(layouts::specs::Lines::same_turn))]
 fn same_turn(
     line: Placement,
     board: u32,

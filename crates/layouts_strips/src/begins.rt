@@ -9,7 +9,7 @@ use job::counters::PlateType;
 use placement::placement_at;
 
 // A further place of a stack, or the first of a stack, of a strip, of a board.
-#[derive(Drop)]
+#[derive(Clone, Copy)]
 pub enum Begins {
     Place,
     Stack,

@@ -1,4 +1,6 @@
 // Strips of layouts: refusals 16, 17 and 18 of the layouts row.
+#![tactic(auto)]
+
 pub mod begins;
 pub mod past;
 pub mod positions;

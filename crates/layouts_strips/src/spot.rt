@@ -14,7 +14,7 @@ use job::head::head_of;
 use job::item::Position;
 
 // The position of the next item of a stack; the strip's lower edge, the stack's width so far, and the lower edge of the next strip so far.
-#[derive(Drop)]
+#[derive(Clone, Copy)]
 pub struct Spot {
     pub x: u32,
     pub y: u32,

@@ -14,7 +14,7 @@ use job::position::position_at;
 use placement::placement_at;
 
 // A stack: the line behind its last, its width and its height, and whether all its items are equally wide.
-#[derive(Drop)]
+#[derive(Clone, Copy)]
 pub struct StackMeasure {
     pub end: usize,
     pub width: u32,

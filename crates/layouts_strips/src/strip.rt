@@ -11,7 +11,7 @@ use crate::stack::{StackMeasure, greater, stack_at};
 use job::head::head_of;
 
 // A strip: the line behind its last, the widths of its stacks with a blade's width after each, and its height.
-#[derive(Drop)]
+#[derive(Clone, Copy)]
 pub struct StripMeasure {
     pub end: usize,
     pub across: u32,

@@ -7,7 +7,7 @@ use job::counters::{CutNumber, ItemPosition, PlateType};
 use job::sizes::CUT_WORDS;
 
 // The plate type of a cut, its item in its position, and its top and its right, 0 if not kept.
-#[derive(Drop)]
+#[derive(Clone, Copy)]
 pub struct CutRecord {
     pub plate: PlateType,
     pub item: ItemPosition,

@@ -6,7 +6,7 @@ use job::item::Position;
 use job::mode::Mode;
 
 // A plate type: its sides in millimetres, and its stage, 1 to 3.
-#[derive(Drop)]
+#[derive(Clone, Copy)]
 pub struct Plate {
     pub width: u16,
     pub height: u16,
@@ -14,7 +14,7 @@ pub struct Plate {
 }
 
 // What a cut leaves: above the item, and beside it.
-#[derive(Drop)]
+#[derive(Clone, Copy)]
 pub struct Residuals {
     pub top: Plate,
     pub right: Plate,

@@ -117,7 +117,7 @@ module _ (ws plates cuts plates' cuts' : List ℕ) where
       rw v (refl, (ep ∙ sym (ends-zeros (refuse number 0) refl n plates []), ec ∙ sym (ends-zeros (refuse number 0) refl n cuts [])))
 
 -- the rows of the listing call before the model: the job, and then the lent buffers
-abbrev rows_before : List ℕ → List ℕ → List ℕ → Verdict
+abbrev pub rows_before : List ℕ → List ℕ → List ℕ → Verdict
 rows_before ws plates cuts = (job_words ws then admission (job_of ws)) then sized 1 plates_size plates then sized 2 cuts_size cuts
 
 module _ (ws plates cuts : List ℕ) where

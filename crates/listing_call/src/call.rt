@@ -20,7 +20,7 @@ use job::row::Row;
 use job::words::clear;
 
 // The numbers of plate types and cuts; or the number of a refusal and the place that it names.
-#[derive(Drop)]
+#[derive(Clone, Copy)]
 pub enum Listed {
     Done(PlateTypes, CutNumber),
     Refused(u16, usize),

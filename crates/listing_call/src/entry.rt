@@ -14,7 +14,7 @@ use listing::words::put_plate;
 use listing_index::index::{find, put};
 
 // A residual's number, 0 if it is not kept, and the number of plate types with it among them; or no room for one more.
-#[derive(Drop)]
+#[derive(Clone, Copy)]
 pub enum Entered {
     As(PlateType, PlateTypes),
     Full,

@@ -16,7 +16,7 @@ use listing_index::index::INDEX_SIZE;
 use listing_positions::table::{Leasts, TABLE_SIZE, learn, leasts_at, lying_at, next_at};
 
 // The numbers of plate types and cuts so far; or the refusal that the walk met.
-#[derive(Drop)]
+#[derive(Clone, Copy)]
 pub enum Step {
     Next(PlateTypes, CutNumber),
     Stop(u16),

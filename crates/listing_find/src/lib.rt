@@ -1,2 +1,4 @@
 // The cut of a plate type and an item in a position, found by its pair.
+#![tactic(auto)]
+
 pub mod search;

@@ -12,7 +12,7 @@ use job::counters::{CutNumber, ItemPosition, PlateType};
 use listing::cut::cut_at;
 
 // The cut that is found, if there is one.
-#[derive(Drop)]
+#[derive(Clone, Copy)]
 pub enum Found {
     At(CutNumber),
     Nothing,

@@ -1,2 +1,4 @@
 // The index of residual types: the number of a plate type, found by its bucket.
+#![tactic(auto)]
+
 pub mod index;

@@ -20,7 +20,7 @@ pub const POSITION_WORDS: usize = 8;
 pub const TABLE_SIZE: usize = POSITION_WORDS * (2 * (MAX_TYPES as usize) + 2);
 
 // The least width of a right, and the least height of a top of stage 3, from which it is kept.
-#[derive(Drop)]
+#[derive(Clone, Copy)]
 pub struct Leasts {
     pub right: u16,
     pub top: u16,

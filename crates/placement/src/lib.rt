@@ -1,4 +1,6 @@
 // The placement of an item as words of a lent buffer, which is also a line of layout words: how it is written and how it is read.
+#![tactic(auto)]
+
 ghost use Rattle.std.specs.Prelude.{◌≡◌, List, [], ◌∷◌, ◌++◌, ◌+◌, ◌*◌, ◌^◌, ◌≤◌, ◌<◌, length};
 ghost use Rattle.job.specs.Sizes.{words_of_placement, RecordIn};
 ghost use Rattle.listing.specs.Holds.{Holds};
@@ -9,7 +11,7 @@ use job::counters::{ItemPosition, ItemType, PlateType};
 use job::sizes::PLACEMENT_WORDS;
 
 // The board of an item and the size of that board, the item's strip, stack and place, its type, where it lies, and 1 if it is turned, else 0.
-#[derive(Drop)]
+#[derive(Clone, Copy)]
 pub struct Placement {
     pub board: u16,
     pub size: PlateType,

@@ -1,1 +1,3 @@
 // The plan and the prices of a job.
+
+#![tactic(auto)]

@@ -1,4 +1,6 @@
 // The plan test.
+#![tactic(auto)]
+
 pub mod call;
 pub mod opened;
 pub mod plan_row;

@@ -9,7 +9,7 @@ use job::size::Size;
 use job::words::size_at;
 
 // How many boards are opened, and what they cost together.
-#[derive(Drop)]
+#[derive(Clone, Copy)]
 pub struct Opening {
     pub boards: u16,
     pub cost: u32,

@@ -23,7 +23,7 @@ use job::sizes::{MAX_PIECES, MAX_PLATES, TYPE_SUMS};
 const PLATE_SUMS: usize = MAX_PLATES as usize;
 
 // The boards that an accepted plan opens and what they cost, or a refusal's number and place.
-#[derive(Drop)]
+#[derive(Clone, Copy)]
 pub enum PlanAnswer {
     Accepted(u16, u32),
     Refused(u16, usize),

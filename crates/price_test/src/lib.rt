@@ -1,3 +1,5 @@
 // The price test.
+#![tactic(auto)]
+
 pub mod call;
 pub mod prices;

@@ -19,7 +19,7 @@ use job::words::{item_at, size_at};
 use listing::cut::{CutRecord, cut_at};
 
 // The sum of price times demand, and D; or a refusal's number and place.
-#[derive(Drop)]
+#[derive(Clone, Copy)]
 pub enum PriceAnswer {
     Accepted(u32, u16),
     Refused(u16, usize),

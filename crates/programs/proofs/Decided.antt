@@ -1,9 +1,5 @@
 -- As many parts as the programs read decide the answer.
-use Prim.Native.Nat.{ℕ, ◌<◌, ◌*◌}
-use native.Mathlib.Omega.{arith}
-use mathlib.Core.Path.{◌≡◌, sym, ap, ◌∙◌}
-use mathlib.Core.List.{List, ◌++◌}
-use lib.ListN.{length, take}
+use Rattle.std.proofs.Common.{◌≡◌, ℕ, ◌*◌, ◌<◌, List, ◌++◌, arith, length, take, sym, ap, ◌∙◌}
 use lib.Seq.{take-append_seam}
 use Rattle.texts.specs.SawText.{saw_text}
 use Rattle.texts.specs.FoldText.{fold_text}

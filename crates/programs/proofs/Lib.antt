@@ -1,5 +1,5 @@
--- The laws of this crate: how much of standard input decides, parts that have been read, what is handed to the write, the arrays that a program has.
+-- The laws of this crate: how much of an input decides, a part that is filled, parts that have been read, what is handed to the write.
 pub mod Decided
+pub mod Filled
 pub mod PartsRead
 pub mod Answered
-pub mod ArraySize

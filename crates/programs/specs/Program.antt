@@ -1,12 +1,14 @@
 -- Document 01, "Texts": what a program does that reads a text "from standard input and writes" its answer, by the definition of the answer.
--- Which bytes standard input gave, and that bytes reach standard output, no contract can say: these speak of some text, and of what is handed to the write.
-use Rattle.std.specs.Prelude.{ℕ, ◌+◌, ◌*◌, ◌/◌, ◌≤◌, ◌<◌, ◌≡◌, List, ◌++◌, length}
+-- Of an input and an output over memory it is known which bytes they have, and these speak of them; of standard input and standard output no contract knows
+-- any, and there these speak of some text, and of what is handed to the write.
+use Rattle.std.specs.Prelude.{ℕ, ◌+◌, ◌*◌, ◌/◌, ◌≤◌, ◌<◌, ◌≡◌, Bool, false, Option, IfSome, List, ◌++◌, length}
+use Rattle.std.specs.Io.KnownBytes.{Consumes, IsAtEnd, Appends}
 use Rattle.columns.specs.Group.{put}
 use Rattle.texts.specs.SawText.{saw_text}
 use Rattle.texts.specs.FoldText.{fold_text}
 use Rattle.texts.specs.TextLaws.{longest_saw_text, longest_fold_text}
 
--- the bytes of a part of standard input; `src/parts.rt` has the same for the code
+-- the bytes of a part of an input; `src/parts.rt` has the same for the code
 abbrev pub part_size : ℕ
 part_size = 65536
 
@@ -31,6 +33,13 @@ module _ (answer : List ℕ → List ℕ) where
     pub after : After text reader words
     pub decided : asked ≤ last → Decides text
 
+  -- and this text is the bytes that an input gave, which had `given` before and has `left` now, where that is known; where the last read gave fewer bytes
+  -- than were asked for and no read has failed, none are left
+  pub record ReadFrom (given left : Option (List ℕ)) (failed : Bool) {F W : Type 0} (After : List ℕ → F → W → Type 0) (reader : F) (words : W) (asked last : ℕ) : Type 0 where
+    pub some : ReadSome After reader words asked last
+    pub consumed : Consumes given left some.text
+    pub ended : last < asked → failed ≡ false → IsAtEnd left
+
   -- bytes that are the answer to some text, whole
   pub record WholeAnswer (bytes : List ℕ) : Type 0 where
     pub text : List ℕ
@@ -41,6 +50,20 @@ module _ (answer : List ℕ → List ℕ) where
     pub text : List ℕ
     pub size : n ≡ length (answer text)
     pub output : out' ≡ put out 0 (answer text)
+
+  -- and this text is the bytes that an input gave; where no read has failed, its answer is the one to all the bytes that the input had
+  pub record AnswersFrom (given left : Option (List ℕ)) (failed : Bool) (out : List ℕ) (n : ℕ) (out' : List ℕ) : Type 0 where
+    pub some : AnswersSome out n out'
+    pub consumed : Consumes given left some.text
+    pub whole : failed ≡ false → IfSome given (λ bytes. answer bytes ≡ answer some.text)
+
+  -- an output, which holds `before` before and `after` now, where that is known, got the answer to the bytes that an input gave; where no read has failed,
+  -- it is the one to all the bytes that the input had
+  pub record WritesFrom (given left : Option (List ℕ)) (failed : Bool) (before after : Option (List ℕ)) : Type 0 where
+    pub text : List ℕ
+    pub consumed : Consumes given left text
+    pub appended : Appends before after (answer text)
+    pub whole : failed ≡ false → IfSome given (λ bytes. answer bytes ≡ answer text)
 
 -- both programs read as much as decides
 pub record Enough : Type 0 where

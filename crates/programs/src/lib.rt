@@ -1,2 +1,7 @@
-// What the two programs share: the parts in which they read standard input.
+// What the two programs share: the parts in which they read their input, and the input itself.
+#![tactic(auto)]
+
+pub mod input;
 pub mod parts;
+#[cfg(test)]
+mod tests;

@@ -17,7 +17,7 @@ use listing::words::plate_at;
 use listing_find::search::{Found, find_cut_near};
 
 // The plate that a line 3 shows, each number as it stands there.
-#[derive(Drop)]
+#[derive(Clone, Copy)]
 pub struct Shown {
     pub width: u32,
     pub height: u32,
@@ -25,7 +25,7 @@ pub struct Shown {
 }
 
 // A line 3: its plate type, the position of its item type and turn, its count, and the plate that it shows.
-#[derive(Drop)]
+#[derive(Clone, Copy)]
 pub struct PlanLine {
     pub plate: PlateType,
     pub item: ItemPosition,
@@ -35,7 +35,7 @@ pub struct PlanLine {
 
 // The lines 3 so far: the first line refused by 8, the first refused by 20, the first refused by 9, each 0 where there is none, and the last cut named
 // before the one refused by 9.
-#[derive(Drop)]
+#[derive(Clone, Copy)]
 pub struct PlanLines {
     pub unnamed: u32,
     pub misshown: u32,

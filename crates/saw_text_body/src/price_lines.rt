@@ -8,7 +8,7 @@ use job::counters::{BoardSizes, ItemType, PlateType};
 use texts_reading::text::Place;
 
 // Whether there is a line 4, and its n and its m, 0 where there is none.
-#[derive(Drop)]
+#[derive(Clone, Copy)]
 pub struct PriceLines {
     pub given: bool,
     pub types: ItemType,

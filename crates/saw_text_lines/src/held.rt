@@ -19,7 +19,7 @@ use texts_reading::kinds::{item_price_line, plan_line, plate_price_line, prices_
 use texts_reading::text::Place;
 
 // What the listing call says of the job, 1 before its lines are complete; the lines 3; the lines 4, 5 and 6.
-#[derive(Drop)]
+#[derive(Clone, Copy)]
 pub struct SawHeld {
     pub model: Listed,
     pub plan: PlanLines,
@@ -27,7 +27,7 @@ pub struct SawHeld {
 }
 
 // What a line makes of a text: its refusal, or 0 and what comes next; and what is kept.
-#[derive(Drop)]
+#[derive(Clone, Copy)]
 pub struct Taken {
     pub refusal: u16,
     pub place: Place,

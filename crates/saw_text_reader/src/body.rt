@@ -23,7 +23,7 @@ use texts_reading::kinds::plan_line;
 use texts_reading::text::{Place, TextReader};
 
 // The lines 3 after some more of them, the lines of the text, and where the next begins in the part.
-#[derive(Drop)]
+#[derive(Clone, Copy)]
 pub struct Run {
     pub plan: PlanLines,
     pub lines: u32,

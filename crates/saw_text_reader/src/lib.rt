@@ -1,4 +1,6 @@
 // The saw text, taken in parts.
+#![tactic(auto)]
+
 pub mod body;
 pub mod next;
 pub mod prices;

@@ -11,7 +11,7 @@ use texts_reading::scan::line_end;
 use texts_reading::text::TextReader;
 
 // A line that ends in the part, with how many numbers it has, or not of the form, and the place of its byte 10; or none ends there, and where the search ended.
-#[derive(Drop)]
+#[derive(Clone, Copy)]
 pub enum Next {
     Numbers(usize, usize),
     Malformed(usize),

@@ -23,14 +23,14 @@ use texts::widths::{MAX_LINES, PRICE_LINE};
 use texts_reading::text::{Place, TextReader};
 
 // The price of a line 6; or nothing is said of what stands there.
-#[derive(Drop)]
+#[derive(Clone, Copy)]
 pub enum PriceAt {
     Price(u16),
     Nothing,
 }
 
 // The lines 6 after some more of them: the plate type of the next, the lines of the text, and where the next begins in the part.
-#[derive(Drop)]
+#[derive(Clone, Copy)]
 pub struct PriceRun {
     pub plate: PlateType,
     pub lines: u32,

@@ -18,7 +18,7 @@ use saw_text_lines::numbers::{sound, take_numbers};
 use texts_reading::text::TextReader;
 
 // A saw text so far: where it stands, and what is kept of it beside the lent buffers.
-#[derive(Drop)]
+#[derive(Clone, Copy)]
 pub struct SawReader {
     pub text: TextReader,
     pub held: SawHeld,

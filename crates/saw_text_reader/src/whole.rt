@@ -8,7 +8,7 @@ use crate::saw::SawReader;
 use texts_reading::text::Place;
 
 // A saw text after some lines of a part, and where the next begins in the part.
-#[derive(Drop)]
+#[derive(Clone, Copy)]
 pub struct LinesRead {
     pub reader: SawReader,
     pub at: usize,

@@ -1,2 +1,4 @@
 // The saw text and the fold text.
+#![tactic(auto)]
+
 pub mod widths;

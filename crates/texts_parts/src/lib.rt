@@ -1,5 +1,7 @@
 // The two texts handed over in parts, as the tests call them: a text's parts end at the places `ends`. Whatever these are, the answer is that of the whole
 // text.
+#![tactic(auto)]
+
 ghost use Rattle.texts.specs.SawText.{saw_text};
 ghost use Rattle.texts.specs.FoldText.{fold_text};
 ghost use Rattle.texts_writing.specs.Wrote.{longest_saw, longest_fold};

@@ -1,4 +1,6 @@
 // What the readers of the saw text and of the fold text share (document 01, Texts).
+#![tactic(auto)]
+
 pub mod job_lines;
 pub mod judge;
 pub mod kinds;

@@ -11,7 +11,7 @@ use columns::widths::{GROUP, MOST_NUMBERS};
 use texts::widths::LONGEST_LINE;
 
 // The bytes of the line that has begun, and zeros behind them.
-#[derive(Drop)]
+#[derive(Clone, Copy)]
 pub struct Pending {
     pub bytes: [u8; LONGEST_LINE],
     pub length: usize,

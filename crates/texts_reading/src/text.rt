@@ -12,7 +12,7 @@ use job::counters::{ItemType, PlateType};
 use texts::widths::{LONGEST_LINE, MAX_LINES};
 
 // What comes next: line 1, line 10 of a size, line 2 of a type, the body, line 5 of a type, line 6 of a plate type, or nothing more.
-#[derive(Drop)]
+#[derive(Clone, Copy)]
 pub enum Place {
     First,
     Sizes(PlateType),
@@ -24,7 +24,7 @@ pub enum Place {
 }
 
 // A text so far: the first line refused, if `refusal` is not 0, is the one after `lines`.
-#[derive(Drop)]
+#[derive(Clone, Copy)]
 pub struct TextReader {
     pub place: Place,
     pub lines: u32,

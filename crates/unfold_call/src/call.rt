@@ -32,7 +32,7 @@ use unfold_waiting::begins::{BEGINS_SIZE, cut_begins};
 use unfold_waiting::counts::copy_counts;
 
 // The boards used, the pieces placed and the offcuts left over; or the number of a refusal and the place that it names.
-#[derive(Drop)]
+#[derive(Clone, Copy)]
 pub enum Unfolded {
     Done(u16, u16, u16),
     Refused(u16, usize),

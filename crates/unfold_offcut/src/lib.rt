@@ -1,4 +1,6 @@
 // The offcut that a piece left over is, as words of a lent buffer.
+#![tactic(auto)]
+
 ghost use Rattle.std.specs.Prelude.{◌≡◌, List, [], ◌∷◌, ◌++◌, ◌≤◌, ◌<◌, length};
 ghost use Rattle.job.specs.Sizes.{words_of_plate, words_of_offcut, max_offcuts, offcuts_size, RecordIn};
 ghost use Rattle.job.specs.Job.{Job};
@@ -16,14 +18,14 @@ use listing::words::plate_at;
 use unfold_pick::Piece;
 
 // The two set lengths: an offcut is usable if its width reaches the first and its height the second.
-#[derive(Drop)]
+#[derive(Clone, Copy)]
 pub struct Lengths {
     pub first: u16,
     pub second: u16,
 }
 
 // The board of a piece left over, the size of that board, the piece's lower left corner, and its sides.
-#[derive(Drop)]
+#[derive(Clone, Copy)]
 pub struct Offcut {
     pub board: u16,
     pub size: PlateType,

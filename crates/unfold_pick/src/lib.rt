@@ -1,11 +1,13 @@
 // The pieces that wait while a board is cut, and which of them is taken next.
+#![tactic(auto)]
+
 ghost use Rattle.std.specs.Prelude.{◌≡◌, length};
 ghost use Rattle.unfold_pick.specs.Next.{next_of, next_in};
 
 use job::counters::PlateType;
 
 // The place in which a piece of one stage waits: whether one is here, its plate type, and its lower left corner.
-#[derive(Drop)]
+#[derive(Clone, Copy)]
 pub struct Piece {
     pub here: bool,
     pub plate: PlateType,
@@ -14,7 +16,7 @@ pub struct Piece {
 }
 
 // The piece to be taken, with its stage, or that none waits.
-#[derive(Drop)]
+#[derive(Clone, Copy)]
 pub enum Next {
     Of(u16, Piece),
     Nothing,

@@ -11,7 +11,7 @@ use job::counters::{BoardSizes, PlateType};
 use unfold_waiting::left::boards_left;
 
 // The size whose boards are opened, and how many boards of it are left to be opened.
-#[derive(Drop)]
+#[derive(Clone, Copy)]
 pub struct Remaining {
     pub size: PlateType,
     pub boards: u32,

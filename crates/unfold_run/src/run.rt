@@ -18,7 +18,7 @@ use unfold_waiting::left::boards_left;
 use unfold_waiting::turn::MAX_STEPS;
 
 // Where a run stands: its state, the size of the board, the boards of that size that are left to be opened, the items placed, and the pieces left over.
-#[derive(Drop)]
+#[derive(Clone, Copy)]
 pub struct Progress {
     pub state: State,
     pub size: PlateType,
@@ -28,14 +28,14 @@ pub struct Progress {
 }
 
 // What a step makes of a run: it goes on, or has ended.
-#[derive(Drop)]
+#[derive(Clone, Copy)]
 pub enum Advance {
     On(Progress),
     Ended,
 }
 
 // The boards used, the items placed, and the pieces left over.
-#[derive(Drop)]
+#[derive(Clone, Copy)]
 pub struct Ran {
     pub boards: u16,
     pub pieces: u16,

@@ -18,14 +18,14 @@ use unfold_waiting::turn::Turn;
 use unfold_waiting::waiting::Waiting;
 
 // The pieces that wait, and where the last item was placed. The counts that are left and the size of the board stand beside it.
-#[derive(Drop)]
+#[derive(Clone, Copy)]
 pub struct State {
     pub waiting: Waiting,
     pub turn: Turn,
 }
 
 // An item that is placed: where it comes in turn, the plate type that it is cut from, its type in its turn, and where it lies.
-#[derive(Drop)]
+#[derive(Clone, Copy)]
 pub struct PlacedItem {
     pub turn: Turn,
     pub plate: PlateType,
@@ -35,7 +35,7 @@ pub struct PlacedItem {
 }
 
 // What a step does: an item is placed, a piece is left over, or nothing waits.
-#[derive(Drop)]
+#[derive(Clone, Copy)]
 pub enum Step {
     Placed(PlacedItem, State),
     LeftOver(Piece, State),

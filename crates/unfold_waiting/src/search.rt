@@ -11,14 +11,14 @@ ghost use Rattle.unfold_waiting.specs.Meaning.{left_means, found_means};
 use job::counters::{CutNumber, PlateType};
 
 // The place of the first count of a part that is left, from 0, if one is.
-#[derive(Drop)]
+#[derive(Clone, Copy)]
 pub enum Left {
     At(usize),
     Nothing,
 }
 
 // The cut that is found, if there is one.
-#[derive(Drop)]
+#[derive(Clone, Copy)]
 pub enum Found {
     Cut(CutNumber),
     Nothing,

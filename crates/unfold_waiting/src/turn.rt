@@ -11,7 +11,7 @@ use job::sizes::MAX_PIECES;
 pub const MAX_STEPS: u16 = 4 * MAX_PIECES;
 
 // Board, strip, stack and place of the last item, each from 1. The size of the board stands beside it.
-#[derive(Drop)]
+#[derive(Clone, Copy)]
 pub struct Turn {
     pub board: u16,
     pub strip: u16,

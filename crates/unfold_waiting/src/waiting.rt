@@ -16,7 +16,7 @@ use listing::words::plate_at;
 use unfold_pick::Piece;
 
 // At most three pieces, one of each stage.
-#[derive(Drop)]
+#[derive(Clone, Copy)]
 pub struct Waiting {
     pub first: Piece,
     pub second: Piece,

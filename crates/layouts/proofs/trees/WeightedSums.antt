@@ -2,7 +2,7 @@
 use Prim.Native.Nat.{ℕ, zero, suc, ◌+◌, ◌*◌, ◌≤◌, ◌<◌}
 use native.Mathlib.Omega.{arith}
 use native.Mathlib.Nat.{add-zero, add-suc, suc-add, mul-le-mul_right}
-use mathlib.Core.Path.{◌≡◌, refl, sym, ◌∙◌}
+use mathlib.Core.Path.{◌≡◌, refl, sym, subst, ◌∙◌}
 use mathlib.Core.Logic.{◌⊎◌, inl, inr, ◌≢◌}
 use mathlib.Core.Bool.{Bool, true, false, cond}
 use mathlib.Core.List.{List, [], ◌∷◌}
@@ -71,7 +71,9 @@ wsum-at k (n ∷ ns) zero =
     = wsum-agree (λ d. bit (eqb d (k + 0))) (λ _. 0) (suc k) ns (λ c _. bit-diff (λ (e : suc k + c ≡ k + 0). omega arith)) ∙ wsum-zeros (suc k) ns in
     rw (bit-same {a = k} {b = k + 0} (omega arith)) (omega (arith, z))
 wsum-at k (n ∷ ns) (suc c) =
-    rw (bit-diff {a = k} {b = k + suc c} (λ e. omega arith)) (rw (add-suc, ← suc-add) (omega (arith, wsum-at (suc k) ns c)))
+    let h : wsum (λ d. bit (eqb d (k + suc c))) (suc k) ns ≡ get_or ns c 0
+    = subst (λ (m : ℕ). wsum (λ d. bit (eqb d m)) (suc k) ns ≡ get_or ns c 0) (omega arith) (wsum-at (suc k) ns c) in
+    rw (bit-diff {a = k} {b = k + suc c} (λ e. omega arith)) (omega (arith, h))
 
 -- all counts together
 pub total-wsum : (k : ℕ) (ns : List ℕ) → total ns ≡ wsum (λ _. 1) k ns

@@ -78,7 +78,7 @@ fn is_quoted(byte: &u8) -> bool {
 /// unfolding the offcuts besides.
 pub fn outcome(answer: &Result<Vec<u32>, Refusal>, lent: &[Vec<u16>]) -> Vec<String> {
     let called = match lent.len() {
-        4 => "unfoldOutcome",
+        4 => "unfold_outcome",
         _ => "outcome",
     };
     let answer = match answer {
@@ -93,19 +93,15 @@ pub fn outcome(answer: &Result<Vec<u32>, Refusal>, lent: &[Vec<u16>]) -> Vec<Str
 /// The first lines of a file of theorems.
 pub const HEAD: &str = "\
 -- Inputs and the reference's answers to them: the definitions compute to the same.
-use Prim.Native.Nat.{ℕ}
-use mathlib.Core.Path.{_≡_, refl}
-use mathlib.Core.Bool.{true, false}
-use mathlib.Core.List.{List, [], _∷_, _++_}
-use mathlib.Core.Option.{none, some}
-use lib.ListN.{replicate}
-use Rattle·job.specs.Buffers.{given, refused}
-use Rattle·texts.specs.SawText.{sawText}
-use Rattle·texts.specs.FoldText.{foldText}
-use Rattle·cases.specs.Bytes.{bytes}
-use Rattle·cases.proofs.Opened.{computed}
-use Rattle·layouts.specs.Layout.{sheet}
-use Rattle·agreement·specs.specs.Compared.{outcome, unfoldOutcome, listCall, planCall, priceCall, unfoldCall, foldCall, walkCall, judgement, judged, rules, rectangles, isCheapest, leftOver, areasOn, parts, partsOf, byParts, unfoldedByParts}
+use Rattle.std.specs.Prelude.{◌≡◌, refl, ℕ, true, false, List, [], ◌∷◌, ◌++◌, replicate}
+use Rattle.std.proofs.Math.Option.{none, some}
+use Rattle.job.specs.Buffers.{given, refused}
+use Rattle.texts.specs.SawText.{saw_text}
+use Rattle.texts.specs.FoldText.{fold_text}
+use Rattle.cases.specs.Bytes.{bytes}
+use Rattle.cases.proofs.Opened.{computed}
+use Rattle.layouts.specs.Layout.{sheet}
+use Rattle.agreement.specs.Compared.{outcome, unfold_outcome, list_call, plan_call, price_call, unfold_call, fold_call, walk_call, judgement, judged, rules, rectangles, is_cheapest, left_over, areas_on, parts, parts_of, by_parts, unfolded_by_parts}
 ";
 
 /// What is compared: a definition on its arguments, and the reference's answer to the same.

@@ -27,11 +27,11 @@ pub enum Call {
 impl Call {
     fn definition(self) -> &'static str {
         match self {
-            Call::Listing => "listCall",
-            Call::PlanTest => "planCall",
-            Call::PriceTest => "priceCall",
-            Call::Unfolding => "unfoldCall",
-            Call::Folding => "foldCall",
+            Call::Listing => "list_call",
+            Call::PlanTest => "plan_call",
+            Call::PriceTest => "price_call",
+            Call::Unfolding => "unfold_call",
+            Call::Folding => "fold_call",
         }
     }
 

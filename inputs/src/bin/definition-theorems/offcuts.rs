@@ -23,7 +23,7 @@ pub fn offcuts_theorem(random: &mut Random) -> Theorem {
     let [first, second] = lengths.map(|length| length.to_string());
     Theorem {
         equation: Equation {
-            definition: "leftOver",
+            definition: "left_over",
             arguments: vec![words(&model.words), first, second, words(&counts)],
             answer: vec![words(&left_over)],
         },
@@ -43,7 +43,7 @@ pub fn areas_theorem(random: &mut Random) -> Theorem {
     let size = unfolding.sizes.get(board).copied().unwrap_or(0);
     Theorem {
         equation: Equation {
-            definition: "areasOn",
+            definition: "areas_on",
             arguments: vec![words(&model.words), words(&counts), (board + 1).to_string()],
             answer: vec![numbers([
                 areas.items,

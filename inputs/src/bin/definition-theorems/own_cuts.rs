@@ -28,7 +28,7 @@ pub fn parts_theorem(random: &mut Random) -> Theorem {
     };
     Theorem {
         equation: Equation {
-            definition: "partsOf",
+            definition: "parts_of",
             arguments: vec![words(&model.words), numbers(plates), words(&counts)],
             answer: vec![
                 format!("parts {}", numbers(parts.iter().map(begin))),
@@ -50,10 +50,10 @@ pub fn run_theorem(random: &mut Random) -> Theorem {
     let offcuts: Vec<u16> = offcuts.flat_map(|offcut| words_of(offcut, ANY)).collect();
     Theorem {
         equation: Equation {
-            definition: "unfoldedByParts",
+            definition: "unfolded_by_parts",
             arguments: vec![words(&model.words), words(&counts)],
             answer: vec![
-                format!("byParts {}", words(&words_of_lines(&unfolding.placements))),
+                format!("by_parts {}", words(&words_of_lines(&unfolding.placements))),
                 words(&unfolding.left),
                 numbers(unfolding.cuts.iter().map(|cut| cut + 1)),
                 words(&offcuts),

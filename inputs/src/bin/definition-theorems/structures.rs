@@ -34,7 +34,7 @@ pub fn walk_theorem(random: &mut Random) -> Theorem {
     let [plate_types, cuts] = [limits.plate_types, limits.cuts].map(|limit| limit.to_string());
     Theorem {
         equation: Equation {
-            definition: "walkCall",
+            definition: "walk_call",
             arguments: vec![plate_types, cuts, words(&model.words)],
             answer: outcome(&answer, &lent),
         },
@@ -141,7 +141,7 @@ pub fn cheapest_theorem(random: &mut Random) -> Theorem {
     let cost = bound.sum / bound.d + random.below(3) as u32;
     Theorem {
         equation: Equation {
-            definition: "isCheapest",
+            definition: "is_cheapest",
             arguments: vec![words(&model.words), words(&price_words), cost.to_string()],
             answer: vec![bound.is_cheapest(cost).to_string()],
         },

@@ -14,17 +14,17 @@ const MOST_LINES: usize = 25;
 
 /// A theorem over a saw text.
 pub fn saw_theorem(random: &mut Random) -> Theorem {
-    theorem(random, "sawText", saw_lines, saw_text)
+    theorem(random, "saw_text", saw_lines, saw_text)
 }
 
 /// A theorem over a fold text.
 pub fn fold_theorem(random: &mut Random) -> Theorem {
-    theorem(random, "foldText", fold_lines, fold_text)
+    theorem(random, "fold_text", fold_lines, fold_text)
 }
 
 /// A theorem over a saw text whose lines of kind 3 are changed in what they show of their plates.
 pub fn shown_theorem(random: &mut Random) -> Theorem {
-    theorem(random, "sawText", shown_lines, saw_text)
+    theorem(random, "saw_text", shown_lines, saw_text)
 }
 
 /// The lines of a saw text, of kind 3 one or two damaged in the plates that they show.

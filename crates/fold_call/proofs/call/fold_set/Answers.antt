@@ -1,0 +1,24 @@
+use native.Mathlib.Omega.{arith}
+use Rattle.job.proofs.CodeAdmission.{passed_length}
+use Rattle.fold_call.proofs.Passed.{lent-lines, staged}
+use Rattle.fold_call.proofs.call.fold_set.Goals as goal
+
+pub head_of-head-requires : goal.head_of-head-requires
+head_of-head-requires c = omega (arith, passed_length c.args.job.now c.requires.job_value.0)
+
+-- `fold_set` folds the lines, counts their boards and adds up what they cost.
+pub fold_into-requires : goal.fold_into-requires
+fold_into-requires c =
+    let ws = c.args.job.now in
+    let layouts = c.args.layouts.now in
+    let p = c.requires.job_value in record { lines_lent = lent-lines ws layouts p.0 p.1.0 p.1.1; mode_value = (c.head_of-head.ensures.of-mode, staged ws layouts p.0 p.1.0 p.1.1); cuts_lent = c.requires.cuts_lent }
+
+pub count_boards-requires : goal.count_boards-requires
+count_boards-requires c =
+    let ws = c.args.job.now in
+    let layouts = c.args.layouts.now in
+    let p = c.requires.job_value in
+    (lent-lines ws layouts p.0 p.1.0 p.1.1).lines-lent
+
+pub returns : goal.returns
+returns c = record { number_value = c.count_boards.ensures; counts_after = c.fold_into.ensures }
