@@ -74,7 +74,8 @@ extern "C" {
  *   unfolding    the plan test, a pass over its cuts, and 12,000 searches (4,000 pieces and 8,000 offcuts) among the counts of one plate type, at most 80: 960,000 looks at a count
  *   folding      the listing, and for 4,000 lines 160 passes, two for each position, and a search by halving among 8,192 cuts
  *   texts        each byte once, and then as the plan test, the price test and the unfolding, or as the folding
- * What each call takes for the greatest inputs known is counted in bench/RESULTS.md: none takes more than 38 million instructions. */
+ * What each call takes for the greatest inputs known is counted in bench/RESULTS.md (as yet of the build by the older kit):
+ * none takes more than 38 million instructions. */
 
 /* Full sizes, in words of 16 bits: 2,048 plate types of 4 words, 8,192 cuts of 4 words, their counts, 4,000 placements of 9 words, 8,000 offcuts of 6 words. */
 #define SAW_PLATES 8192

@@ -47,13 +47,12 @@ pub struct CodeUse<'a> {
 }
 
 impl CodeUse<'_> {
-    /// Whether it is a trait of a library, which code may use by its methods alone.
+    /// Whether it is a trait of the standard library, which code may use by its methods alone.
     pub fn is_trait_of_library(&self) -> bool {
-        const TRAITS: [&str; 5] = ["Read", "Write", "BufRead", "Seek", "Context"];
-        const LIBRARIES: [&str; 2] = ["std", "anyhow"];
+        const TRAITS: [&str; 2] = ["Read", "Write"];
         let library = self.path.split("::").next().unwrap_or("");
         let last = self.path.rsplit("::").next().unwrap_or("");
-        LIBRARIES.contains(&library) && TRAITS.contains(&last)
+        library == "std" && TRAITS.contains(&last)
     }
 }
 

@@ -24,7 +24,7 @@ returns-then-rows-gt-MOST_ROWS c ls size lines held =
     (omega arith)
 
 pub slice_bounds-answer_rows-end : goal.slice_bounds-answer_rows-end
-slice_bounds-answer_rows-end c = sym (length-take-le (words_of_placement * c.args.rows) c.args.layouts.now (omega (arith, c.requires.placements_size_in_bounds, c.if-rows-gt-MOST_ROWS.false)))
+slice_bounds-answer_rows-end c = sym (length-take-le (words_of_placement * c.args.rows) c.args.layouts.now (omega (arith, c.requires.placements_size_in_bounds)))
 
 pub answer_rows-requires : goal.answer_rows-requires
 answer_rows-requires c = record { listed_lent = c.requires.listed_lent; counts_size_in_bounds = c.requires.counts_size_in_bounds }
@@ -35,6 +35,6 @@ returns c ls size lines held =
     let ws = a.job.now in
     let x = c.answer_rows in
     by-words (body_line ws) (job_of ws) ws (take (words_of_placement * a.rows) a.layouts.now) ls
-    (lines-kept ws ls a.layouts.now a.rows size c.if-rows-gt-MOST_ROWS.false held)
+    (lines-kept ws ls a.layouts.now a.rows size (omega arith) held)
     x.ensures
     lines

@@ -32,10 +32,10 @@ bounds-prices-0 c = omega (arith, c.requires.price_room.item-prices)
 pub size_at-requires : goal.size_at-requires
 size_at-requires c =
     let p = c.requires.price_room in
-    (omega (arith, c.if-plate-sizes.true, p.job-sizes), omega (arith, p.job-sizes, p.size-words))
+    (omega (arith, p.job-sizes), omega (arith, p.job-sizes, p.size-words))
 
 pub returns-then-plate-sizes : goal.returns-then-plate-sizes
-returns-then-plate-sizes c = on-size c.requires.price_room c.args.j.0 c.if-plate-sizes.true c.size_at.ensures c.size_limit.ensures
+returns-then-plate-sizes c = on-size c.requires.price_room c.args.j.0 (omega arith) c.size_at.ensures c.size_limit.ensures
 
 pub residual_price-requires : goal.residual_price-requires
 residual_price-requires c = (c.requires.price_room.item-prices, c.requires.j_bound)
@@ -44,4 +44,4 @@ pub returns : goal.returns
 returns c =
     let a = c.args in
     let job = job_of a.job.now in
-    c.residual_price.ensures.value job (sizes c.requires.price_room) ∙ sym (limit-residual job (prices_at a.n.0 a.prices.now) a.j.0 (on-residual c.requires.price_room a.j.0 c.if-plate-sizes.false))
+    c.residual_price.ensures.value job (sizes c.requires.price_room) ∙ sym (limit-residual job (prices_at a.n.0 a.prices.now) a.j.0 (on-residual c.requires.price_room a.j.0 (omega arith)))

@@ -1,6 +1,7 @@
 use Prim.Native.Nat.{◌+◌}
 use Rattle.job.proofs.CodeLowest.{lowest-end, lowest-found, lowest-next}
 use Rattle.price_test.proofs.CodePrices.{no_words, no-denominator, words-all}
+use native.Mathlib.Omega.{arith}
 use borrow.Author.Tests.{lt-ltb, le-ltb}
 use Rattle.price_test.proofs.prices.price_words.Goals as goal
 
@@ -22,7 +23,7 @@ pub loop-i-preserved : goal.loop-i-preserved
 loop-i-preserved c =
     let l = c.loop-i in
     let ws = c.args.prices.now in
-    lowest-next ws 0 2 _ (l.i + 1) l.i l.invariant c.loop-i-test.true (le-ltb _ _ c.if-prices-i-gt-MAX_PRICE.false)
+    lowest-next ws 0 2 _ (l.i + 1) l.i l.invariant c.loop-i-test.true (le-ltb _ _ (omega arith))
 
 pub returns : goal.returns
 returns c =

@@ -1,4 +1,5 @@
 use Prim.Native.Nat.{◌-◌}
+use native.Mathlib.Omega.{arith}
 use borrow.Author.Tests.{lt-ltb, le-ltb, le-leb, lt-leb}
 use Rattle.job.specs.Sizes.{max_sizes, max_residuals}
 use Rattle.saw_text_lines.specs.SawKept.{plate_sound}
@@ -25,4 +26,4 @@ pub returns : goal.returns
 unfolding plate_sound
 returns c =
     let a = c.args in
-    rw (le-leb a.t.0 max_sizes c.if-t-gt-MAX_SIZES.false, le-leb a.t.0 a.j.0 c.if-j-t.false, lt-ltb (a.j.0 - a.t.0) max_residuals c.if-j-t-ge-MAX_RESIDUALS.false)
+    rw (le-leb a.t.0 max_sizes (omega arith), le-leb a.t.0 a.j.0 (omega arith), lt-ltb (a.j.0 - a.t.0) max_residuals (omega arith))

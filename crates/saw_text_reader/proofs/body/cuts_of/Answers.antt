@@ -21,11 +21,11 @@ returns-then-k-gt-MAX_CUTS c n = absurd (n refl)
 pub returns : goal.returns
 returns c n = record {
   place_is = c.in-Body.is;
-  goes = c.if-text-ne0.false;
+  goes = omega arith;
   listed = record {
-    none-begun = c.if-pending-ne0.false;
+    none-begun = omega arith;
     plates = c.in-Done.field-0;
     model_is = c.in-Done.is;
   };
-  few-cuts = omega (arith, c.if-k-gt-MAX_CUTS.false);
+  few-cuts = omega arith;
 }

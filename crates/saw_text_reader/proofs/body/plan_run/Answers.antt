@@ -47,12 +47,12 @@ slice_bounds-plan_numbers-end c =
 
 pub plan_numbers-here-requires : goal.plan_numbers-here-requires
 plan_numbers-here-requires c =
-    let judged : PlanNumbers (types_of c.args.job.now) (take c.in-Numbers.g c.complete_line.new.numbers) = plan-judged _ _ c.if-plan_line-ne0.false c.args.job.now c.plan_line.ensures in
+    let judged : PlanNumbers (types_of c.args.job.now) (take c.in-Numbers.g c.complete_line.new.numbers) = plan-judged _ _ (omega arith) c.args.job.now c.plan_line.ensures in
     more-types c.requires.words_of_head_in_bounds.1 judged
 
 pub more-plan-requires : goal.more-plan-requires
 more-plan-requires c =
-    let judged : PlanNumbers (types_of c.args.job.now) (take c.in-Numbers.g c.complete_line.new.numbers) = plan-judged _ _ c.if-plan_line-ne0.false c.args.job.now c.plan_line.ensures in
+    let judged : PlanNumbers (types_of c.args.job.now) (take c.in-Numbers.g c.complete_line.new.numbers) = plan-judged _ _ (omega arith) c.args.job.now c.plan_line.ensures in
     let room = c.requires.k_le_max_cuts in record { line_nonzero = (omega arith, (omega (arith, room.0, room.1.1.0), omega (arith, room.0, room.1.1.1, c.loop-at.invariant.long))); record_in = omega (arith, room.1.0, judged.plate, c.plan_numbers-here.ensures.plate-is) }
 
 pub overflow_mul-at : goal.overflow_mul-at
@@ -88,14 +88,14 @@ loop-at-preserved c =
     let g = c.in-Numbers.g in
     ran-more a.part.now a.from a.job.now a.plates.now a.cuts.now a.k a.first a.before a.counts.now l.at l.lines l.plan l.counts g c.more-plan.result _ l.invariant
     (record {
-      few = omega (arith, c.if-lines-ge-MAX_LINES.false);
+      few = omega arith;
       long = c.more-plan.auto.counts;
       was = replicate most_numbers 0;
       numbers = found.new.numbers;
       ten = refl;
       complete = complete;
       refusal = c.plan_line.result;
-      admitted = c.if-plan_line-ne0.false;
+      admitted = omega arith;
       judged = c.plan_line.ensures;
       more = λ m vs rs model line planned.
           let known = kept-modelled vs a.plates.now a.cuts.now (Done m a.k) m a.k refl c.requires.k_le_max_cuts.1.1.0 model in

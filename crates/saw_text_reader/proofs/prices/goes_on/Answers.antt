@@ -1,3 +1,4 @@
+use native.Mathlib.Omega.{arith}
 use mathlib.Core.Path.{refl}
 use Rattle.job.proofs.Tests.{not-both}
 use Rattle.saw_text_reader.proofs.prices.goes_on.Goals as goal
@@ -10,4 +11,4 @@ returns-then-pending-ne0 c e = absurd (not-both e refl)
 
 -- `goes_on` says yes only where each of its tests has passed.
 pub returns : goal.returns
-returns c e = record { goes = c.if-text-ne0.false; none-begun = c.if-pending-ne0.false; plate = c.plate_within.ensures e }
+returns c e = record { goes = omega arith; none-begun = omega arith; plate = c.plate_within.ensures e }

@@ -20,4 +20,4 @@ pub returns-then-prices-lt-PRICES_SIZE : goal.returns-then-prices-lt-PRICES_SIZE
 returns-then-prices-lt-PRICES_SIZE c = (λ e. absurd (not-both e refl), λ e q. omega (arith, q.for-prices, c.if-prices-lt-PRICES_SIZE.true))
 
 pub returns : goal.returns
-returns c = (λ e. record { for-job = omega (arith, c.if-job-lt-JOB_SIZE.false); for-plates = omega (arith, c.if-plates-lt-PLATES_SIZE.false); for-cuts = omega (arith, c.if-cuts-lt-CUTS_SIZE.false); for-counts = omega (arith, c.if-counts-lt-COUNTS_SIZE.false); for-prices = omega (arith, c.if-prices-lt-PRICES_SIZE.false) }, λ e. absurd (not-both refl e))
+returns c = (λ e. record { for-job = omega arith; for-plates = omega arith; for-cuts = omega arith; for-counts = omega arith; for-prices = omega arith }, λ e. absurd (not-both refl e))

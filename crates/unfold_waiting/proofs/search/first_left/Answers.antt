@@ -14,7 +14,7 @@ returns-then-part-i-ne0 c =
 pub loop-i-preserved : goal.loop-i-preserved
 loop-i-preserved c =
     let d = c.loop-i in
-    left-next _ d.i d.invariant (omega (arith, c.loop-i-test.true)) (omega (arith, c.if-part-i-ne0.false))
+    left-next _ d.i d.invariant (omega (arith, c.loop-i-test.true)) (omega arith)
 
 pub returns : goal.returns
 returns c =

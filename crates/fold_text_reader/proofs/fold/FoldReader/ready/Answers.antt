@@ -24,10 +24,10 @@ returns c =
     let z = c.head_of-head.ensures.of-sizes in
     let n = c.head_of-head.ensures.of_types in (
       λ e. record {
-        text = record { few = c.if-text-gt-MAX_LINES.false; short = omega (arith, c.if-pending-ge-LONGEST_LINE.false) };
-        few = c.if-text-self.false;
-        job-size = c.if-job-lt-JOB_SIZE.false;
-        layouts-size = omega (arith, size_is, c.if-layouts-lt-PLACEMENTS_SIZE.false);
+        text = record { few = omega arith; short = omega arith };
+        few = omega arith;
+        job-size = omega arith;
+        layouts-size = omega (arith, size_is);
         place = rw (z, n) at (c.place_ready.ensures.0 e);
       },
       λ e q. c.place_ready.ensures.1 e (rw (z, n) q.place),

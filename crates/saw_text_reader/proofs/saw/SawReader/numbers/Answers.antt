@@ -37,4 +37,4 @@ returns c =
     let took = c.take_numbers-taken in
     admitted-step a.self (lent a.job.now a.plates.now a.cuts.now a.counts.now a.prices.now) _ a.numbers.now took.result c.admitted.result
     (λ r k. took.ensures r.state r.lines k.text.stands (omega (arith, k.text.lines)) k.held)
-    (room-again c.requires.saw_ready.room c.take_numbers-taken.auto.job c.take_numbers-taken.auto.plates c.take_numbers-taken.auto.cuts c.take_numbers-taken.auto.counts c.take_numbers-taken.auto.prices) c.requires.lines_lt_max_lines c.if-taken-ne0.false c.admitted.ensures
+    (room-again c.requires.saw_ready.room c.take_numbers-taken.auto.job c.take_numbers-taken.auto.plates c.take_numbers-taken.auto.cuts c.take_numbers-taken.auto.counts c.take_numbers-taken.auto.prices) c.requires.lines_lt_max_lines (omega arith) c.admitted.ensures

@@ -12,6 +12,6 @@ returns-then-pending-ge-LONGEST_LINE c = (λ e. absurd (not-both e refl), λ e q
 
 pub returns : goal.returns
 returns c = (
-  λ e. record { text = record { few = c.if-text-gt-MAX_LINES.false; short = omega (arith, c.if-pending-ge-LONGEST_LINE.false) }; room = c.room.ensures.0 e },
+  λ e. record { text = record { few = omega arith; short = omega arith }; room = c.room.ensures.0 e },
   λ e q. c.room.ensures.1 e q.room,
 )

@@ -15,4 +15,4 @@ returns-then-pending-ne0 c h = tt
 pub returns : goal.returns
 returns c h =
     let a = c.args in
-    within a.self a.part.now a.at a.numbers.now c.complete_line.new.numbers c.if-self-ne0.false (omega (arith, c.if-self-ge-MAX_LINES.false)) c.if-pending-ne0.false h c.complete_line.result (c.complete_line.ensures h)
+    within a.self a.part.now a.at a.numbers.now c.complete_line.new.numbers (omega arith) (omega arith) (omega arith) h c.complete_line.result (c.complete_line.ensures h)

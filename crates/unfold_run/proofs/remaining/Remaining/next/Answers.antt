@@ -20,7 +20,7 @@ loop-size-preserved c =
     let d = c.loop-size in
     let t = c.loop-size-test.true in (
       t,
-      λ job l m b o. opens-on l a.sizes.0 (boards_left d.size d.boards) a.counts.now (d.invariant.1 job l m b o) (omega (arith, c.if-boards-gt0.false)) (boards_left (d.size + 1) c.boards_left-boards.result) refl t (c.boards_left-boards.ensures job l m b),
+      λ job l m b o. opens-on l a.sizes.0 (boards_left d.size d.boards) a.counts.now (d.invariant.1 job l m b o) (omega arith) (boards_left (d.size + 1) c.boards_left-boards.result) refl t (c.boards_left-boards.ensures job l m b),
     )
 
 pub returns : goal.returns
