@@ -195,14 +195,10 @@ pub record R : Type 0 where
 
     #[test]
     fn lines_are_those_of_reached_declarations() {
-        let source = |path: &str, text: &str| Source {
-            path: path.into(),
-            text: text.into(),
-        };
         let code = "// A type.\npub struct T {\n    pub x: u8,\n}\n";
         let sources = [
-            source("crates/a/specs/S.antt", SPECS),
-            source("crates/a/src/lib.rt", code),
+            Source::new("crates/a/specs/S.antt", SPECS),
+            Source::new("crates/a/src/lib.rt", code),
         ];
         let tree = Tree::new(&sources);
         let graph = Graph::new(&tree);

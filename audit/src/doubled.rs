@@ -307,14 +307,10 @@ mod tests {
 
     /// The names of the groups in the two files of a text each.
     fn groups(low: &str, high: &str) -> Vec<Vec<String>> {
-        let source = |path: &str, text: &str| Source {
-            path: path.into(),
-            text: text.into(),
-        };
         let sources = [
-            source("crates.txt", "low:\nhigh: low\n"),
-            source("crates/high/proofs/H.antt", high),
-            source("crates/low/proofs/L.antt", low),
+            Source::new("crates.txt", "low:\nhigh: low\n"),
+            Source::new("crates/high/proofs/H.antt", high),
+            Source::new("crates/low/proofs/L.antt", low),
         ];
         let tree = Tree::new(&sources);
         let found = doubled(&tree, &Graph::new(&tree), |item| {

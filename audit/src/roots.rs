@@ -131,14 +131,10 @@ pub fn two() -> u8
 ";
 
     fn read(text: &str) -> Result<Vec<Group>, String> {
-        let source = |path: &str, text: &str| Source {
-            path: path.into(),
-            text: text.into(),
-        };
         let specs = "abbrev pub three : ℕ\nthree = 3\n\nabbrev pub four : ℕ\nfour = 4\n";
         let sources = [
-            source("crates/a/specs/S.antt", specs),
-            source("crates/a/src/f.rt", CODE),
+            Source::new("crates/a/specs/S.antt", specs),
+            Source::new("crates/a/src/f.rt", CODE),
         ];
         let tree = Tree::new(&sources);
         groups(text, &tree, &Graph::new(&tree))

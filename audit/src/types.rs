@@ -50,14 +50,10 @@ mod tests {
 
     #[test]
     fn types_are_found_in_the_file_and_by_its_imports() {
-        let source = |path: &str, text: &str| Source {
-            path: path.into(),
-            text: text.into(),
-        };
         let sources = [
-            source("crates/a/src/lib.rt", "pub struct Top(pub u8);\n"),
-            source("crates/a/src/m.rt", "pub enum Inner { A }\n"),
-            source("crates/b/src/n.rt", "use a::{Top as High, m::Inner};\npub struct Own { x: [Inner; 3], y: High, z: Own, w: u8 }\n"),
+            Source::new("crates/a/src/lib.rt", "pub struct Top(pub u8);\n"),
+            Source::new("crates/a/src/m.rt", "pub enum Inner { A }\n"),
+            Source::new("crates/b/src/n.rt", "use a::{Top as High, m::Inner};\npub struct Own { x: [Inner; 3], y: High, z: Own, w: u8 }\n"),
         ];
         let tree = Tree::new(&sources);
         let all = named_in(&tree, 2, 0..tree.code[2].code.tokens.len());
