@@ -220,7 +220,8 @@ fn contract(code: &mut Code<'_>, at: usize) -> usize {
     let mut i = ts[open].mate + 1;
     let end = (i..ts.len()).find(|&k| ts[k].opens("{"));
     found.signature.end = end.unwrap_or(ts.len());
-    while i < ts.len() && ts[i].text != ";" {
+    let in_array = |k: usize| ts[k - 1].text.contains('[') && !ts[k - 1].text.contains(']');
+    while i < ts.len() && (ts[i].text != ";" || in_array(i)) {
         if ts[i].opens("{") {
             let Some(kind) = clause_kind(ts, i) else {
                 break;

@@ -120,3 +120,9 @@ fn types_and_imports_have_their_names() {
         ]
     );
 }
+
+#[test]
+fn an_array_in_a_result_does_not_end_a_signature() {
+    let code = parse("fn f(x: u8) -> Option<[u32; N]>\n    ensures { c x }\n{\n    None\n}\n");
+    assert_eq!(code.contracts[0].clauses.len(), 1);
+}

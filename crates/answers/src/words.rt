@@ -3,8 +3,7 @@ ghost use Rattle.std.specs.Prelude.{◌≡◌, [], ◌∷◌};
 ghost use Rattle.job.specs.Buffers.{given, refused};
 ghost use Rattle.answers.specs.AnswerWords.{place_word, answer_words, four_words};
 
-// The largest number of a word of 32 bits; `AnswerWords` has the same as `max_word`.
-const MAX_WORD: u32 = 4294967295;
+// Three words and four have their own functions: over `const N: usize`, `accept` would take N − 1 values, a count that Rattle has not, and `refuse` would require 2 ≤ N.
 
 // Accepted, with a first and a second value.
 pub fn accept(answer: &mut [u32; 3], first: u32, second: u32)
@@ -24,11 +23,7 @@ pub fn accept_four(answer: &mut [u32; 4], first: u32, second: u32, third: u32)
 fn place_word(place: usize) -> u32
     ensures { result ≡ place_word place }
 {
-    if place < (MAX_WORD as usize) {
-        place as u32
-    } else {
-        MAX_WORD
-    }
+    u32::try_from(place).unwrap_or(u32::MAX)
 }
 
 // Refused, with a number of the table and the place that it names.

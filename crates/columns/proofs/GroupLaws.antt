@@ -3,7 +3,7 @@ use Prim.Native.Nat.{ℕ, zero, suc, ◌+◌, ◌-◌, ◌*◌, ◌/◌, ◌%◌
 use mathlib.Core.Path.{◌≡◌, refl, sym, ap, ◌∙◌, subst}
 use mathlib.Core.Logic.{⊎_elim, ◌⊎◌, inl, inr}
 use mathlib.Core.Bool.{Bool, true, false, cond}
-use mathlib.Core.List.{List, [], ◌∷◌, ◌++◌, append_assoc, append-nil}
+use mathlib.Core.List.{List, [], ◌∷◌, ◌++◌, append_assoc}
 use native.Mathlib.Nat.{add-suc, add-zero, add_assoc, pow-suc, div-lt_iff_lt-mul, mod-eq_of_lt, mod-lt}
 use native.Mathlib.Decide.{ℕ_discrete}
 use native.Mathlib.Numerals.{add-one}
@@ -13,8 +13,7 @@ use lib.Seq.{get_or-append-add, get_or-take, take_at, drop_at, take-suc, drop-dr
 use lib.Dec.{eqb}
 use borrow.Author.Tests.{eq-eqb, ne_eqb, eqb-true}
 use Rattle.columns.specs.Widths.{lead_bytes, group_bytes}
-use Rattle.columns.specs.declared.group.Number.{Number}
-use Rattle.columns.specs.declared.group.Number.TheVariants.{Value, Malformed}
+use Rattle.std.specs.Prelude.{Option, Some, None}
 use Rattle.columns.specs.Group.{limit, mark, lead, group, digits_after, same, pick_number, number_of, put, lead_limit}
 use Rattle.columns.specs.Columns.{Column, Columns}
 
@@ -89,29 +88,29 @@ digits-group n h =
     ∙ omega arith
 
 -- reading what was written gives the number
-pub number-group : (n : ℕ) → n < limit → number_of (group n) ≡ Value n
+pub number-group : (n : ℕ) → n < limit → number_of (group n) ≡ Some n
 unfolding number_of
 number-group n h = simp (digits-group n h, mod-eq_of_lt h, same_refl (group n))
 
 -- writing what was read gives the bytes
-pub number-value : (bs : List ℕ) (n : ℕ) → number_of bs ≡ Value n → (bs ≡ group n) × (n < limit)
+pub number-value : (bs : List ℕ) (n : ℕ) → number_of bs ≡ Some n → (bs ≡ group n) × (n < limit)
 unfolding number_of
 number-value bs n h = go (same bs (group m)) refl h
   where
     m : ℕ
     m = digits_after 0 bs % limit
 
-    go : (t : Bool) → same bs (group m) ≡ t → pick_number t (Value m) Malformed ≡ Value n → (bs ≡ group n) × (n < limit)
+    go : (t : Bool) → same bs (group m) ≡ t → pick_number t (Some m) None ≡ Some n → (bs ≡ group n) × (n < limit)
     go true e p = let q : m ≡ n = cc in (subst (λ (k : ℕ). bs ≡ group k) q (same_true bs (group m) e), subst (λ (k : ℕ). k < limit) q (mod-lt (digits_after 0 bs) (omega arith)))
     go false e p = let z : ◌≡◌ {A = ℕ} 0 1 = cc in absurd (omega arith)
 
 -- what no number's columns are is malformed
-pub number-none : (bs : List ℕ) → ((n : ℕ) → n < limit → bs ≡ group n → ⊥) → number_of bs ≡ Malformed
+pub number-none : (bs : List ℕ) → ((n : ℕ) → n < limit → bs ≡ group n → ⊥) → number_of bs ≡ None
 number-none bs h = go (number_of bs) refl
   where
-    go : (r : Number) → number_of bs ≡ r → r ≡ Malformed
-    go (Value n) e = let v = number-value bs n e in absurd (h n v.1 v.0)
-    go Malformed e = refl
+    go : (r : Option ℕ) → number_of bs ≡ r → r ≡ None
+    go (Some n) e = let v = number-value bs n e in absurd (h n v.1 v.0)
+    go None e = refl
 
 -- ---- column by column
 
@@ -152,17 +151,11 @@ columns-step s at i v w h p q =
 
 -- ---- the nine columns of a text
 
-pub number_short : (s : List ℕ) (at : ℕ) → length s < at + group_bytes → number_of (take group_bytes (drop at s)) ≡ Malformed
+pub number_short : (s : List ℕ) (at : ℕ) → length s < at + group_bytes → number_of (take group_bytes (drop at s)) ≡ None
 number_short s at h = number-none _ (λ n l e. let q : length (take group_bytes (drop at s)) ≡ group_bytes = ap length e ∙ length-group n in omega (arith, simp (length-take, length-drop) at q))
 
--- a number's columns lie within the text
-pub number_fits : (s : List ℕ) (at n : ℕ) → number_of (take group_bytes (drop at s)) ≡ Value n → at + group_bytes ≤ length s
-number_fits s at n e =
-    let q : length (take group_bytes (drop at s)) ≡ group_bytes = ap length (number-value _ n e).0 ∙ length-group n in
-    omega (arith, simp (length-take, length-drop) at q)
-
 -- a number ends in a digit
-pub number-last : (s : List ℕ) (at : ℕ) → ((n : ℕ) → 48 + n % 10 ≡ get_or s (at + lead_bytes) 0 → ⊥) → number_of (take group_bytes (drop at s)) ≡ Malformed
+pub number-last : (s : List ℕ) (at : ℕ) → ((n : ℕ) → 48 + n % 10 ≡ get_or s (at + lead_bytes) 0 → ⊥) → number_of (take group_bytes (drop at s)) ≡ None
 unfolding group
 number-last s at f =
     number-none _
@@ -175,7 +168,7 @@ module _ (s : List ℕ) (at v : ℕ) (h : at + group_bytes ≤ length s) (p : Co
   nine : take group_bytes (drop at s) ≡ take lead_bytes (drop at s) ++ (get_or s (at + lead_bytes) 0 ∷ [])
   nine = let hi : lead_bytes < length (drop at s) = simp length-drop (omega arith) in rw (← get_or-drop at s lead_bytes 0) (take-suc (drop at s) lead_bytes 0 hi)
 
-  pub number_is : v < lead_limit → 48 ≤ get_or s (at + lead_bytes) 0 → get_or s (at + lead_bytes) 0 ≤ 57 → number_of (take group_bytes (drop at s)) ≡ Value (v * 10 + (get_or s (at + lead_bytes) 0 - 48))
+  pub number_is : v < lead_limit → 48 ≤ get_or s (at + lead_bytes) 0 → get_or s (at + lead_bytes) 0 ≤ 57 → number_of (take group_bytes (drop at s)) ≡ Some (v * 10 + (get_or s (at + lead_bytes) 0 - 48))
   unfolding group
   number_is l g k =
       let n : ℕ = v * 10 + (get_or s (at + lead_bytes) 0 - 48) in
@@ -184,7 +177,7 @@ module _ (s : List ℕ) (at v : ℕ) (h : at + group_bytes ≤ length s) (p : Co
       let q : take group_bytes (drop at s) ≡ group n = nine ∙ rw (e, m, ← (p.right (omega arith)).1) in
       rw q (number-group n (omega arith))
 
-  pub number-not : ((n : ℕ) → n < limit → n / 10 ≡ v → 48 + n % 10 ≡ get_or s (at + lead_bytes) 0 → ⊥) → number_of (take group_bytes (drop at s)) ≡ Malformed
+  pub number-not : ((n : ℕ) → n < limit → n / 10 ≡ v → 48 + n % 10 ≡ get_or s (at + lead_bytes) 0 → ⊥) → number_of (take group_bytes (drop at s)) ≡ None
   unfolding group
   number-not f =
       number-none _
@@ -202,9 +195,6 @@ length-put d at xs h = simp (length-append, length-take, length-drop) (omega ari
 store-before : (d xs : List ℕ) (k m : ℕ) → k < length d → set (take (suc k) d ++ xs) k m ≡ take k d ++ (m ∷ xs)
 store-before d xs k m h =
     rw (take-suc d k 0 h, append_assoc (take k d) (get_or d k 0 ∷ []) xs) (set_at (take k d) (get_or d k 0) xs m k (length-take-le k d (omega arith)))
-
-pub writing-none : (d : List ℕ) (at n : ℕ) → Writing d d at n lead_bytes n
-writing-none d at n = record { tail = []; here = sym (take-append-drop (at + lead_bytes) d); whole = sym (append-nil (lead lead_bytes n)) }
 
 pub writing_more : (d out : List ℕ) (at n i rest : ℕ) → at + i < length d → Writing d out at n (suc i) rest → Writing d (set out (at + i) (mark rest)) at n i (rest / 10)
 unfolding lead

@@ -4,7 +4,7 @@ use mathlib.Core.Path.{◌≡◌, refl, sym, ap, ◌∙◌}
 use mathlib.Core.Bool.{Bool, true, false}
 use mathlib.Core.List.{List, [], ◌∷◌, ◌++◌, append_assoc, append-nil}
 use mathlib.Core.Option.{Option, none, some}
-use native.Mathlib.Nat.{zero-add, add-zero, sub-zero, suc-sub-suc}
+use native.Mathlib.Nat.{add-zero, sub-zero, suc-sub-suc}
 use native.Mathlib.Numerals.{add-one}
 use native.Mathlib.Omega.{arith}
 use lib.ListN.{length, take, drop, get_or, set, replicate, length-append, length-take, length-drop}
@@ -12,8 +12,7 @@ use lib.Seq.{drop-cons, take-nil, take-take, get_or-take, length-take-le, take-s
 use lib.Dec.{eqb, ltb}
 use borrow.Author.Tests.{eqb-true, eq-eqb, ne_eqb, ltb-true, ltb-false}
 use Rattle.columns.specs.Widths.{group_bytes, most_numbers, line_bytes}
-use Rattle.columns.specs.declared.group.Number.{Number}
-use Rattle.columns.specs.declared.group.Number.TheVariants.{Value, Malformed}
+use Rattle.std.specs.Prelude.{Option as Option·std, Some, None}
 use Rattle.columns.specs.Group.{group, number_of, put}
 use Rattle.columns.proofs.GroupLaws.{length-group, number-group, number-value, put-put, put-more}
 use Rattle.columns.specs.Line.{groups, line_of, Fit, at_end, also, numbers_of, line_from}
@@ -67,16 +66,16 @@ line-numbers zero bs ns h = go bs (eqb (get_or bs 0 0) 10) refl h
 line-numbers (suc k) bs ns h = go (λ ms e. line-numbers k (drop group_bytes bs) ms e) (number_of (take group_bytes bs)) refl (numbers_of k (drop group_bytes bs)) refl h
   where
     go : ((ms : List ℕ) → numbers_of k (drop group_bytes bs) ≡ some ms → (length ms ≡ k) × Fit ms × (take (line_bytes k) (drop group_bytes bs) ≡ line_of ms))
-        → (r : Number) → number_of (take group_bytes bs) ≡ r → (o : Option (List ℕ)) → numbers_of k (drop group_bytes bs) ≡ o → also r o ≡ some ns
+        → (r : Option·std ℕ) → number_of (take group_bytes bs) ≡ r → (o : Option (List ℕ)) → numbers_of k (drop group_bytes bs) ≡ o → also r o ≡ some ns
         → (length ns ≡ suc k) × Fit ns × (take (line_bytes (suc k)) bs ≡ line_of ns)
-    go ih (Value n) e (some ms) q p =
+    go ih (Some n) e (some ms) q p =
         let z : n ∷ ms ≡ ns = cc in
         let v = number-value (take group_bytes bs) n e in
         let w = ih ms q in
         let j : line_bytes (suc k) ≡ group_bytes + line_bytes k = omega arith in
         rw (← z) (ap suc w.0, (v.1, w.1), rw (j, take-add group_bytes (line_bytes k) bs, w.2, v.0, append_assoc))
-    go ih (Value n) e none q p = let z : ◌≡◌ {A = ℕ} 0 1 = cc in absurd (omega arith)
-    go ih Malformed e o q p = let z : ◌≡◌ {A = ℕ} 0 1 = cc in absurd (omega arith)
+    go ih (Some n) e none q p = let z : ◌≡◌ {A = ℕ} 0 1 = cc in absurd (omega arith)
+    go ih None e o q p = let z : ◌≡◌ {A = ℕ} 0 1 = cc in absurd (omega arith)
 
 pub length-line : (ns : List ℕ) → length (line_of ns) ≡ line_bytes (length ns)
 unfolding line_of
@@ -108,17 +107,9 @@ numbers-end : (s : List ℕ) (p : ℕ) → numbers_of 0 (drop p s) ≡ at_end (e
 unfolding numbers_of
 numbers-end s p = rw (get_or-drop p s 0 0, add-zero p)
 
-before-also : (xs : List ℕ) (n : ℕ) (o : Option (List ℕ)) → before xs (also (Value n) o) ≡ before (xs ++ (n ∷ [])) o
+before-also : (xs : List ℕ) (n : ℕ) (o : Option (List ℕ)) → before xs (also (Some n) o) ≡ before (xs ++ (n ∷ [])) o
 before-also xs n none = refl
 before-also xs n (some ns) = rw append_assoc
-
-before-nil : (o : Option (List ℕ)) → o ≡ before [] o
-before-nil none = refl
-before-nil (some ns) = refl
-
-pub reading-none : (s : List ℕ) (at : ℕ) (was : List ℕ) → Reading s at 0 was was
-reading-none s at was =
-    record { read = []; size = refl; held = refl; here = λ k. rw (zero-add k, add-zero at) (before-nil _); fewer = λ k l. absurd (omega arith) }
 
 module _ (s : List ℕ) (at i : ℕ) (was numbers : List ℕ) (r : Reading s at i was numbers) where
   -- byte 10 ends the line, any other byte does not
@@ -142,7 +133,7 @@ module _ (s : List ℕ) (at i : ℕ) (was numbers : List ℕ) (r : Reading s at 
   -- what comes is neither the end nor a number
   pub reading-not :
       (get_or s (at + group_bytes * i) 0 ≡ 10 → ⊥)
-      → number_of (take group_bytes (drop (at + group_bytes * i) s)) ≡ Malformed
+      → number_of (take group_bytes (drop (at + group_bytes * i) s)) ≡ None
       → (k : ℕ)
       → numbers_of k (drop at s) ≡ none
   reading-not e m k = go (ltb i k) refl
@@ -159,7 +150,7 @@ module _ (s : List ℕ) (at i : ℕ) (was numbers : List ℕ) (r : Reading s at 
       (n : ℕ)
       → i < length was
       → (get_or s (at + group_bytes * i) 0 ≡ 10 → ⊥)
-      → number_of (take group_bytes (drop (at + group_bytes * i) s)) ≡ Value n
+      → number_of (take group_bytes (drop (at + group_bytes * i) s)) ≡ Some n
       → Reading s at (i + 1) was (set numbers i n)
   reading-more n l e v =
       record {
@@ -184,7 +175,7 @@ drop-zeros (suc k) zero = let z : 0 - suc k ≡ 0 = omega arith in rw z
 drop-zeros (suc k) (suc n) = drop-zeros k n ∙ rw suc-sub-suc refl
 
 -- the numbers of a line before zeros are its answer
-pub line-complete : (k : ℕ) (bs ns numbers : List ℕ) → numbers_of k bs ≡ some ns → numbers ≡ ns ++ drop k (replicate most_numbers 0) → record { good = true; numbers = numbers } ≡ line_from (numbers_of k bs)
+pub line-complete : (k : ℕ) (bs ns numbers : List ℕ) → numbers_of k bs ≡ some ns → numbers ≡ ns ++ drop k (replicate most_numbers 0) → ◌≡◌ {A = Option·std (List ℕ)} (Some numbers) (line_from (numbers_of k bs))
 line-complete k bs ns numbers e h =
     let n = (line-numbers k bs ns e).0 in
     rw (e, h, n, drop-zeros k most_numbers)

@@ -1,8 +1,6 @@
 -- Document 01, "Texts": a number "right-justified in nine columns with blanks, no leading zeros (zero is "0")", by the bytes that writing it gives.
-use Rattle.std.specs.Prelude.{ℕ, zero, suc, ◌+◌, ◌-◌, ◌*◌, ◌/◌, ◌%◌, Bool, true, false, cond, List, [], ◌∷◌, ◌++◌, length, take, drop, eqb}
+use Rattle.std.specs.Prelude.{Option, Some, None, ℕ, zero, suc, ◌+◌, ◌-◌, ◌*◌, ◌/◌, ◌%◌, Bool, true, false, cond, List, [], ◌∷◌, ◌++◌, length, take, drop, eqb}
 use Rattle.columns.specs.Widths.{lead_bytes}
-use Rattle.columns.specs.declared.group.Number.{Number}
-use Rattle.columns.specs.declared.group.Number.TheVariants.{Value, Malformed}
 
 -- one past the greatest number that the columns before the last hold, and one past the greatest that nine columns hold
 abbrev pub lead_limit : ℕ
@@ -36,15 +34,15 @@ same [] (y ∷ ys) = false
 same (x ∷ xs) [] = false
 same (x ∷ xs) (y ∷ ys) = cond (eqb x y) (same xs ys) false
 
-abbrev pub pick_number : Bool → Number → Number → Number
+abbrev pub pick_number : Bool → Option ℕ → Option ℕ → Option ℕ
 pick_number true a b = a
 pick_number false a b = b
 
 -- what columns bs hold: the number whose columns they are, if there is one
-unfoldable pub number_of : List ℕ → Number
+unfoldable pub number_of : List ℕ → Option ℕ
 number_of bs =
     let n : ℕ = digits_after 0 bs % limit in
-    pick_number (same bs (group n)) (Value n) Malformed
+    pick_number (same bs (group n)) (Some n) None
 
 -- d with the bytes from `at` on replaced by xs
 unfoldable pub put : List ℕ → ℕ → List ℕ → List ℕ

@@ -1,12 +1,7 @@
 -- Document 01, "Texts": "a line is the numbers of its kind, each right-justified in nine columns .., then byte 10".
-use Rattle.std.specs.Prelude.{ℕ, zero, suc, ◌-◌, ◌/◌, ◌≤◌, ◌<◌, ◌≡◌, Bool, true, false, List, [], ◌∷◌, ◌++◌, length, take, drop, get_or, replicate, eqb}
+use Rattle.std.specs.Prelude.{Option as Option·std, Some, None, ℕ, zero, suc, ◌-◌, ◌/◌, ◌≤◌, ◌<◌, ◌≡◌, Bool, true, false, List, [], ◌∷◌, ◌++◌, length, take, drop, get_or, replicate, eqb}
 use Rattle.std.proofs.Math.Option.{Option, none, some}
 use Rattle.columns.specs.Widths.{group_bytes, most_numbers, line_bytes}
-use Rattle.columns.specs.declared.group.Number.{Number}
-use Rattle.columns.specs.declared.group.Number.TheVariants.{Value, Malformed}
-use Rattle.columns.specs.declared.line.Line.{Line}
-use Rattle.columns.specs.declared.line.Complete.{Complete}
-use Rattle.columns.specs.declared.line.Complete.TheVariants.{Numbers, Nothing}
 use Rattle.columns.specs.Group.{limit, group, number_of}
 
 -- the columns of some numbers
@@ -29,10 +24,10 @@ at_end true = some []
 at_end false = none
 
 -- a number before the numbers after it
-abbrev pub also : Number → Option (List ℕ) → Option (List ℕ)
-also (Value n) (some ns) = some (n ∷ ns)
-also (Value n) none = none
-also Malformed r = none
+abbrev pub also : Option·std ℕ → Option (List ℕ) → Option (List ℕ)
+also (Some n) (some ns) = some (n ∷ ns)
+also (Some n) none = none
+also None r = none
 
 -- the k numbers of the line that bs begins with
 unfoldable pub numbers_of : ℕ → List ℕ → Option (List ℕ)
@@ -44,17 +39,14 @@ unfoldable pub read_line : List ℕ → Option (List ℕ)
 read_line bs =
     let k = length bs / group_bytes in elim (eqb (length bs) (line_bytes k)) [ true ↦ numbers_of k bs | false ↦ none ]
 
--- the answer of `line_at`: the numbers, then zeros up to ten; all zeros where there are none
-abbrev pub malformed_line : Line
-malformed_line = record { good = false; numbers = replicate most_numbers 0 }
-
-abbrev pub line_from : Option (List ℕ) → Line
-line_from (some ns) = record { good = true; numbers = ns ++ replicate (most_numbers - length ns) 0 }
-line_from none = malformed_line
+-- the answer of `line_at`: the numbers, then zeros up to ten, where there are numbers
+abbrev pub line_from : Option (List ℕ) → Option·std (List ℕ)
+line_from (some ns) = Some (ns ++ replicate (most_numbers - length ns) 0)
+line_from none = None
 
 -- what `complete_line` says of bytes bs: the line that they begin with has k numbers, at most ten, which stand in an array before what was behind them; or
 -- they begin with the line of no number of numbers up to ten
-abbrev pub CompleteAs : List ℕ → List ℕ → List ℕ → Complete → Type 0
-CompleteAs bs before after (Numbers k) =
+abbrev pub CompleteAs : List ℕ → List ℕ → List ℕ → Option·std ℕ → Type 0
+CompleteAs bs before after (Some k) =
     (k ≤ most_numbers) × ((ns : List ℕ) × (numbers_of k bs ≡ some ns) × (after ≡ ns ++ drop k before))
-CompleteAs bs before after Nothing = (k : ℕ) → k ≤ most_numbers → numbers_of k bs ≡ none
+CompleteAs bs before after None = (k : ℕ) → k ≤ most_numbers → numbers_of k bs ≡ none

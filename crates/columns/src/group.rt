@@ -14,39 +14,26 @@ const LEAD_LIMIT: u32 = 100_000_000;
 // One past the greatest number that nine columns hold. In a value so far it says that no number begins so.
 const LIMIT: u32 = 10 * LEAD_LIMIT;
 
-// What nine columns hold.
-#[derive(Clone, Copy)]
-pub enum Number {
-    Value(u32),
-    Malformed,
-}
-
-// The number in the nine columns at a position.
-pub fn number_at(s: &[u8], at: usize) -> Number
+// The number in the nine columns at a position, if they hold one.
+pub fn number_at(s: &[u8], at: usize) -> Option<u32>
     ensures { result ≡ number_of (take group_bytes (drop at s.now)) }
 {
-    if s.len() < at {
-        return Number::Malformed;
-    }
-    if s.len() - at < GROUP {
-        return Number::Malformed;
+    if s.len() < at || s.len() - at < GROUP {
+        return None;
     }
     let b = s[at + LEAD];
-    if b < 48 {
-        return Number::Malformed;
+    if b < b'0' || b > b'9' {
+        return None;
     }
-    if b > 57 {
-        return Number::Malformed;
-    }
-    let last = (b - 48) as u32;
+    let last = (b - b'0') as u32;
     if blank_at(s, at) {
-        return Number::Value(last);
+        return Some(last);
     }
     let v = lead_at(s, at);
     if v >= LEAD_LIMIT {
-        return Number::Malformed;
+        return None;
     }
-    Number::Value(v * 10 + last)
+    Some(v * 10 + last)
 }
 
 // The value of the first four columns.
@@ -57,11 +44,9 @@ fn front_at(s: &[u8], at: usize) -> u32
     if front_blank(s, at) {
         return 0;
     }
-    let mut v: u32 = 0;
-    let mut i: usize = 0;
-    while i < FRONT {
+    let mut v = 0;
+    for i in 0..FRONT {
         v = column(v, s[at + i]);
-        i += 1;
     }
     v
 }
@@ -72,10 +57,8 @@ fn lead_at(s: &[u8], at: usize) -> u32
     ensures { Columns (take lead_bytes (drop at s.now)) lead_bytes result }
 {
     let mut v = front_at(s, at);
-    let mut i = FRONT;
-    while i < LEAD {
+    for i in FRONT..LEAD {
         v = column(v, s[at + i]);
-        i += 1;
     }
     v
 }
@@ -87,19 +70,16 @@ fn column(v: u32, b: u8) -> u32
     if v >= LEAD_LIMIT {
         return LIMIT;
     }
-    if b == 32 {
+    if b == b' ' {
         if v == 0 {
             return 0;
         }
         return LIMIT;
     }
-    if b < 48 {
+    if b < b'0' || b > b'9' {
         return LIMIT;
     }
-    if b > 57 {
-        return LIMIT;
-    }
-    let w = v * 10 + ((b - 48) as u32);
+    let w = v * 10 + (b - b'0') as u32;
     if w == 0 {
         return LIMIT;
     }
@@ -111,9 +91,9 @@ fn mark(n: u32) -> u8
     ensures { result ≡ mark·of n }
 {
     if n == 0 {
-        return 32;
+        return b' ';
     }
-    48 + (n % 10) as u8
+    b'0' + (n % 10) as u8
 }
 
 // Writes n in the nine columns at a position.
@@ -122,7 +102,7 @@ pub fn put_number(out: &mut [u8], at: usize, n: u32)
     ensures { out.new ≡ put out.old at (group n) }
 {
     put_lead(out, at, n / 10);
-    out[at + LEAD] = 48 + (n % 10) as u8;
+    out[at + LEAD] = b'0' + (n % 10) as u8;
 }
 
 // Writes n in the eight columns before the last, from the right.
@@ -135,9 +115,7 @@ fn put_lead(out: &mut [u8], at: usize, n: u32)
         return;
     }
     let mut rest = n;
-    let mut i: usize = LEAD;
-    while i > 0 {
-        i -= 1;
+    for i in (0..LEAD).rev() {
         out[at + i] = mark(rest);
         rest /= 10;
     }

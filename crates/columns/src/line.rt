@@ -2,73 +2,48 @@
 ghost use Rattle.std.specs.Prelude.{◌≡◌, ◌+◌, ◌≤◌, length, drop};
 ghost use Rattle.columns.specs.Widths.{most_numbers, line_bytes};
 ghost use Rattle.columns.specs.Group.{put};
-ghost use Rattle.columns.specs.Line.{line_of, numbers_of, line_from, malformed_line, CompleteAs};
+ghost use Rattle.columns.specs.Line.{line_of, numbers_of, line_from, CompleteAs};
 
-use crate::group::{Number, number_at, put_number};
+use crate::group::{number_at, put_number};
 use crate::widths::{GROUP, MOST_NUMBERS};
 
-// The numbers of a line, the kind first, then zeros; all zeros where it is not of the form.
-#[derive(Clone, Copy)]
-pub struct Line {
-    pub good: bool,
-    pub numbers: [u32; MOST_NUMBERS],
-}
+// The byte at the end of a line.
+const END: u8 = b'\n';
 
-// How many numbers the line has that stands at a position; or no line of at most ten numbers stands there.
-#[derive(Clone, Copy)]
-pub enum Complete {
-    Numbers(usize),
-    Nothing,
-}
-
-// The line at a position, its end found as its numbers are read: they are written to the first places of a lent array, and what is behind them stays.
-pub fn complete_line(s: &[u8], at: usize, numbers: &mut [u32; MOST_NUMBERS]) -> Complete
+// The line at a position, its end found as its numbers are read: how many numbers it has, if it has at most ten. They are written to the first places of a
+// lent array, and what is behind them stays.
+pub fn complete_line(s: &[u8], at: usize, numbers: &mut [u32; MOST_NUMBERS]) -> Option<usize>
     ensures { length numbers.old ≡ most_numbers → CompleteAs (drop at s.now) numbers.old numbers.new result }
 {
     let mut p = at;
-    let mut i: usize = 0;
-    while p < s.len() {
-        if s[p] == 10 {
-            return Complete::Numbers(i);
+    for i in 0..MOST_NUMBERS + 1 {
+        if s.len() <= p {
+            return None;
+        }
+        if s[p] == END {
+            return Some(i);
         }
         if i == MOST_NUMBERS {
-            return Complete::Nothing;
+            return None;
         }
-        let Number::Value(n) = number_at(s, p) else {
-            return Complete::Nothing;
-        };
+        let n = number_at(s, p)?;
         numbers[i] = n;
         p += GROUP;
-        i += 1;
     }
-    Complete::Nothing
+    None
 }
 
-// The line of k numbers at a position.
-pub fn line_at(s: &[u8], at: usize, k: usize) -> Line
+// The line of k numbers at a position, if it is of the form: its numbers, the kind first, then zeros.
+pub fn line_at(s: &[u8], at: usize, k: usize) -> Option<[u32; MOST_NUMBERS]>
     requires { k ≤ most_numbers }
     ensures { result ≡ line_from (numbers_of k (drop at s.now)) }
 {
     let mut numbers = [0u32; MOST_NUMBERS];
-    let Complete::Numbers(found) = complete_line(s, at, &mut numbers) else {
-        return malformed();
-    };
+    let found = complete_line(s, at, &mut numbers)?;
     if found != k {
-        return malformed();
+        return None;
     }
-    Line {
-        good: true,
-        numbers,
-    }
-}
-
-fn malformed() -> Line
-    ensures { result ≡ malformed_line }
-{
-    Line {
-        good: false,
-        numbers: [0; MOST_NUMBERS],
-    }
+    Some(numbers)
 }
 
 // Writes a line at a position.
@@ -77,11 +52,9 @@ pub fn put_line(out: &mut [u8], at: usize, numbers: &[u32])
     ensures { out.new ≡ put out.old at (line_of numbers.now) }
 {
     let mut p = at;
-    let mut i: usize = 0;
-    while i < numbers.len() {
-        put_number(out, p, numbers[i]);
+    for &n in numbers {
+        put_number(out, p, n);
         p += GROUP;
-        i += 1;
     }
-    out[p] = 10;
+    out[p] = END;
 }

@@ -2,11 +2,13 @@
 use mathlib.Core.Path.{◌≡◌, refl, ap}
 use mathlib.Core.Logic.{◌↔◌}
 use mathlib.Core.List.{List, [], ◌∷◌}
+use Rattle.std.proofs.Common.{Result, Ok}
 use Prim.Native.Nat.{ℕ, ◌≤◌}
 use native.Mathlib.Omega.{arith}
 use lib.ListN.{length, get_or}
 use Rattle.job.specs.Sizes.{words_of_head, plates_size, cuts_size, counts_size, placements_size, offcuts_size}
 use Rattle.job.specs.Verdict.{Verdict, pass, refuse}
+use Rattle.job.specs.declared.refused.Refused.{Refused}
 use Rattle.job.specs.Buffers.{given, refused, answer, sized}
 use Rattle.job.specs.Job.{job_of, job_words, admission}
 use Rattle.job.proofs.Verdicts.{then-first}
@@ -25,14 +27,11 @@ use Rattle.layouts.specs.Lines.{rows_of, layout_words}
 use Rattle.layouts.specs.FoldCall.{fold_verdict, fold_answer}
 use Rattle.layouts.specs.UnfoldCall.{lengths_row, unfold_verdict, unfold_answer}
 use Rattle.layouts.specs.Promises.{PricePromise}
-use Rattle.price_test.specs.declared.prices.PriceAnswer.{PriceAnswer}
-use Rattle.price_test.specs.declared.prices.PriceAnswer.TheVariants.{Accepted}
+use Rattle.price_test.specs.declared.prices.Bound.{Bound}
 use Rattle.price_test.specs.PriceSays.{OnAccepted}
-use Rattle.unfold_call.specs.declared.call.Unfolded.{Unfolded}
-use Rattle.unfold_call.specs.declared.call.Unfolded.TheVariants.{Done}
+use Rattle.unfold_run.specs.declared.run.Ran.{Ran}
 use Rattle.unfold_call.specs.UnfoldSays.{OnSuccess}
-use Rattle.fold_call.specs.declared.call.FoldAnswer.{FoldAnswer}
-use Rattle.fold_call.specs.declared.call.FoldAnswer.TheVariants.{Folded}
+use Rattle.fold_call.specs.declared.boards.Boards.{Boards}
 use Rattle.fold_call.specs.FoldSays.{OnSuccess as OnFolded}
 use Rattle.answers.specs.AnswerWords.{answer_words, four_words, WordsAccept, WhereAccepted, WhereUnfolded}
 use Rattle.engine.proofs.Numbers.{Above, above_then, words-above, lengths-above, admission-above, sized-above, model-above, plan-above, price-words-above, prices-above}
@@ -133,7 +132,7 @@ module _ (ws prices plates cuts : List ℕ) where
   price-refused words e w = none-refused (price_verdict ws prices plates cuts) _ words price-above e (first_word w)
 
 -- the price test's promise, where it accepts
-pub price-accepted : (ws words : List ℕ) (r : PriceAnswer) {sum d : ℕ} → r ≡ Accepted sum d → OnAccepted r (PricePromise ws) → words ≡ answer_words (given (sum ∷ d ∷ [])) → WhereAccepted words (PricePromise ws)
+pub price-accepted : (ws words : List ℕ) (r : Result Bound Refused) {b : Bound} → r ≡ Ok b → OnAccepted r (PricePromise ws) → words ≡ answer_words (given (b.sum ∷ b.d ∷ [])) → WhereAccepted words (PricePromise ws)
 price-accepted ws words r told h w = rw w (λ zero. rw told at h)
 
 module _ (ws : List ℕ) (first second : ℕ) (counts plates cuts placements offcuts : List ℕ) where
@@ -158,7 +157,7 @@ module _ (ws : List ℕ) (first second : ℕ) (counts plates cuts placements off
       none-refused (unfold_verdict ws first second counts plates cuts placements offcuts) _ words unfold-above e (first_word w)
 
 -- the unfolding's promise, where it accepts
-pub unfold-accepted : (words : List ℕ) (r : Unfolded) {boards pieces left : ℕ} (promise : ℕ → ℕ → ℕ → Type 0) → r ≡ Done boards pieces left → OnSuccess r promise → words ≡ four_words (given (boards ∷ pieces ∷ left ∷ [])) → WhereUnfolded words promise
+pub unfold-accepted : (words : List ℕ) (r : Result Ran Refused) {a : Ran} (promise : ℕ → ℕ → ℕ → Type 0) → r ≡ Ok a → OnSuccess r promise → words ≡ four_words (given (a.boards ∷ a.pieces ∷ a.offcuts ∷ [])) → WhereUnfolded words promise
 unfold-accepted words r promise told h w = rw w (λ zero. rw told at h)
 
 module _ (ws layouts plates cuts counts : List ℕ) where
@@ -180,5 +179,5 @@ module _ (ws layouts plates cuts counts : List ℕ) where
   fold-refused words e w = none-refused (fold_verdict ws layouts plates cuts counts) _ words fold-above e (first_word w)
 
 -- the folding's promise, where it accepts
-pub fold-accepted : (words : List ℕ) (r : FoldAnswer) {n cost : ℕ} (promise : ℕ → ℕ → Type 0) → r ≡ Folded n cost → OnFolded r promise → words ≡ answer_words (given (n ∷ cost ∷ [])) → WhereAccepted words promise
+pub fold-accepted : (words : List ℕ) (r : Result Boards Refused) {b : Boards} (promise : ℕ → ℕ → Type 0) → r ≡ Ok b → OnFolded r promise → words ≡ answer_words (given (b.number ∷ b.cost ∷ [])) → WhereAccepted words promise
 fold-accepted words r promise told h w = rw w (λ zero. rw told at h)

@@ -14,14 +14,12 @@ ghost use Rattle.layouts.specs.Promises.{UnfoldPromise, FoldPromise, PricePromis
 ghost use Rattle.answers.specs.AnswerWords.{answer_words, four_words, WordsAccept, WhereAccepted, WhereUnfolded};
 
 use answers::words::{accept, accept_four, refuse, refuse_four};
-use fold_call::call::{FoldAnswer, fold};
+use fold_call::call::fold;
 use job::head::head_of;
-use listing_call::call::{Listed, list};
+use listing_call::call::list;
 use plan_test::call::test_plan;
-use plan_test::plan_row::PlanAnswer;
 use price_test::call::test_prices;
-use price_test::prices::PriceAnswer;
-use unfold_call::call::{Unfolded, unfold};
+use unfold_call::call::unfold;
 
 // The listing call: the values are the numbers of residual types and of cuts. Where it is accepted plates and cuts hold the one listing of the job.
 #[unsafe(no_mangle)]
@@ -32,12 +30,12 @@ pub extern "C" fn saw_list(job: &[u16], plates: &mut [u16], cuts: &mut [u16], an
     ensures where_accepted { WhereAccepted answer.new (λ _ _. IsListing (job_of job.now) (listing_of (job_of job.now))) }
 {
     match list(job, plates, cuts) {
-        Listed::Done(m, k) => {
+        Ok(listed) => {
             let head = head_of(job);
-            let residuals = m.residuals(head.sizes);
-            accept(answer, residuals as u32, k.0 as u32)
+            let residuals = listed.plates.residuals(head.sizes);
+            accept(answer, residuals as u32, listed.cuts.0 as u32)
         }
-        Listed::Refused(number, place) => refuse(answer, number, place),
+        Err(refused) => refuse(answer, refused.refusal.number(), refused.place),
     }
 }
 
@@ -56,8 +54,8 @@ pub extern "C" fn saw_test_plan(
     ensures variant { WordsAccept answer.new ↔ PlanRight job.now counts.now plates.old cuts.old }
 {
     match test_plan(job, counts, plates, cuts) {
-        PlanAnswer::Accepted(boards, cost) => accept(answer, boards as u32, cost),
-        PlanAnswer::Refused(number, place) => refuse(answer, number, place),
+        Ok(opening) => accept(answer, opening.boards as u32, opening.cost),
+        Err(refused) => refuse(answer, refused.refusal.number(), refused.place),
     }
 }
 
@@ -78,8 +76,8 @@ pub extern "C" fn saw_test_prices(
     ensures where_accepted { WhereAccepted answer.new (PricePromise job.now) }
 {
     match test_prices(job, prices, plates, cuts) {
-        PriceAnswer::Accepted(sum, d) => accept(answer, sum, d as u32),
-        PriceAnswer::Refused(number, place) => refuse(answer, number, place),
+        Ok(bound) => accept(answer, bound.sum, bound.d as u32),
+        Err(refused) => refuse(answer, refused.refusal.number(), refused.place),
     }
 }
 
@@ -108,10 +106,13 @@ pub extern "C" fn saw_unfold(
     match unfold(
         job, first, second, counts, plates, cuts, placements, offcuts,
     ) {
-        Unfolded::Done(boards, pieces, left) => {
-            accept_four(answer, boards as u32, pieces as u32, left as u32)
-        }
-        Unfolded::Refused(number, place) => refuse_four(answer, number, place),
+        Ok(ran) => accept_four(
+            answer,
+            ran.boards as u32,
+            ran.pieces as u32,
+            ran.offcuts as u32,
+        ),
+        Err(refused) => refuse_four(answer, refused.refusal.number(), refused.place),
     }
 }
 
@@ -133,7 +134,7 @@ pub extern "C" fn saw_fold(
     ensures where_accepted { WhereAccepted answer.new (FoldPromise job.now layouts.now counts.new) }
 {
     match fold(job, layouts, plates, cuts, counts) {
-        FoldAnswer::Folded(boards, cost) => accept(answer, boards as u32, cost),
-        FoldAnswer::Refused(number, place) => refuse(answer, number, place),
+        Ok(boards) => accept(answer, boards.number as u32, boards.cost),
+        Err(refused) => refuse(answer, refused.refusal.number(), refused.place),
     }
 }

@@ -1,5 +1,6 @@
 // The two texts, as a host calls them: bytes in, bytes out. The answer stands at the start of `out`, its number of bytes is handed back, and the bytes behind
 // it stay. Where `out` is shorter than the longest answer nothing is written, and 0 is handed back.
+// The other words are arrays of full size on the stack, by the rule of no heap and fixed memory.
 ghost use Rattle.texts.specs.SawText.{saw_text};
 ghost use Rattle.texts.specs.FoldText.{fold_text};
 ghost use Rattle.texts_writing.specs.Wrote.{longest_saw, longest_fold};

@@ -1,114 +1,73 @@
 // The fold program: a fold text comes from standard input in parts, and its answer goes to standard output.
 #![tactic(auto)]
 
-ghost use Rattle.std.specs.Prelude.{ℕ, ◌≡◌, ◌≤◌, true, false, IfOk, IfSome, OnOk, OnErr, length};
+ghost use Rattle.std.specs.Prelude.{◌≡◌, refl, false, IfSome, OnOk};
 ghost use Rattle.std.specs.Io.KnownBytes.{Appends};
-ghost use Rattle.job.specs.Sizes.{longest_job};
 ghost use Rattle.texts.specs.FoldText.{fold_text};
-ghost use Rattle.fold_text_reader.specs.FoldKept.{layouts_size};
+ghost use Rattle.texts.specs.TextLaws.{longest_fold_text};
+ghost use Rattle.texts_writing.specs.Wrote.{longest_fold};
 ghost use Rattle.fold_text_reader.specs.Parts.{After, lent};
-ghost use Rattle.fold_text_ending.specs.FoldEnd.{room_to_end};
-ghost use Rattle.programs.specs.Program.{part_size, ReadFrom, WholeAnswer, AnswersFrom, WritesFrom};
+ghost use Rattle.programs.specs.Program.{most_parts, WritesFrom};
+ghost use Rattle.programs.proofs.Decided.{enough};
 
 use fold_text_ending::finish::finish;
 use fold_text_reader::fold::{FoldReader, feed, start};
 use job::sizes::{COUNTS_SIZE, CUTS_SIZE, JOB_SIZE, PLACEMENTS_SIZE, PLATES_SIZE};
 use programs::input::Input;
 use programs::parts::PART_SIZE;
+use programs::text::{Text, run};
 use std::io;
 use std::io::{Read, Write};
 use texts::widths::LONGEST_FOLD_TEXT;
 use texts_writing::sizes::LONGEST_FOLD;
 
-// So many parts have more bytes than the longest text that its lines do not refuse.
-const MOST_PARTS: usize = LONGEST_FOLD_TEXT / PART_SIZE + 1;
-
-// What has been read, and how many bytes the last read gave.
-#[derive(Clone, Copy)]
-struct TextRead {
+// A fold text that is read: its reader, and the words that this and the folding call are lent, each of full size.
+#[derive(Drop)]
+struct FoldText {
     reader: FoldReader,
-    last: usize,
+    job: [u16; JOB_SIZE],
+    layouts: [u16; PLACEMENTS_SIZE],
+    plates: [u16; PLATES_SIZE],
+    cuts: [u16; CUTS_SIZE],
+    counts: [u16; COUNTS_SIZE],
 }
 
-// Reads a text, part after part, to its end, or so much of it that what follows cannot change the answer. The first read that gives less than a part
-// ends the text, whether the input ends there or the read fails.
-fn read<R: Read>(
-    input: &mut Input<R>,
-    part: &mut [u8],
-    job: &mut [u16],
-    layouts: &mut [u16],
-) -> TextRead
-    requires part_size_in_bounds { part_size ≤ length part.old }
-    requires longest_job_in_bounds { (longest_job ≤ length job.old) × (layouts_size ≤ length layouts.old) }
-    ensures { ReadFrom fold_text (R.remaining input.old.reader) (R.remaining input.new.reader) input.new.failed After result.reader (lent job.new layouts.new) (length part.old) result.last }
-{
-    let mut reader = start(job, layouts);
-    let mut parts: usize = 0;
-    while parts < MOST_PARTS {
-        let n = input.fill(part);
-        reader = feed(reader, &part[..n], job, layouts);
-        if n < part.len() {
-            return TextRead { reader, last: n };
-        }
-        parts += 1;
+impl Text for FoldText {
+    ghost answer = { fold_text };
+
+    ghost longest = { longest_fold_text };
+
+    ghost longest_answer = { longest_fold };
+
+    ghost after = { λ bytes t. After bytes t.reader (lent t.job t.layouts) };
+
+    ghost MOST_PARTS = { most_parts longest_fold_text };
+
+    const MOST_PARTS: usize = LONGEST_FOLD_TEXT / PART_SIZE + 1;
+
+    fn start(&mut self) {
+        self.reader = start(&mut self.job, &mut self.layouts);
     }
-    TextRead {
-        reader,
-        last: part.len(),
+
+    fn feed(&mut self, part: &[u8]) {
+        self.reader = feed(self.reader, part, &mut self.job, &mut self.layouts);
     }
-}
 
-// Reads a text and leaves its answer at the start of the output; the number of its bytes is handed back.
-fn answer<R: Read>(
-    input: &mut Input<R>,
-    part: &mut [u8],
-    job: &mut [u16],
-    layouts: &mut [u16],
-    plates: &mut [u16],
-    cuts: &mut [u16],
-    counts: &mut [u16],
-    out: &mut [u8],
-) -> usize
-    requires part_size_in_bounds { part_size ≤ length part.old }
-    requires out_value { room_to_end (length job.old) (length layouts.old) (length plates.old) (length cuts.old) (length counts.old) (length out.old) ≡ true }
-    ensures { AnswersFrom fold_text (R.remaining input.old.reader) (R.remaining input.new.reader) input.new.failed out.old result out.new }
-{
-    let text = read(input, part, job, layouts);
-    let reader = text.reader;
-    finish(reader, job, layouts, plates, cuts, counts, out)
-}
+    fn finish(&mut self, out: &mut [u8]) -> usize {
+        finish(
+            self.reader,
+            &self.job,
+            &self.layouts,
+            &mut self.plates,
+            &mut self.cuts,
+            &mut self.counts,
+            out,
+        )
+    }
 
-// Hands bytes to the write that are the answer to some text, whole; their number is handed back, or the error of a write that fails.
-fn write_answer<W: Write>(output: &mut W, bytes: &[u8]) -> io::Result<usize>
-    requires { WholeAnswer fold_text bytes.now }
-    ensures counted { IfOk result (λ n. n ≡ length bytes.now) }
-    ensures written { OnOk result (Appends (W.contents output.old) (W.contents output.new) bytes.now) }
-{
-    output.write_all(bytes)?;
-    Ok(bytes.len())
-}
+    ghost decides = { enough.fold };
 
-// Reads a text and writes its answer, which stands at the start of `out`; the number of bytes handed to the write is handed back, or the error of a write
-// that fails.
-fn run<R: Read, W: Write>(
-    input: &mut Input<R>,
-    output: &mut W,
-    part: &mut [u8],
-    job: &mut [u16],
-    layouts: &mut [u16],
-    plates: &mut [u16],
-    cuts: &mut [u16],
-    counts: &mut [u16],
-    out: &mut [u8],
-) -> io::Result<usize>
-    requires part_size_in_bounds { part_size ≤ length part.old }
-    requires out_value { room_to_end (length job.old) (length layouts.old) (length plates.old) (length cuts.old) (length counts.old) (length out.old) ≡ true }
-    ensures answered { IfOk result (λ n. AnswersFrom fold_text (R.remaining input.old.reader) (R.remaining input.new.reader) input.new.failed out.old n out.new) }
-    ensures failed { OnErr result ((n : ℕ) × AnswersFrom fold_text (R.remaining input.old.reader) (R.remaining input.new.reader) input.new.failed out.old n out.new) }
-    ensures written { OnOk result (WritesFrom fold_text (R.remaining input.old.reader) (R.remaining input.new.reader) input.new.failed (W.contents output.old) (W.contents output.new)) }
-{
-    let n = answer(input, part, job, layouts, plates, cuts, counts, out);
-    write_answer(output, &out[..n])
+    ghost most = { refl };
 }
 
 // The program on any input and output, with room for any answer: reads a text and writes its answer. Where no read has failed, what is written is the answer
@@ -117,24 +76,19 @@ fn program<R: Read, W: Write>(input: &mut Input<R>, output: &mut W) -> io::Resul
     ensures written { OnOk result (WritesFrom fold_text (R.remaining input.old.reader) (R.remaining input.new.reader) input.new.failed (W.contents output.old) (W.contents output.new)) }
     ensures whole { input.new.failed ≡ false → OnOk result (IfSome (R.remaining input.old.reader) (λ text. Appends (W.contents output.old) (W.contents output.new) (fold_text text))) }
 {
-    let mut part = [0u8; PART_SIZE];
     let mut job = [0u16; JOB_SIZE];
     let mut layouts = [0u16; PLACEMENTS_SIZE];
-    let mut plates = [0u16; PLATES_SIZE];
-    let mut cuts = [0u16; CUTS_SIZE];
-    let mut counts = [0u16; COUNTS_SIZE];
+    let mut text = FoldText {
+        reader: start(&mut job, &mut layouts),
+        job,
+        layouts,
+        plates: [0; PLATES_SIZE],
+        cuts: [0; CUTS_SIZE],
+        counts: [0; COUNTS_SIZE],
+    };
+    let mut part = [0u8; PART_SIZE];
     let mut out = [0u8; LONGEST_FOLD];
-    run(
-        input,
-        output,
-        &mut part,
-        &mut job,
-        &mut layouts,
-        &mut plates,
-        &mut cuts,
-        &mut counts,
-        &mut out,
-    )?;
+    run(&mut text, input, output, &mut part, &mut out)?;
     Ok(())
 }
 

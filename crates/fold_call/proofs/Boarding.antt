@@ -10,7 +10,7 @@ use Rattle.job.specs.Sizes.{words_of_placement}
 use Rattle.job.specs.Lists.{sum_of}
 use Rattle.job.specs.Job.{Job}
 use Rattle.plan.specs.Plan.{cost_at}
-use Rattle.layouts.specs.Layout.{Stack, Sheet, sheet, sheet_size}
+use Rattle.layouts.specs.Layout.{Stack as Items, Sheet, sheet, sheet_size}
 use Rattle.layouts.specs.Placement.{Placement}
 use Rattle.layouts.specs.Rules.{Filled}
 use Rattle.layouts.specs.Lines.{Level, stack, strip, board, begun, in_set, before, grouped, rows_of, set_of}
@@ -44,7 +44,7 @@ module _ (f : ℕ → ℕ) where
   value_in z y i [] h = absurd h
   value_in z y i (sheet j b ∷ bs) h = refl
 
-  value_before : (z y : ℕ) (v : Level) (k : Stack) (bs : List Sheet) → Filled bs → value_from z (before y v k bs) ≡ at_board (some v) (f z + value_of bs) (value_from z bs)
+  value_before : (z y : ℕ) (v : Level) (k : Items) (bs : List Sheet) → Filled bs → value_from z (before y v k bs) ≡ at_board (some v) (f z + value_of bs) (value_from z bs)
   unfolding before
   value_before z y v k [] h = absurd h
   value_before z y stack k (sheet j b ∷ bs) h = refl

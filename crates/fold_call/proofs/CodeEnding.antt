@@ -7,6 +7,9 @@ use mathlib.Core.List.{List, [], ◌∷◌}
 use lib.Dec.{ltb, eqb}
 use lib.ListN.{length, replicate}
 use Rattle.job.specs.Sizes.{max_pieces, plates_size, cuts_size, counts_size}
+use Rattle.std.specs.Prelude.{Result, Ok, Err}
+use Rattle.job.specs.declared.refused.Refused.{Refused}
+use Rattle.job.specs.Refused.{number_of}
 use Rattle.job.specs.Verdict.{Verdict, pass, refuse, ◌then◌, refuse_if, lowest}
 use Rattle.job.specs.Buffers.{given, refused, answer, filled, sized}
 use Rattle.job.specs.Job.{Job, job_of, job_words, admission}
@@ -26,8 +29,7 @@ use Rattle.layouts.specs.FoldCall.{fold_verdict, fold_answer, counts_end}
 use Rattle.layouts.specs.Demand3.{J, L, Listed}
 use Rattle.layouts.specs.Promises.{FoldPromise}
 use Rattle.layouts.proofs.demand.Demand3.{demand3}
-use Rattle.fold_call.specs.declared.call.FoldAnswer.{FoldAnswer}
-use Rattle.fold_call.specs.declared.call.FoldAnswer.TheVariants.{Folded, Refused}
+use Rattle.fold_call.specs.declared.boards.Boards.{Boards}
 use Rattle.fold_call.specs.FoldSays.{says_of, OnSuccess, fold_tail, Ended}
 use Rattle.fold_call.proofs.Passed.{words-passed, job-passed, listed-model}
 use Rattle.fold_call.proofs.Filling.{filled-count, filled-boards, filled-each, filled-cost, filled-accepted}
@@ -140,7 +142,7 @@ module _ (ws layouts plates cuts counts : List ℕ) where
       regrouped a b c d e f g = simp then-assoc
 
   -- what the call ensures: its answer, the three buffers, and on success demand 3's promise
-  abbrev Called : FoldAnswer → List ℕ → List ℕ → List ℕ → Type 0
+  abbrev Called : Result Boards Refused → List ℕ → List ℕ → List ℕ → Type 0
   Called r plates' cuts' counts' =
       (says_of r ≡ fold_answer ws layouts plates cuts counts)
       × ((plates' ≡ plates_end verdict ws plates)
@@ -150,15 +152,15 @@ module _ (ws layouts plates cuts counts : List ℕ) where
 
   -- where the rows before the model refuse, the call does, and the three buffers end as after that refusal
   pub before-refuses :
-      {plates' cuts' counts' : List ℕ} (number place : ℕ)
-      → rows_before ≡ refuse number place
-      → Left number plates plates'
-      → Left number cuts cuts'
-      → Left number counts counts'
-      → Called (Refused number place) plates' cuts' counts'
+      {plates' cuts' counts' : List ℕ} (r : Refused)
+      → rows_before ≡ refuse (number_of r.refusal) r.place
+      → Left (number_of r.refusal) plates plates'
+      → Left (number_of r.refusal) cuts cuts'
+      → Left (number_of r.refusal) counts counts'
+      → Called (Err r) plates' cuts' counts'
   unfolding fold_answer plates_end cuts_end counts_end
-  before-refuses number place e ep ec eq =
-      rw (fold-rows ∙ then-refused rows_before (fold_tail (job_of ws) layouts) number place e) (refl, (ep place [], (ec place [], (eq place [], tt))))
+  before-refuses r e ep ec eq =
+      rw (fold-rows ∙ then-refused rows_before (fold_tail (job_of ws) layouts) _ r.place e) (refl, (ep r.place [], (ec r.place [], (eq r.place [], tt))))
 
   module _ (e : rows_before ≡ pass) where
     -- where they pass, the words are right, the job is admitted and the buffers are of full size
@@ -206,7 +208,7 @@ module _ (ws layouts plates cuts counts : List ℕ) where
           }
 
     -- and these rows decide
-    pub before-pass : (r : FoldAnswer) (plates' cuts' counts' : List ℕ) → Ended (fold_tail (job_of ws) layouts) ws layouts plates cuts counts (says_of r) plates' cuts' counts' → Called r plates' cuts' counts'
+    pub before-pass : (r : Result Boards Refused) (plates' cuts' counts' : List ℕ) → Ended (fold_tail (job_of ws) layouts) ws layouts plates cuts counts (says_of r) plates' cuts' counts' → Called r plates' cuts' counts'
     unfolding fold_answer counts_end
     before-pass r plates' cuts' counts' h =
         rw (fold-rows ∙ then-passed rows_before (fold_tail (job_of ws) layouts) e) (h.answered, (h.plates-end, (h.cuts-end, (h.counts_at_end, promised r h.answered h.counts_at_end))))
@@ -215,10 +217,10 @@ module _ (ws layouts plates cuts counts : List ℕ) where
         results : List ℕ
         results = length (set_of layouts) ∷ set_cost (job_of ws) (set_of layouts) ∷ []
 
-        promised : (r : FoldAnswer) → says_of r ≡ answer (fold_tail (job_of ws) layouts) results → counts' ≡ counts_end (fold_tail (job_of ws) layouts) ws layouts counts → OnSuccess r (FoldPromise ws layouts counts')
-        promised (Refused number place) q c = tt
-        promised (Folded n cost) q c =
+        promised : (r : Result Boards Refused) → says_of r ≡ answer (fold_tail (job_of ws) layouts) results → counts' ≡ counts_end (fold_tail (job_of ws) layouts) ws layouts counts → OnSuccess r (FoldPromise ws layouts counts')
+        promised (Err r) q c = tt
+        promised (Ok b) q c =
             let v : fold_tail (job_of ws) layouts ≡ pass = given-pass (fold_tail (job_of ws) layouts) results q in
             let z : counts' ≡ filled (length counts) (folded (job_of ws) (listing_of (job_of ws)) (set_of layouts)) = rw v at c in
-            let a : given (n ∷ cost ∷ []) ≡ given results = rw v at q in
+            let a : given (b.number ∷ b.cost ∷ []) ≡ given results = rw v at q in
             rw z (folds-so v (cc) (cc))

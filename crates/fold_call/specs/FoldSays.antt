@@ -1,5 +1,5 @@
 -- What the folding call's answer says, in document 01's results, numbers and places; and how a call ends by its verdict.
-use Rattle.std.specs.Prelude.{ℕ, ◌≡◌, List, [], ◌∷◌, length}
+use Rattle.std.specs.Prelude.{ℕ, ◌≡◌, List, [], ◌∷◌, length, Result, Ok, Err}
 use Rattle.job.specs.Verdict.{Verdict, ◌then◌}
 use Rattle.job.specs.Buffers.{Answer, given, refused, answer}
 use Rattle.job.specs.Job.{Job, job_of}
@@ -9,18 +9,19 @@ use Rattle.layouts.specs.Placement.{set_cost}
 use Rattle.layouts.specs.Lines.{rows_of, set_of}
 use Rattle.layouts.specs.LayoutsRow.{layouts_row}
 use Rattle.layouts.specs.FoldCall.{counts_end}
-use Rattle.fold_call.specs.declared.call.FoldAnswer.{FoldAnswer}
-use Rattle.fold_call.specs.declared.call.FoldAnswer.TheVariants.{Folded, Refused}
+use Rattle.job.specs.declared.refused.Refused.{Refused}
+use Rattle.job.specs.Refused.{number_of}
+use Rattle.fold_call.specs.declared.boards.Boards.{Boards}
 
 -- the boards of the set and what they cost (request Six); or the refusal's number and its place
-abbrev pub says_of : FoldAnswer → Answer
-says_of (Folded n cost) = given (n ∷ cost ∷ [])
-says_of (Refused number place) = refused number place
+abbrev pub says_of : Result Boards Refused → Answer
+says_of (Ok b) = given (b.number ∷ b.cost ∷ [])
+says_of (Err r) = refused (number_of r.refusal) r.place
 
 -- what is promised of a call that succeeds
-abbrev pub OnSuccess : FoldAnswer → (ℕ → ℕ → Type 0) → Type 0
-OnSuccess (Folded n cost) promise = promise n cost
-OnSuccess (Refused number place) promise = Unit {0}
+abbrev pub OnSuccess : Result Boards Refused → (ℕ → ℕ → Type 0) → Type 0
+OnSuccess (Ok b) promise = promise b.number b.cost
+OnSuccess (Err r) promise = Unit {0}
 
 -- the rows from the model on
 abbrev pub fold_tail : Job → List ℕ → Verdict

@@ -4,7 +4,7 @@ ghost use Rattle.job.specs.Sizes.{plates_size, cuts_size, counts_size};
 ghost use Rattle.job.specs.Verdict.{pass, ◌then◌};
 ghost use Rattle.job.specs.Buffers.{filled, sized};
 ghost use Rattle.job.specs.Job.{job_of, job_words, admission};
-ghost use Rattle.job.specs.Row.{row_verdict};
+ghost use Rattle.job.specs.Refused.{row_verdict};
 ghost use Rattle.listing.specs.Listing.{listing_of};
 ghost use Rattle.listing.specs.ListCall.{plates_end, cuts_end};
 ghost use Rattle.layouts.specs.Placement.{set_cost};
@@ -20,20 +20,14 @@ use crate::boards::{Boards, count_boards};
 use fold_counts::fold::fold_into;
 use job::counters::CutNumber;
 use job::head::head_of;
-use job::lent::{counts_sized, end_refused};
-use job::row::Row;
+use job::lent::counts_sized;
+use job::refused::Refused;
 use job::sizes::PLACEMENT_WORDS;
 use job::words::clear;
 use layouts_row::front::layout_checks;
 use layouts_row::rows::layouts_row;
-use listing_call::call::{Listed, list_into};
-
-// The boards of the set that is folded and what they cost; or the number of a refusal and the place that it names.
-#[derive(Clone, Copy)]
-pub enum FoldAnswer {
-    Folded(u16, u32),
-    Refused(u16, usize),
-}
+use layouts_strips::lines::Lines;
+use listing_call::call::list_into;
 
 // Folds layout lines that have passed the layouts row, over the k cuts of the job's listing; gives the number of boards and what they cost.
 fn fold_set(job: &[u16], layouts: &[u16], cuts: &[u16], k: CutNumber, counts: &mut [u16]) -> Boards
@@ -42,10 +36,15 @@ fn fold_set(job: &[u16], layouts: &[u16], cuts: &[u16], k: CutNumber, counts: &m
     ensures number_value { (result.number ≡ length (set_of layouts.now)) × (result.cost ≡ set_cost (job_of job.now) (set_of layouts.now)) }
     ensures counts_after { counts.new ≡ filled (length counts.old) (folded (job_of job.now) (listing_of (job_of job.now)) (set_of layouts.now)) }
 {
-    let lines = layouts.len() / PLACEMENT_WORDS;
+    let number = layouts.len() / PLACEMENT_WORDS;
     let head = head_of(job);
-    fold_into(job, layouts, lines, head.mode, cuts, k, counts);
-    count_boards(job, layouts, lines)
+    fold_into(job, layouts, number, head.mode, cuts, k, counts);
+    let lines = Lines {
+        job,
+        layouts,
+        number,
+    };
+    count_boards(&lines)
 }
 
 // Lists an admitted job into buffers of full size, checks the layouts by the layouts row, and folds them.
@@ -55,39 +54,39 @@ fn fold_listed(
     plates: &mut [u16],
     cuts: &mut [u16],
     counts: &mut [u16],
-) -> FoldAnswer
+) -> Result<Boards, Refused>
     requires job_value { (job_words job.now then layout_words (job_of job.now) layouts.now then admission (job_of job.now)) ≡ pass }
     requires plates_size_in_bounds { (plates_size ≤ length plates.old) × ((cuts_size ≤ length cuts.old) × (counts_size ≤ length counts.old)) }
     ensures { Ended (fold_tail (job_of job.now) layouts.now) job.now layouts.now plates.old cuts.old counts.old (says_of result) plates.new cuts.new counts.new }
 {
     match list_into(job, plates, cuts) {
-        Listed::Refused(number, place) => {
+        Err(refused) => {
             clear(counts);
-            FoldAnswer::Refused(number, place)
+            Err(refused)
         }
-        Listed::Done(_, k) => match layouts_row(job, layouts, 1) {
-            Row::Refuses(number, place) => {
+        Ok(listed) => match layouts_row(job, layouts, 1) {
+            Err(row) => {
                 clear(plates);
                 clear(cuts);
                 clear(counts);
-                FoldAnswer::Refused(number, place)
+                Err(row)
             }
-            Row::Passes => {
-                let boards = fold_set(job, layouts, cuts, k, counts);
-                FoldAnswer::Folded(boards.number, boards.cost)
-            }
+            Ok(()) => Ok(fold_set(job, layouts, cuts, listed.cuts, counts)),
         },
     }
 }
 
 // The rows before the model: the words of job and layouts, the job, and then the lent buffers.
-fn fold_checks(job: &[u16], layouts: &[u16], plates: &[u16], cuts: &[u16], counts: &[u16]) -> Row
+fn fold_checks(
+    job: &[u16],
+    layouts: &[u16],
+    plates: &[u16],
+    cuts: &[u16],
+    counts: &[u16],
+) -> Result<(), Refused>
     ensures { row_verdict result ≡ ((job_words job.now then layout_words (job_of job.now) layouts.now then admission (job_of job.now)) then sized 1 plates_size plates.now then sized 2 cuts_size cuts.now then sized 3 counts_size counts.now) }
 {
-    let admitted = layout_checks(job, layouts);
-    let Row::Passes = admitted else {
-        return admitted;
-    };
+    layout_checks(job, layouts)?;
     counts_sized(plates, cuts, counts)
 }
 
@@ -105,7 +104,7 @@ pub fn fold(
     plates: &mut [u16],
     cuts: &mut [u16],
     counts: &mut [u16],
-) -> FoldAnswer
+) -> Result<Boards, Refused>
     ensures result_value { says_of result ≡ fold_answer job.now layouts.now plates.old cuts.old counts.old }
     ensures plates_after { plates.new ≡ plates_end (fold_verdict job.now layouts.now plates.old cuts.old counts.old) job.now plates.old }
     ensures cuts_after { cuts.new ≡ cuts_end (fold_verdict job.now layouts.now plates.old cuts.old counts.old) job.now cuts.old }
@@ -113,12 +112,12 @@ pub fn fold(
     ensures on_success { OnSuccess result (FoldPromise job.now layouts.now counts.new) }
 {
     match fold_checks(job, layouts, plates, cuts, counts) {
-        Row::Refuses(number, place) => {
-            end_refused(number, plates);
-            end_refused(number, cuts);
-            end_refused(number, counts);
-            FoldAnswer::Refused(number, place)
+        Err(refused) => {
+            refused.end(plates);
+            refused.end(cuts);
+            refused.end(counts);
+            Err(refused)
         }
-        Row::Passes => fold_listed(job, layouts, plates, cuts, counts),
+        Ok(()) => fold_listed(job, layouts, plates, cuts, counts),
     }
 }

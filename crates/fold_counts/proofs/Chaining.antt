@@ -5,6 +5,9 @@ use mathlib.Core.Path.{◌≡◌, refl, sym, ap, ◌∙◌}
 use mathlib.Core.Bool.{Bool, true, false}
 use mathlib.Core.List.{List, [], ◌∷◌, ◌++◌, append_assoc}
 use lib.ListN.{length, length-append}
+use Rattle.std.specs.Prelude.{Option, None, Some, is_some}
+use Rattle.std.specs.Option.{option_or}
+use Rattle.job.specs.declared.counters.PlateType.{PlateType}
 use Rattle.job.specs.Lists.{tally, non_empty}
 use Rattle.listing.specs.Listing.{Listing, cut_at}
 use Rattle.listing.specs.Holds.{Holds}
@@ -12,7 +15,7 @@ use Rattle.layouts.specs.Fold.{cut_of}
 use Rattle.fold_counts.specs.declared.count.Left.{Left}
 use Rattle.fold_counts.specs.declared.chain.Chain.{Chain}
 use Rattle.fold_counts.specs.Lent.{Counting}
-use Rattle.fold_counts.specs.Chain.{own, other, LeftBy, chain_cuts, chain_plate, chain_rest, Chained, ChainGoing}
+use Rattle.fold_counts.specs.Chain.{own, other, LeftBy, rest_of, chain_cuts, chain_plate, chain_rest, Chained, ChainGoing}
 
 module _ (l : Listing) (three : Bool) where
   cuts-snoc : (j : ℕ) (xs : List ℕ) (i : ℕ) → chain_cuts l three j (xs ++ i ∷ []) ≡ chain_cuts l three j xs ++ cut_of l (chain_plate l three j xs) i ∷ []
@@ -45,33 +48,32 @@ module _ (l : Listing) (three : Bool) where
   cuts-length j (x ∷ xs) = ap suc (cuts-length (own three (cut_at l (cut_of l j x))) xs)
 
   -- a run at its beginning
-  pub chain-start : {s : Chain} {counts : List ℕ} (j k : ℕ) (ks : List ℕ) → s.plate.0 ≡ j → s.rest.0 ≡ 0 → s.begun ≡ false → Holds counts (tally k 1 ks) → Chained l three j k ks [] s counts
+  pub chain-start : {s : Chain} {counts : List ℕ} (j k : ℕ) (ks : List ℕ) → s.plate.0 ≡ j → s.rest ≡ None → Holds counts (tally k 1 ks) → Chained l three j k ks [] s counts
   unfolding chain_cuts chain_plate chain_rest
-  chain-start j k ks a b c h = record { on = a; beside = b; some = c; counted = rw (mathlib.Core.List.append-nil ks) h }
+  chain-start j k ks a b h = record { on = a; beside = rw b; some = rw b; counted = rw (mathlib.Core.List.append-nil ks) h }
 
   -- the next item: its cut is counted, and what it leaves is known
-  module _ (s t : Chain) {before after : List ℕ} (r : Left) (j k : ℕ) (ks xs : List ℕ) (i : ℕ) (c : Chained l three j k ks xs s before) (left : LeftBy three (cut_at l (cut_of l s.plate.0 i)) r) (more : (ms : List ℕ) → Holds before (tally k 1 ms) → Holds after (tally k 1 (ms ++ cut_of l s.plate.0 i ∷ []))) (on : t.plate.0 ≡ r.own.0) (begun : t.begun ≡ true) where
+  module _ (s t : Chain) {before after : List ℕ} (r : Left) (j k : ℕ) (ks xs : List ℕ) (i : ℕ) (c : Chained l three j k ks xs s before) (left : LeftBy three (cut_at l (cut_of l s.plate.0 i)) r) (more : (ms : List ℕ) → Holds before (tally k 1 ms) → Holds after (tally k 1 (ms ++ cut_of l s.plate.0 i ∷ []))) (on : t.plate.0 ≡ r.own.0) (rest : t.rest ≡ option_or s.rest (Some r.other)) where
     held : Holds after (tally k 1 (ks ++ chain_cuts l three j (xs ++ i ∷ [])))
     held = rw (cuts-snoc j xs i, ← append_assoc ks (chain_cuts l three j xs) (cut_of l (chain_plate l three j xs) i ∷ []), ← c.on) (more (ks ++ chain_cuts l three j xs) c.counted)
 
     on-next : t.plate.0 ≡ chain_plate l three j (xs ++ i ∷ [])
     on-next = on ∙ left.own-left ∙ rw (plate-snoc j xs i, ← c.on)
 
-    pub chain_first : s.begun ≡ false → t.rest.0 ≡ r.other.0 → Chained l three j k ks (xs ++ i ∷ []) t after
-    chain_first e f =
-        record {
-          on = on-next;
-          beside = f ∙ left.other-left ∙ rw (rest-first j xs i (sym e ∙ c.some), ← c.on);
-          some = begun ∙ some-snoc xs i;
-          counted = held;
-        }
+    beside-next : (rest : Option PlateType) → rest_of rest ≡ chain_rest l three j xs → is_some rest ≡ non_empty xs → rest_of (option_or rest (Some r.other)) ≡ chain_rest l three j (xs ++ i ∷ [])
+    beside-next None b e = left.other-left ∙ rw (rest-first j xs i e, ← c.on)
+    beside-next (Some p) b e = b ∙ sym (rest-further j xs i e)
 
-    pub chain-further : s.begun ≡ true → t.rest.0 ≡ s.rest.0 → Chained l three j k ks (xs ++ i ∷ []) t after
-    chain-further e f =
+    some-next : (rest : Option PlateType) → is_some (option_or rest (Some r.other)) ≡ non_empty (xs ++ i ∷ [])
+    some-next None = some-snoc xs i
+    some-next (Some p) = some-snoc xs i
+
+    pub chain-next : Chained l three j k ks (xs ++ i ∷ []) t after
+    chain-next =
         record {
           on = on-next;
-          beside = f ∙ c.beside ∙ sym (rest-further j xs i (sym e ∙ c.some));
-          some = begun ∙ some-snoc xs i;
+          beside = rw rest (beside-next s.rest c.beside c.some);
+          some = rw rest (some-next s.rest);
           counted = held;
         }
 

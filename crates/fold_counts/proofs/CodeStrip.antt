@@ -1,11 +1,12 @@
 -- The loop over the stacks of a three-stage strip, on plain values: the stack that comes to the front, and how far the others are cut.
-use Prim.Native.Nat.{ℕ, ◌+◌, ◌*◌, ◌≤◌, ◌<◌}
+use Prim.Native.Nat.{ℕ, ◌+◌, ◌-◌, ◌*◌, ◌≤◌, ◌<◌}
 use native.Mathlib.Omega.{arith}
 use mathlib.Core.Path.{◌≡◌, refl, sym, ap, ◌∙◌}
-use mathlib.Core.Bool.{Bool, true, false, cond}
+use mathlib.Core.Bool.{Bool, true, false, cond, ◌&&◌}
 use mathlib.Core.List.{List, [], ◌∷◌, ◌++◌, append_assoc, append-nil}
+use lib.Dec.{eqb}
 use lib.ListN.{length, drop, length-append}
-use Rattle.job.specs.Sizes.{max_pieces, words_of_placement}
+use Rattle.job.specs.Sizes.{words_of_placement}
 use Rattle.job.specs.Lists.{any, tally}
 use Rattle.job.proofs.Lists.{any_next}
 use Rattle.job.specs.Job.{Job}
@@ -22,18 +23,16 @@ use Rattle.placement.proofs.Rows.{rows-from}
 use Rattle.layouts_strips.specs.declared.stack.StackMeasure.{StackMeasure}
 use Rattle.layouts_strips.specs.Begun.{begins_stack}
 use Rattle.layouts_strips.specs.First.{stack_of, strip_of}
-use Rattle.layouts_strips.specs.Measures.{StackIs}
+use Rattle.layouts_strips.specs.Measures.{StackIs, StackSmall}
 use Rattle.layouts_strips.proofs.CodeFirst.{when_on, stack-items}
 use Rattle.layouts_strips.proofs.CodeBegun.{line-inside}
 use Rattle.layouts_strips.proofs.CodeStrips.{stacks_left, left-more, left-none, strip-line}
-use Rattle.fold_counts.specs.Lent.{Counting, others_room}
+use Rattle.fold_counts.specs.Lent.{Counting}
+use Rattle.fold_counts.specs.Key.{key_of, items_in}
 use Rattle.fold_counts.specs.Strip.{others, turn_cuts, turn_next}
 use Rattle.fold_counts.proofs.Chaining.{cuts-length}
-use Rattle.fold_counts.proofs.Fronts.{full-one, front-here, front-next, others-turn}
-
--- fewer can be counted where more can
-pub counting-less : {counts : List ℕ} {k n : ℕ} (m : ℕ) → m ≤ n → Counting counts k n → Counting counts k m
-counting-less m h g = record { so_far = g.so_far; held = g.held; few = omega (arith, g.few); room = g.room }
+use Rattle.fold_counts.proofs.StackLines.{stack-types, stack-filled}
+use Rattle.fold_counts.proofs.Fronts.{measured-full, full-one, front-here, front-next, others-turn}
 
 -- and after some have been counted
 pub counting-after : {counts counts' : List ℕ} {k n : ℕ} (m : ℕ) (g : Counting counts k n) (ms : List ℕ) → length ms + m ≤ n → length counts' ≡ length counts → Holds counts' (tally k 1 (g.so_far ++ ms)) → Counting counts' k m
@@ -90,9 +89,6 @@ pub record OthersAt (job : Job) (l : Listing) (h k : ℕ) (start whole : List �
   pub same : length counts ≡ length start
 
 module _ (job : Job) (l : Listing) (h k : ℕ) where
-  pub others-begin : (start : List ℕ) (j n : ℕ) (s : Strip) → OthersAt job l h k start (strip_cuts l j (others job h false s)) j false s n start
-  others-begin start j n s = record { done = []; held = λ ks r. rw (append-nil ks) r; rest = refl; few = omega arith; same = refl }
-
   turn-length : (front : Bool) (j : ℕ) (xs : List ℕ) → length (turn_cuts l front j xs) ≤ length xs
   turn-length true j xs = omega arith
   turn-length false j xs = omega (arith, cuts-length l true j xs)
@@ -130,5 +126,20 @@ module _ (job : Job) (l : Listing) (h k : ℕ) where
       let z : at.done ≡ whole = sym (append-nil at.done) ∙ ap (λ (ms : List ℕ). at.done ++ ms) (sym (none_left j passed)) ∙ (rw e at at.rest) in
       rw (← z) (at.held ks r)
 
-  pub others-counting : {start whole : List ℕ} {j : ℕ} {passed : Bool} {left : Strip} {n : ℕ} {counts : List ℕ} (m : ℕ) → OthersAt job l h k start whole j passed left n counts → Counting start k others_room → n ≤ max_pieces → m ≤ 2 * max_pieces → Counting counts k m
-  others-counting m at g a b = counting-after m g at.done (omega (arith, at.few)) at.same (at.held g.so_far g.held)
+-- the stack that begins behind p lines is cut, or comes to the front; the stacks behind it are left
+module _ (job : Job) (l : Listing) (h k : ℕ) (ws : List ℕ) {lines p : ℕ} {m : StackMeasure} (words : length ws ≡ words_of_placement * lines) (inside : p < lines) (s : StackIs job p (stack_of (drop p (rows_of ws))) m) (small : StackSmall p lines m) where
+  pub others-next :
+      {start whole : List ℕ} {j : ℕ} {passed : Bool} {a : ℕ} {counts : List ℕ} (counts' : List ℕ) {j' : ℕ} {passed' front : Bool}
+      → a ≤ p
+      → OthersAt job l h k start whole j passed (strip_of (drop p (rows_of ws))) (p - a) counts
+      → front ≡ cond passed false (eqb m.end (p + 1) && eqb m.height h)
+      → j' ≡ turn_next l front j (falling (key_of job true) (items_in p (m.end - p) (rows_of ws)))
+      → passed' ≡ cond front true passed
+      → ((ks : List ℕ) → Holds counts (tally k 1 ks) → Holds counts' (tally k 1 (ks ++ turn_cuts l front j (falling (key_of job true) (items_in p (m.end - p) (rows_of ws))))))
+      → length counts' ≡ length counts
+      → OthersAt job l h k start whole j' passed' (stacks_left ws m.end) (m.end - a) counts'
+  others-next {passed = passed} {a = a} counts' {front = front} from at f c d more e =
+      let stack = stack_of (drop p (rows_of ws)) in
+      let xs : falling (key_of job true) (items_in p (m.end - p) (rows_of ws)) ≡ falling (width_of job) stack = ap (falling (key_of job true)) (stack-types job ws p m s) in
+      let full : front ≡ cond passed false (full_stack job h stack) = f ∙ ap (λ (b : Bool). cond passed false b) (measured-full job h p stack m s refl) in
+      others-step job l h k stack (stacks_left ws m.end) (m.end - a) counts' front _ (rw (strip-line job ws lines p words inside s) at at) (stack-filled job p lines stack m s small) full xs c d more e (omega (arith, s.ended, small.begun))

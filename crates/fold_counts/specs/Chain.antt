@@ -1,5 +1,6 @@
 -- Document 01, "Layouts and folding": "it then counts the cuts of that order". A run of items, each cut from what the cut before it left.
-use Rattle.std.specs.Prelude.{ℕ, ◌+◌, ◌^◌, ◌≤◌, ◌<◌, ◌≡◌, Bool, cond, List, [], ◌∷◌, ◌++◌, length}
+use Rattle.std.specs.Prelude.{ℕ, ◌+◌, ◌^◌, ◌≤◌, ◌<◌, ◌≡◌, Bool, cond, List, [], ◌∷◌, ◌++◌, length, Option, is_some, unwrap_or}
+use Rattle.job.specs.declared.counters.PlateType.{PlateType}
 use Rattle.job.specs.Lists.{tally, non_empty}
 use Rattle.listing.specs.Listing.{Cut, Listing, cut_at}
 use Rattle.listing.specs.Holds.{Holds}
@@ -18,6 +19,10 @@ other three c = cond three c.right c.top
 pub record LeftBy (three : Bool) (c : Cut) (r : Left) : Type 0 where
   pub own-left : r.own.0 ≡ own three c
   pub other-left : r.other.0 ≡ other three c
+
+-- what else the first cut of a run left, 0 where none has been made
+abbrev pub rest_of : Option PlateType → ℕ
+rest_of rest = (unwrap_or rest (record { 0 = 0 })).0
 
 module _ (l : Listing) (three : Bool) where
   -- the cuts of a run that begins on plate type j
@@ -38,8 +43,8 @@ module _ (l : Listing) (three : Bool) where
 -- a run that began on plate type j has come past the items `xs`, and their cuts are counted behind the cuts `ks`
 pub record Chained (l : Listing) (three : Bool) (j k : ℕ) (ks xs : List ℕ) (s : Chain) (counts : List ℕ) : Type 0 where
   pub on : s.plate.0 ≡ chain_plate l three j xs
-  pub beside : s.rest.0 ≡ chain_rest l three j xs
-  pub some : s.begun ≡ non_empty xs
+  pub beside : rest_of s.rest ≡ chain_rest l three j xs
+  pub some : is_some s.rest ≡ non_empty xs
   pub counted : Holds counts (tally k 1 (ks ++ chain_cuts l three j xs))
 
 -- some run goes on, of which n more items can be counted

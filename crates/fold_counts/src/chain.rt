@@ -8,12 +8,11 @@ ghost use Rattle.fold_counts.specs.Chain.{Chained};
 use crate::count::count_cut;
 use job::counters::{CutNumber, ItemPosition, PlateType};
 
-// The plate type that the next item is cut from; whether an item has been cut, and what else the first of them left.
-#[derive(Clone, Copy)]
+// The plate type that the next item is cut from, and what else the first item's cut left, once there is one.
+#[derive(Clone, Copy, Debug, PartialEq, Eq)]
 pub struct Chain {
     pub plate: PlateType,
-    pub rest: PlateType,
-    pub begun: bool,
+    pub rest: Option<PlateType>,
 }
 
 impl Chain {
@@ -30,22 +29,10 @@ impl Chain {
         requires counting { Counting counts.old k.0 1 }
         ensures { (l : Listing) → CutsLent l cuts.now k.0 → (j : ℕ) (ks xs : List ℕ) → Chained l three j k.0 ks xs self counts.old → Chained l three j k.0 ks (xs ++ i.0 ∷ []) result counts.new }
     {
-        let rest = self.rest;
-        let begun = self.begun;
         let left = count_cut(cuts, k, self.plate, i, three, counts);
-        let plate = left.own;
-        let other = left.other;
-        if begun {
-            return Chain {
-                plate,
-                rest,
-                begun: true,
-            };
-        }
         Chain {
-            plate,
-            rest: other,
-            begun: true,
+            plate: left.own,
+            rest: self.rest.or(Some(left.other)),
         }
     }
 }

@@ -10,10 +10,10 @@ ghost use Rattle.fold_counts.specs.Chain.{LeftBy};
 
 use job::counters::{CutNumber, ItemPosition, PlateType};
 use listing::cut::cut_at;
-use listing_find::search::{Found, find_cut};
+use listing_find::search::find_cut;
 
 // What a cut leaves: the plate type that the next item of its run is cut from, and the other one.
-#[derive(Clone, Copy)]
+#[derive(Clone, Copy, Debug, PartialEq, Eq)]
 pub struct Left {
     pub own: PlateType,
     pub other: PlateType,
@@ -34,7 +34,7 @@ pub fn count_cut(
     ensures left_by { (l : Listing) → CutsLent l cuts.now k.0 → LeftBy three (cut_at l (cut_of l j.0 i.0)) result }
     ensures holds { (l : Listing) → CutsLent l cuts.now k.0 → (ks : List ℕ) → Holds counts.old (tally k.0 1 ks) → Holds counts.new (tally k.0 1 (ks ++ cut_of l j.0 i.0 ∷ [])) }
 {
-    let Found::At(c) = find_cut(cuts, k, j, i) else {
+    let Some(c) = find_cut(cuts, k, j, i) else {
         return Left {
             own: PlateType(0),
             other: PlateType(0),
@@ -43,16 +43,14 @@ pub fn count_cut(
     let at = c.0 as usize - 1;
     counts[at] = counts[at] + 1;
     let cut = cut_at(cuts, c);
-    let top = cut.top;
-    let right = cut.right;
     if three {
         return Left {
-            own: top,
-            other: right,
+            own: cut.top,
+            other: cut.right,
         };
     }
     Left {
-        own: right,
-        other: top,
+        own: cut.right,
+        other: cut.top,
     }
 }

@@ -11,10 +11,8 @@ use Rattle.fold_text_reader.specs.Parts.{After, lent}
 use Rattle.fold_text_reader.proofs.CodeSplits.{part-read}
 
 -- up to `at` the text has been fed
-pub record ReadTo (text : List ℕ) (at : ℕ) (f : FoldReader) (job₀ layouts₀ job layouts : List ℕ) : Type 0 where
+pub record ReadTo (text : List ℕ) (at : ℕ) (f : FoldReader) (job layouts : List ℕ) : Type 0 where
   pub within : at ≤ length text
-  pub job-length : length job ≡ length job₀
-  pub layouts-length : length layouts ≡ length layouts₀
   pub after : After (take at text) f (lent job layouts)
 
 module _ (text : List ℕ) (at : ℕ) {f f' : FoldReader} {job layouts job' layouts' : List ℕ} (a : After (take at text) f (lent job layouts)) where

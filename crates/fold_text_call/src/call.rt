@@ -25,36 +25,20 @@ pub fn fold_text(
 ) -> usize
     ensures { Called text.now (lent out.old job.old layouts.old plates.old cuts.old counts.old) result (lent out.new job.new layouts.new plates.new cuts.new counts.new) }
 {
-    if has_room(
-        job.len(),
-        layouts.len(),
-        plates.len(),
-        cuts.len(),
-        counts.len(),
-        out.len(),
-    ) {
-        let begun = start(job, layouts);
-        let whole = feed(begun, text, job, layouts);
-        return finish(whole, job, layouts, plates, cuts, counts, out);
-    }
-    0
+    fold_in_parts(text, &[], out, job, layouts, plates, cuts, counts)
 }
 
 // Feeds a text in parts that end at the given places, and then the rest of it.
+// One loop for both texts is no plainer: `feed` takes two lent buffers here and five in `saw_text_call`, which a trait would want as a struct of each.
 fn read_in_parts(text: &[u8], ends: &[u32], job: &mut [u16], layouts: &mut [u16]) -> FoldReader
     requires { (longest_job ≤ length job.old) × (layouts_size ≤ length layouts.old) }
     ensures { After text.now result (words job.new layouts.new) }
 {
     let mut reader = start(job, layouts);
-    let mut at: usize = 0;
-    let mut i: usize = 0;
-    while i < ends.len() {
-        let end = ends[i] as usize;
-        i += 1;
-        if end <= at {
-            continue;
-        }
-        if text.len() < end {
+    let mut at = 0;
+    for &end in ends {
+        let end = end as usize;
+        if end <= at || text.len() < end {
             continue;
         }
         reader = feed(reader, &text[at..end], job, layouts);

@@ -4,13 +4,11 @@ use native.Mathlib.Omega.{arith}
 use mathlib.Core.Path.{◌≡◌, refl, sym, ap, ap₂, ◌∙◌, subst}
 use mathlib.Core.List.{List}
 use lib.ListN.{length, take}
-use lib.Seq.{take_all, length-take-le}
-use Rattle.job.specs.Sizes.{words_of_placement, max_sizes, max_types, job_size, longest_job}
+use lib.Seq.{take_all}
+use Rattle.job.specs.Sizes.{words_of_placement, job_size}
 use Rattle.job.specs.Verdict.{pass, refuse, ◌then◌}
 use Rattle.job.specs.Buffers.{sized, plates_size, cuts_size}
 use Rattle.job.specs.Job.{Job, job_of, job_words, admission, max_pieces}
-use Rattle.job.specs.declared.counters.PlateTypes.{PlateTypes}
-use Rattle.job.specs.declared.counters.CutNumber.{CutNumber}
 use Rattle.job.proofs.Verdicts.{then-assoc, then-first, then-second, then-passed, then-refused}
 use Rattle.job.proofs.CodeEnds.{given-pass, refused-refuse}
 use Rattle.listing.specs.Listing.{Cut, model_row}
@@ -19,8 +17,10 @@ use Rattle.listing.specs.CutRead.{cut_read}
 use Rattle.listing.specs.CutRead.{Lent as CutsSound}
 use Rattle.listing.proofs.CodeCuts.{length-cuts_from, cut-read}
 use Rattle.listing.specs.ListCall.{list_verdict, list_answer, plates_end, cuts_end}
-use Rattle.listing_call.specs.declared.call.Listed.{Listed}
-use Rattle.listing_call.specs.declared.call.Listed.TheVariants.{Done, Refused}
+use Rattle.std.specs.Prelude.{Result, Ok, Err}
+use Rattle.job.specs.declared.refused.Refused.{Refused}
+use Rattle.job.specs.Refused.{number_of}
+use Rattle.listing_call.specs.declared.walk.Listed.{Listed}
 use Rattle.listing_call.specs.ListSays.{says_of, SizesListed}
 use Rattle.listing_call.proofs.CodeEnding.{sizes-listed}
 use Rattle.plan_test.proofs.CodeListed.{Ready, ready}
@@ -40,10 +40,12 @@ on-plate : (ws cuts : List ℕ) (t n m k : ℕ) → CutsSound ws cuts t n m k �
 on-plate ws cuts t n m k lent c h = omega (arith, ap (λ (x : Cut). x.plate) (cut-read k c cuts h), (lent.sound.each c (rw length-cuts_from h)).on-plate)
 
 -- what the listing call says and leaves, lent buffers of full size
-module _ (ws plates cuts plates' cuts' : List ℕ) (np : length plates' ≡ length plates) (nc : length cuts' ≡ length cuts) (ps : plates_size ≤ length plates) (cs : cuts_size ≤ length cuts) (a : Listed) (all : SizesListed (job_of ws) a) (says : says_of (job_of ws) a ≡ list_answer ws plates cuts) (pe : plates' ≡ plates_end (list_verdict ws plates cuts) ws plates) (ce : cuts' ≡ cuts_end (list_verdict ws plates cuts) ws cuts) where
-  pub listed-so : (m : PlateTypes) (k : CutNumber) → a ≡ Done m k → ListedLent ws plates' cuts' k.0
+module _ (ws plates cuts plates' cuts' : List ℕ) (np : length plates' ≡ length plates) (nc : length cuts' ≡ length cuts) (ps : plates_size ≤ length plates) (cs : cuts_size ≤ length cuts) (a : Result Listed Refused) (all : SizesListed (job_of ws) a) (says : says_of (job_of ws) a ≡ list_answer ws plates cuts) (pe : plates' ≡ plates_end (list_verdict ws plates cuts) ws plates) (ce : cuts' ≡ cuts_end (list_verdict ws plates cuts) ws cuts) where
+  pub listed-so : (x : Listed) → a ≡ Ok x → ListedLent ws plates' cuts' x.cuts.0
   unfolding list_answer list_verdict plates_end cuts_end
-  listed-so m k e =
+  listed-so x e =
+      let m = x.plates in
+      let k = x.cuts in
       let job = job_of ws in
       let told = sym (ap (says_of (job_of ws)) e) ∙ says in
       let v = given-pass (list_verdict ws plates cuts) _ told in
@@ -65,18 +67,15 @@ module _ (ws plates cuts plates' cuts' : List ℕ) (np : length plates' ≡ leng
         plates-there = λ c h. omega (arith, on-plate ws cuts' (board_sizes ws) (types_of ws) m.0 k.0 r.lent c h, r.lent.few-plates, np, ps);
       }
 
-  pub rows-refused : (number place : ℕ) → a ≡ Refused number place → job_words ws ≡ pass → job_model_row ws ≡ refuse number place
+  pub rows-refused : (r : Refused) → a ≡ Err r → job_words ws ≡ pass → job_model_row ws ≡ refuse (number_of r.refusal) r.place
   unfolding list_answer
-  rows-refused number place e w =
+  rows-refused r e w =
       list-refused ws plates cuts ps cs w (refused-refuse (list_verdict ws plates cuts) _ (sym (ap (says_of (job_of ws)) e) ∙ says))
 
 -- the words of a job of t sizes and n types in the buffer that keeps them
 module _ (job : List ℕ) (t n : ℕ) where
   pub words_are : (ws : List ℕ) → t ≡ board_sizes job → n ≡ types_of job → Holds job ws → job_words ws ≡ pass → take (job_size t n) job ≡ ws
   words_are ws z e held passed = ap (λ (m : ℕ). take m job) (ap₂ job_size z e) ∙ words-kept job ws held passed
-
-  pub words-there : t ≤ max_sizes → n ≤ max_types → longest_job ≤ length job → job_size t n ≡ length (take (job_size t n) job)
-  words-there z h l = sym (length-take-le (job_size t n) job (omega arith))
 
 -- the lines 7, where at most 4,000 are kept
 module _ (ws ls layouts : List ℕ) (rows : ℕ) (size : length ls ≡ words_of_placement * rows) where

@@ -1,9 +1,9 @@
 -- Buffers of full size at the end of a fold text.
-use Prim.Native.Nat.{ℕ, ◌≤◌, ◌<◌}
+use Prim.Native.Nat.{ℕ, ◌≤◌}
 use mathlib.Core.Path.{◌≡◌}
-use mathlib.Core.Bool.{Bool, true, false, ◌&&◌}
+use mathlib.Core.Bool.{Bool, true, ◌&&◌}
 use lib.Dec.{leb}
-use borrow.Author.Tests.{leb-true, le-leb, lt-leb}
+use borrow.Author.Tests.{leb-true, le-leb}
 use Rattle.job.specs.Sizes.{longest_job, plates_size, cuts_size, counts_size, placements_size}
 use Rattle.job.proofs.Tests.{and_left, and_right}
 use Rattle.texts_writing.specs.Wrote.{longest_fold}
@@ -43,31 +43,20 @@ module _ (job layouts plates cuts counts out : ℕ) where
         for-out = leb-true longest_fold out (and_right e (leb longest_fold out) h);
       }
 
-  -- one of them is short
-  pub short-job : job < longest_job → false ≡ Room
+  -- where all the others have their full sizes, the output decides
+  pub by_out :
+      longest_job ≤ job
+      → placements_size ≤ layouts
+      → plates_size ≤ plates
+      → cuts_size ≤ cuts
+      → counts_size ≤ counts
+      → leb longest_fold out ≡ Room
   unfolding room_to_end
-  short-job h = rw (lt-leb longest_job job h)
-
-  module _ (js : longest_job ≤ job) where
-    pub short-layouts : layouts < placements_size → false ≡ Room
-    unfolding room_to_end
-    short-layouts h = rw (le-leb longest_job job js, lt-leb placements_size layouts h)
-
-    module _ (ls : placements_size ≤ layouts) where
-      pub short-plates : plates < plates_size → false ≡ Room
-      unfolding room_to_end
-      short-plates h = rw (le-leb longest_job job js, le-leb placements_size layouts ls, lt-leb plates_size plates h)
-
-      module _ (ps : plates_size ≤ plates) where
-        pub short-cuts : cuts < cuts_size → false ≡ Room
-        unfolding room_to_end
-        short-cuts h = rw (le-leb longest_job job js, le-leb placements_size layouts ls, le-leb plates_size plates ps, lt-leb cuts_size cuts h)
-
-        module _ (cs : cuts_size ≤ cuts) where
-          pub short-counts : counts < counts_size → false ≡ Room
-          unfolding room_to_end
-          short-counts h = rw (le-leb longest_job job js, le-leb placements_size layouts ls, le-leb plates_size plates ps, le-leb cuts_size cuts cs, lt-leb counts_size counts h)
-
-          pub by_out : counts_size ≤ counts → leb longest_fold out ≡ Room
-          unfolding room_to_end
-          by_out h = rw (le-leb longest_job job js, le-leb placements_size layouts ls, le-leb plates_size plates ps, le-leb cuts_size cuts cs, le-leb counts_size counts h)
+  by_out js ls ps cs ns =
+      rw (
+        le-leb longest_job job js,
+        le-leb placements_size layouts ls,
+        le-leb plates_size plates ps,
+        le-leb cuts_size cuts cs,
+        le-leb counts_size counts ns,
+      )

@@ -19,12 +19,12 @@ use crate::line_row::fold_row;
 use fold_text_reader::lines::MOST_ROWS;
 use job::counters::CutNumber;
 use job::head::head_of;
-use job::row::Row;
+use job::refused::Refusal;
 use job::sizes::{
     COUNTS_SIZE, CUTS_SIZE, HEAD_WORDS, ITEM_WORDS, JOB_SIZE, MAX_SIZES, MAX_TYPES,
     PLACEMENT_WORDS, PLACEMENTS_SIZE, PLATES_SIZE, SIZE_WORDS,
 };
-use listing_call::call::{Listed, list};
+use listing_call::call::list;
 use texts_reading::text::TextReader;
 use texts_writing::sizes::LONGEST_FOLD;
 
@@ -45,7 +45,7 @@ fn answer_listed(
     ensures { (ls : List ℕ) → length ls ≡ words_of_placement * rows → layout_words (job_of job.now) ls ≡ pass → Holds layouts.now (take layouts_size ls) → Answered (layouts_row (body_line job.now) (job_of job.now) (rows_of ls)) job.now ls out.old (length plates.old) (length cuts.old) (length counts.old) result out.new plates.new cuts.new counts.new }
 {
     if rows > MOST_ROWS {
-        return refuse(plates, cuts, counts, out, 10, 0);
+        return refuse(plates, cuts, counts, out, Refusal::Total.number(), 0);
     }
     let size = PLACEMENT_WORDS * (rows as usize);
     answer_rows(job, &layouts[..size], plates, cuts, k, counts, out)
@@ -69,22 +69,19 @@ fn answer_job(
     let head = head_of(job);
     let t = head.sizes;
     let n = head.types;
-    if t.0 > MAX_SIZES {
-        return 0;
-    }
-    if n.0 > MAX_TYPES {
+    if t.0 > MAX_SIZES || n.0 > MAX_TYPES {
         return 0;
     }
     let words = HEAD_WORDS + SIZE_WORDS * (t.0 as usize) + ITEM_WORDS * (n.0 as usize);
     match list(&job[..words], plates, cuts) {
-        Listed::Refused(number, place) => { refuse(plates, cuts, counts, out, number, place) }
-        Listed::Done(_, k) => answer_listed(
+        Err(row) => refuse(plates, cuts, counts, out, row.refusal.number(), row.place),
+        Ok(listed) => answer_listed(
             rows,
             &job[..words],
             layouts,
             plates,
             cuts,
-            k,
+            listed.cuts,
             counts,
             out,
         ),
@@ -92,6 +89,7 @@ fn answer_job(
 }
 
 // Whether each lent buffer has its full size, and the output room for the longest.
+#[tactic(auto, unfolding(crate::specs::FoldEnd::room_to_end))]
 pub fn has_room(
     job: usize,
     layouts: usize,
@@ -102,22 +100,12 @@ pub fn has_room(
 ) -> bool
     ensures { result ≡ room_to_end job layouts plates cuts counts out }
 {
-    if job < JOB_SIZE {
-        return false;
-    }
-    if layouts < PLACEMENTS_SIZE {
-        return false;
-    }
-    if plates < PLATES_SIZE {
-        return false;
-    }
-    if cuts < CUTS_SIZE {
-        return false;
-    }
-    if counts < COUNTS_SIZE {
-        return false;
-    }
-    LONGEST_FOLD <= out
+    JOB_SIZE <= job
+        && PLACEMENTS_SIZE <= layouts
+        && PLATES_SIZE <= plates
+        && CUTS_SIZE <= cuts
+        && COUNTS_SIZE <= counts
+        && LONGEST_FOLD <= out
 }
 
 // What is written where a fold text ends, from where it stands and what is kept of it; the number of bytes is handed back.
@@ -143,8 +131,8 @@ pub fn end_text(
         out.len(),
     ) {
         return match fold_row(text) {
-            Row::Refuses(number, place) => refuse(plates, cuts, counts, out, number, place),
-            Row::Passes => answer_job(rows, job, layouts, plates, cuts, counts, out),
+            Err(row) => refuse(plates, cuts, counts, out, row.number, row.place),
+            Ok(()) => answer_job(rows, job, layouts, plates, cuts, counts, out),
         };
     }
     0

@@ -16,7 +16,6 @@ ghost use Rattle.fold_text_ending.specs.FoldEnd.{ListedLent, Answered};
 use fold_counts::fold::fold_into;
 use job::counters::CutNumber;
 use job::head::head_of;
-use job::row::Row;
 use job::sizes::PLACEMENT_WORDS;
 use job::words::clear;
 use layouts_row::front::layout_checks;
@@ -86,10 +85,10 @@ pub fn answer_rows(
     let head = head_of(job);
     let first = head.sizes.0 as usize + head.types.0 as usize + 2;
     match layout_checks(job, layouts) {
-        Row::Refuses(number, place) => refuse(plates, cuts, counts, out, number, place),
-        Row::Passes => match layouts_row(job, layouts, first) {
-            Row::Refuses(number, place) => refuse(plates, cuts, counts, out, number, place),
-            Row::Passes => write_fold(job, layouts, plates, cuts, k, counts, out),
+        Err(row) => refuse(plates, cuts, counts, out, row.refusal.number(), row.place),
+        Ok(()) => match layouts_row(job, layouts, first) {
+            Err(row) => refuse(plates, cuts, counts, out, row.refusal.number(), row.place),
+            Ok(()) => write_fold(job, layouts, plates, cuts, k, counts, out),
         },
     }
 }

@@ -1,7 +1,6 @@
 -- Which lines a fold text admits by its state, what comes after each, and what a line that is refused makes of state and lent words.
 use Prim.Native.Nat.{ℕ, zero, suc, ◌*◌}
 use mathlib.Core.Path.{◌≡◌, refl, sym, ap, ap₂, ◌∙◌, subst}
-use mathlib.Core.Logic.{◌⊎◌, ⊎_elim}
 use mathlib.Core.List.{List, [], ◌∷◌, ◌++◌}
 use mathlib.Core.Option.{some}
 use native.Mathlib.Omega.{arith}
@@ -16,13 +15,13 @@ use Rattle.texts.specs.Reader.{Reader, refused_as, line_read}
 use Rattle.texts.specs.JobLines as definition
 use Rattle.texts.specs.FoldText.{Fold, fold_of, fold_admits, fold_after, fold_grammar}
 use Rattle.texts_reading.specs.declared.text.Place.{Place}
-use Rattle.texts_reading.specs.declared.text.Place.TheVariants.{First, Sizes, Types, Body, ItemPrices, PlatePrices, Done}
+use Rattle.texts_reading.specs.declared.text.Place.TheVariants.{First, Sizes, Types, Body}
 use Rattle.texts_reading.specs.Judged.{line_verdict}
 use Rattle.texts_reading.specs.Standing.{place_of, TextAt}
 use Rattle.texts_reading.proofs.JobKept.{held-take}
 use Rattle.texts_reading.proofs.CodeText.{kept-refused, line_refused, at_ready}
 use Rattle.fold_text_reader.specs.declared.fold.FoldReader.{FoldReader}
-use Rattle.fold_text_reader.specs.FoldKept.{held_words, PlaceReady, FoldReady, WordsSoFar, FoldKept, Step}
+use Rattle.fold_text_reader.specs.FoldKept.{held_words, FoldReady, WordsSoFar, FoldKept, Step}
 
 -- what comes next, by the definition's state
 abbrev pub place : Fold → definition.Place
@@ -32,26 +31,6 @@ place s = s.place
 pub no_words : (ws : List ℕ) (rows : ℕ) → length ws ≡ words_of_placement * rows → rows ≡ 0 → ws ≡ []
 no_words [] rows e z = refl
 no_words (w ∷ ws) rows e z = absurd (omega arith)
-
--- a fold text stands at no other place than line 1, a line 10, a line 2 or the body; `tag` numbers the places
-pub elsewhere :
-    (tag : Place → ℕ)
-    → tag First ≡ 0
-    → ((j : PlateType) → tag (Sizes j) ≡ 1)
-    → ((i : ItemType) → tag (Types i) ≡ 2)
-    → tag Body ≡ 3
-    → (p : Place)
-    → (tag p ≡ 4) ⊎ ((tag p ≡ 5) ⊎ (tag p ≡ 6))
-    → (t n rows : ℕ)
-    → PlaceReady p t n rows
-    → ⊥
-elsewhere tag a z b d First k t n rows h = ⊎_elim (λ w. omega (arith, a, w)) (λ v. ⊎_elim (λ w. omega (arith, a, w)) (λ w. omega (arith, a, w)) v) k
-elsewhere tag a z b d (Sizes j) k t n rows h = ⊎_elim (λ w. omega (arith, z j, w)) (λ v. ⊎_elim (λ w. omega (arith, z j, w)) (λ w. omega (arith, z j, w)) v) k
-elsewhere tag a z b d (Types i) k t n rows h = ⊎_elim (λ w. omega (arith, b i, w)) (λ v. ⊎_elim (λ w. omega (arith, b i, w)) (λ w. omega (arith, b i, w)) v) k
-elsewhere tag a z b d Body k t n rows h = ⊎_elim (λ w. omega (arith, d, w)) (λ v. ⊎_elim (λ w. omega (arith, d, w)) (λ w. omega (arith, d, w)) v) k
-elsewhere tag a z b d (ItemPrices i) k t n rows h = h
-elsewhere tag a z b d (PlatePrices j) k t n rows h = h
-elsewhere tag a z b d Done k t n rows h = h
 
 -- ---- a line that is refused
 

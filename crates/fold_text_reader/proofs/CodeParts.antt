@@ -1,5 +1,5 @@
 -- What a whole line, and what a part, makes of a fold text in its state and lent words.
-use Prim.Native.Nat.{ℕ, suc, ◌+◌, ◌-◌, ◌/◌, ◌≤◌, ◌<◌, zero-le}
+use Prim.Native.Nat.{ℕ, suc, ◌+◌, ◌-◌, ◌/◌, ◌≤◌, ◌<◌}
 use mathlib.Core.Path.{◌≡◌, refl, sym, ap, ◌∙◌}
 use mathlib.Core.Bool.{true, false}
 use mathlib.Core.List.{List, [], ◌++◌}
@@ -11,7 +11,7 @@ use Rattle.job.specs.Sizes.{longest_job}
 use Rattle.job.specs.Verdict.{refuse}
 use Rattle.listing.proofs.CodeHolds.{cleared}
 use Rattle.columns.specs.Widths.{group_bytes}
-use Rattle.columns.specs.declared.line.Line.{Line}
+use Rattle.std.specs.Prelude.{Option as Option·std, Some, None}
 use Rattle.columns.specs.Line.{read_line, line_from}
 use Rattle.texts.specs.Reader.{Reader, longest_line, started, refused_as, line_read, fed}
 use Rattle.texts.specs.FoldText.{Fold, fold_grammar}
@@ -56,38 +56,34 @@ started-kept f job layouts {job'} {layouts'} a z e d p q =
 
 -- ---- a line that ends in the part
 
-module _ (part : List ℕ) (at end : ℕ) (f : FoldReader) (job layouts : List ℕ) (line : Line) (reads : (bs : List ℕ) → Begun f.text.pending bs → line ≡ line_from (read_line (bs ++ take (end + 1 - at) (drop at part)))) where
+module _ (part : List ℕ) (at end : ℕ) (f : FoldReader) (job layouts : List ℕ) (line : Option·std (List ℕ)) (reads : (bs : List ℕ) → Begun f.text.pending bs → line ≡ line_from (read_line (bs ++ take (end + 1 - at) (drop at part)))) where
   abbrev after : Reader Fold → Reader Fold
   after r = line_read fold_grammar r (read_line (r.pending ++ take (end + 1 - at) (drop at part)))
 
   -- it is not of the form
-  pub line-bad : line.good ≡ false → (r : Reader Fold) → FoldKept r f job layouts → after r ≡ refused_as fold_grammar r (refuse 1 (suc r.lines))
+  pub line-bad : line ≡ None → (r : Reader Fold) → FoldKept r f job layouts → after r ≡ refused_as fold_grammar r (refuse 1 (suc r.lines))
   line-bad b r k =
       let o : Option (List ℕ) = read_line (r.pending ++ take (end + 1 - at) (drop at part)) in
-      let g : (line_from o).good ≡ false = ap (λ (l : Line). l.good) (sym (reads r.pending k.text.begun)) ∙ b in
-      ap (line_read fold_grammar r) (line-not o g) ∙ line-malformed fold_grammar r
+      ap (line_read fold_grammar r) (line-not o (sym (reads r.pending k.text.begun) ∙ b)) ∙ line-malformed fold_grammar r
 
   -- or its numbers are read
   pub line_step :
-      line.good ≡ true
+      (numbers : List ℕ)
+      → line ≡ Some numbers
       → at ≤ end
       → end < length part
       → {f' : FoldReader} {job' layouts' : List ℕ}
-      → Step (λ r. line_read fold_grammar r (some (take ((f.text.pending.length + (end + 1 - at)) / group_bytes) line.numbers))) f job layouts f' job' layouts'
+      → Step (λ r. line_read fold_grammar r (some (take ((f.text.pending.length + (end + 1 - at)) / group_bytes) numbers))) f job layouts f' job' layouts'
       → Step after f job layouts f' job' layouts'
-  line_step b p q s = record { ready = s.ready; kept = λ r k. rw (is r k) (s.kept r k) }
+  line_step numbers b p q s = record { ready = s.ready; kept = λ r k. rw (is r k) (s.kept r k) }
     where
-      is : (r : Reader Fold) → FoldKept r f job layouts → read_line (r.pending ++ take (end + 1 - at) (drop at part)) ≡ some (take ((f.text.pending.length + (end + 1 - at)) / group_bytes) line.numbers)
+      is : (r : Reader Fold) → FoldKept r f job layouts → read_line (r.pending ++ take (end + 1 - at) (drop at part)) ≡ some (take ((f.text.pending.length + (end + 1 - at)) / group_bytes) numbers)
       is r k =
           let bs : List ℕ = r.pending ++ take (end + 1 - at) (drop at part) in
-          let e = reads r.pending k.text.begun in
-          let (ns, w) = line-numbers bs (ap (λ (l : Line). l.good) (sym e) ∙ b) in
+          let (ns, w) = line-numbers bs numbers (sym (reads r.pending k.text.begun) ∙ b) in
           let t : length (take (end + 1 - at) (drop at part)) ≡ end + 1 - at = simp (length-take, length-drop) (omega arith) in
           let n : f.text.pending.length + (end + 1 - at) ≡ length bs = rw (length-append r.pending (take (end + 1 - at) (drop at part)), t, k.text.begun.size) in
-          let held =
-          ap (λ (l : Line). take ((f.text.pending.length + (end + 1 - at)) / group_bytes) l.numbers) e
-          ∙ ap (λ (m : ℕ). take (m / group_bytes) (line_from (read_line bs)).numbers) n
-          ∙ w.held in
+          let held = ap (λ (m : ℕ). take (m / group_bytes) numbers) n ∙ w.held in
           w.read ∙ ap (λ (l : List ℕ). some l) (sym held)
 
 -- a line that was read to its end
@@ -107,10 +103,6 @@ pub record Going (part : List ℕ) (f₀ : FoldReader) (job₀ layouts₀ : List
   pub job-length : length job ≡ length job₀
   pub layouts-length : length layouts ≡ length layouts₀
   pub going : (r : Reader Fold) → FoldKept r f₀ job₀ layouts₀ → (p : Reader Fold) × FoldKept p f job layouts × (fed fold_grammar r part ≡ fed fold_grammar p (drop at part))
-
-pub going_start : (part : List ℕ) (f : FoldReader) (job layouts : List ℕ) → FoldReady f job layouts → Going part f job layouts f job layouts 0
-going_start part f job layouts q =
-    record { ready = q; within = zero-le; job-length = refl; layouts-length = refl; going = λ r k. (r, k, refl) }
 
 module _ (part : List ℕ) (f₀ : FoldReader) (job₀ layouts₀ : List ℕ) (f : FoldReader) (job layouts : List ℕ) (at : ℕ) (g : Going part f₀ job₀ layouts₀ f job layouts at) where
   -- the part is over
@@ -179,7 +171,3 @@ pub fed-ready :
     → ((r : Reader Fold) → FoldKept r f job layouts → FoldKept (fed fold_grammar r part) f' job' layouts')
     → Fed part f job layouts f' job' layouts'
 fed-ready q h = record { kept = h; state-same = λ z. absurd (z q); job-same = λ z. absurd (z q); layouts_same = λ z. absurd (z q) }
-
--- a state that is not ready keeps no reader
-pub fed-unready : {part : List ℕ} {f : FoldReader} {job layouts : List ℕ} → (FoldReady f job layouts → ⊥) → Fed part f job layouts f job layouts
-fed-unready n = record { kept = λ r k. absurd (n k.ready); state-same = λ z. refl; job-same = λ z. refl; layouts_same = λ z. refl }

@@ -7,8 +7,8 @@ ghost use Rattle.texts_reading.specs.LineEnd.{LineEnd};
 ghost use Rattle.texts_reading.specs.Standing.{line_ends};
 ghost use Rattle.fold_text_reader.specs.FoldKept.{FoldReady, Step, Started, Fed};
 
-use columns::line::Complete;
 use columns::widths::{GROUP, MOST_NUMBERS};
+use job::refused::Refusal;
 use job::words::clear;
 use texts::widths::LONGEST_LINE;
 use texts_reading::scan::line_end;
@@ -36,15 +36,11 @@ impl FoldReader {
         requires part_value { line_ends self.text at end (length part.now) ≡ true }
         ensures { Step (λ q. line_read fold_grammar q (read_line (q.pending ++ take (end + 1 - at) (drop at part.now)))) self job.old layouts.old result job.new layouts.new }
     {
-        let text = self.text;
-        let pending = text.pending;
-        let held = pending.length;
-        let line = pending.line(part, at, end + 1);
-        if !line.good {
-            return self.refused(1);
-        }
-        let groups = (held + (end + 1 - at)) / GROUP;
-        let numbers = line.numbers;
+        let pending = self.text.pending;
+        let Some(numbers) = pending.line(part, at, end + 1) else {
+            return self.refused(Refusal::Form.number());
+        };
+        let groups = (pending.length + (end + 1 - at)) / GROUP;
         self.numbers(&numbers[..groups], job, layouts)
     }
 
@@ -58,20 +54,17 @@ impl FoldReader {
         while at < part.len() {
             let text = reader.text;
             let mut numbers = [0u32; MOST_NUMBERS];
-            if let Complete::Numbers(k) = text.line_within(part, at, &mut numbers) {
+            if let Some(k) = text.line_within(part, at, &mut numbers) {
                 let end = at + GROUP * k;
                 reader = reader.numbers(&numbers[..k], job, layouts);
                 at = end + 1;
                 continue;
             }
-            let rows = reader.rows;
-            let pending = text.pending;
-            let held = pending.length;
-            let end = line_end(part, at, LONGEST_LINE - held);
+            let end = line_end(part, at, LONGEST_LINE - text.pending.length);
             if !text.line_ends(at, end, part.len()) {
                 return FoldReader {
                     text: text.rest(part, at, end),
-                    rows,
+                    rows: reader.rows,
                 };
             }
             reader = reader.line(part, at, end, job, layouts);

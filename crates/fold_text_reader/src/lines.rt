@@ -7,13 +7,14 @@ ghost use Rattle.texts.specs.Shape.{layout_line, numbers_row};
 ghost use Rattle.texts.specs.Reader.{max_lines, line_read};
 ghost use Rattle.texts.specs.JobLines.{board_sizes, types_of};
 ghost use Rattle.texts.specs.FoldText.{fold_grammar};
-ghost use Rattle.texts_reading.specs.Judged.{line_verdict};
+ghost use Rattle.texts_reading.specs.Judged.{line_verdict, number_said};
 ghost use Rattle.texts_reading.specs.Standing.{TextAt};
 ghost use Rattle.fold_text_reader.specs.FoldKept.{layouts_size, held_words, FoldReady, Step};
 
 use crate::fold::FoldReader;
 use job::counters::{ItemType, PlateType};
 use job::head::head_of;
+use job::refused::Refusal;
 use job::sizes::{HEAD_WORDS, ITEM_WORDS, MAX_PIECES, PLACEMENT_WORDS, SIZE_WORDS};
 use texts_reading::job_lines::{read_first, read_item, read_size};
 use texts_reading::kinds::layout_line;
@@ -34,10 +35,10 @@ fn keep_row(layouts: &mut [u16], rows: u32, numbers: &[u32])
     put_words(layouts, PLACEMENT_WORDS * (rows as usize), &numbers[1..]);
 }
 
-// The refusal of a line of kind 7, 0 where there is none, by the words of its job: as many as its own numbers of sizes and of types say.
-fn layout_refusal(numbers: &[u32], job: &[u16]) -> u16
+// Judges a line of kind 7 by the words of its job: as many as its own numbers of sizes and of types say.
+fn judge_layout(numbers: &[u32], job: &[u16]) -> Result<(), Refusal>
     requires { (longest_job ≤ length job.now) × ((board_sizes job.now ≤ max_sizes) × (types_of job.now ≤ max_types)) }
-    ensures { (line : ℕ) → line_verdict result line ≡ numbers_row line (layout_line (held_words job.now) ∷ []) numbers.now }
+    ensures { (line : ℕ) → line_verdict (number_said result) line ≡ numbers_row line (layout_line (held_words job.now) ∷ []) numbers.now }
 {
     let head = head_of(job);
     let words = HEAD_WORDS
@@ -51,9 +52,8 @@ impl FoldReader {
     pub fn refused(self, number: u16) -> FoldReader
         ensures { (TextAt result.text self.text.place self.text.lines number []) × (result.rows ≡ self.rows) }
     {
-        let text = self.text;
         FoldReader {
-            text: text.refused(number),
+            text: self.text.refused(number),
             rows: self.rows,
         }
     }
@@ -63,14 +63,12 @@ impl FoldReader {
         requires { (self.text.place ≡ Place.First) × ((self.text.lines < max_lines) × (longest_job ≤ length job.old)) }
         ensures { (layouts : List ℕ) → FoldReady self job.old layouts → Step (λ q. line_read fold_grammar q (some numbers.now)) self job.old layouts result job.new layouts }
     {
-        let text = self.text;
-        let refusal = read_first(numbers, job);
-        if refusal != 0 {
-            return self.refused(refusal);
-        }
-        FoldReader {
-            text: text.admitted(Place::Sizes(PlateType(0))),
-            rows: 0,
+        match read_first(numbers, job) {
+            Err(refusal) => self.refused(refusal.number()),
+            Ok(()) => FoldReader {
+                text: self.text.admitted(Place::Sizes(PlateType(0))),
+                rows: 0,
+            },
         }
     }
 
@@ -80,21 +78,21 @@ impl FoldReader {
         requires j_lt_max_sizes { j.0 < max_sizes }
         ensures { (layouts : List ℕ) → FoldReady self job.old layouts → Step (λ q. line_read fold_grammar q (some numbers.now)) self job.old layouts result job.new layouts }
     {
-        let text = self.text;
-        let refusal = read_size(numbers, j, job);
-        if refusal != 0 {
-            return self.refused(refusal);
-        }
-        let head = head_of(job);
-        if head.sizes.0 == j.0 + 1 {
-            return FoldReader {
-                text: text.admitted(Place::Types(ItemType(1))),
-                rows: 0,
-            };
-        }
-        FoldReader {
-            text: text.admitted(Place::Sizes(PlateType(j.0 + 1))),
-            rows: 0,
+        match read_size(numbers, j, job) {
+            Err(refusal) => self.refused(refusal.number()),
+            Ok(()) => {
+                let head = head_of(job);
+                if head.sizes.0 == j.0 + 1 {
+                    return FoldReader {
+                        text: self.text.admitted(Place::Types(ItemType(1))),
+                        rows: 0,
+                    };
+                }
+                FoldReader {
+                    text: self.text.admitted(Place::Sizes(PlateType(j.0 + 1))),
+                    rows: 0,
+                }
+            }
         }
     }
 
@@ -104,21 +102,21 @@ impl FoldReader {
         requires le_i { (1 ≤ i.0) × ((i.0 ≤ max_types) × (board_sizes job.old ≤ max_sizes)) }
         ensures { (layouts : List ℕ) → FoldReady self job.old layouts → Step (λ q. line_read fold_grammar q (some numbers.now)) self job.old layouts result job.new layouts }
     {
-        let text = self.text;
-        let refusal = read_item(numbers, i, job);
-        if refusal != 0 {
-            return self.refused(refusal);
-        }
-        let head = head_of(job);
-        if head.types.0 == i.0 {
-            return FoldReader {
-                text: text.admitted(Place::Body),
-                rows: 0,
-            };
-        }
-        FoldReader {
-            text: text.admitted(Place::Types(ItemType(i.0 + 1))),
-            rows: 0,
+        match read_item(numbers, i, job) {
+            Err(refusal) => self.refused(refusal.number()),
+            Ok(()) => {
+                let head = head_of(job);
+                if head.types.0 == i.0 {
+                    return FoldReader {
+                        text: self.text.admitted(Place::Body),
+                        rows: 0,
+                    };
+                }
+                FoldReader {
+                    text: self.text.admitted(Place::Types(ItemType(i.0 + 1))),
+                    rows: 0,
+                }
+            }
         }
     }
 
@@ -128,16 +126,15 @@ impl FoldReader {
         requires fold_ready { FoldReady self job.now layouts.old }
         ensures { Step (λ q. line_read fold_grammar q (some numbers.now)) self job.now layouts.old result job.now layouts.new }
     {
-        let text = self.text;
-        let rows = self.rows;
-        let refusal = layout_refusal(numbers, job);
-        if refusal != 0 {
-            return self.refused(refusal);
-        }
-        keep_row(layouts, rows, numbers);
-        FoldReader {
-            text: text.admitted(Place::Body),
-            rows: rows + 1,
+        match judge_layout(numbers, job) {
+            Err(refusal) => self.refused(refusal.number()),
+            Ok(()) => {
+                keep_row(layouts, self.rows, numbers);
+                FoldReader {
+                    text: self.text.admitted(Place::Body),
+                    rows: self.rows + 1,
+                }
+            }
         }
     }
 
@@ -147,14 +144,12 @@ impl FoldReader {
         requires fold_ready { FoldReady self job.old layouts.old }
         ensures { Step (λ q. line_read fold_grammar q (some numbers.now)) self job.old layouts.old result job.new layouts.new }
     {
-        let text = self.text;
-        let place = text.place;
-        match place {
+        match self.text.place {
             Place::First => self.first(numbers, job),
             Place::Sizes(j) => self.size(j, numbers, job),
             Place::Types(i) => self.item(i, numbers, job),
             Place::Body => self.layout(numbers, job, layouts),
-            _ => self.refused(1),
+            _ => self.refused(Refusal::Form.number()),
         }
     }
 }

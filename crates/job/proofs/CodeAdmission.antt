@@ -2,9 +2,9 @@
 use mathlib.Core.Path.{◌≡◌, refl}
 use mathlib.Core.Bool.{true, false, not}
 use mathlib.Core.List.{List}
-use Prim.Native.Nat.{ℕ, ◌≤◌, ◌<◌}
+use Prim.Native.Nat.{ℕ, ◌≤◌}
 use native.Mathlib.Omega.{arith}
-use borrow.Author.Tests.{eq-eqb, ne_eqb, lt-ltb, le-ltb}
+use borrow.Author.Tests.{eq-eqb, ne_eqb}
 use lib.Dec.{ltb, eqb}
 use lib.ListN.{length, get_or}
 use Rattle.job.specs.declared.head.Head.{Head}
@@ -14,7 +14,7 @@ use Rattle.job.specs.Lists.{all}
 use Rattle.job.specs.Job.{Job, max_sizes, max_types, max_pieces, job_of, head_right, size_right, board_right, item_right, job_words, larger, demanded, admission}
 use Rattle.job.specs.JobWords.{JobWords}
 use Rattle.job.specs.Head.{HeadOf}
-use Rattle.job.proofs.CodeEnds.{then-stop, Not5, not5-if, not5-then, not5-lowest}
+use Rattle.job.proofs.CodeEnds.{Not5, not5-if, not5-then, not5-lowest}
 use Rattle.job.proofs.Admission.{head-limits, words_right}
 
 -- a head whose words are right has at most 40 types
@@ -57,23 +57,6 @@ module _ (ws : List ℕ) where
 -- the first check of an admission
 abbrev size-check : Job → Verdict
 size-check job = lowest 3 (λ _ it. larger job it) 1 job.items
-
-module _ (job : Job) where
-  -- an item that fits no size is 3
-  pub too_large : {v : Verdict} (number place : ℕ) → v ≡ size-check job → v ≡ refuse number place → v ≡ admission job
-  unfolding admission
-  too_large number place e r = then-stop _ number place e r
-
-  module _ (f : pass ≡ size-check job) (sum : ℕ) (s : sum ≡ demanded job) where
-    -- demands above 4,000 are 4
-    pub too_many : max_pieces < sum → refuse 4 0 ≡ admission job
-    unfolding admission
-    too_many h = rw (← f, ← s, lt-ltb _ _ h)
-
-    -- else the job is admitted
-    pub admitted : sum ≤ max_pieces → pass ≡ admission job
-    unfolding admission
-    admitted h = rw (← f, ← s, le-ltb _ _ h)
 
 -- words that passed: their length, at least one size and at most six, and at most 40 types
 module _ (ws : List ℕ) (e : job_words ws ≡ pass) where

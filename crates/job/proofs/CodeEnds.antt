@@ -9,7 +9,7 @@ use lib.Dec.{eqb}
 use lib.ListN.{length, replicate}
 use Rattle.job.specs.Verdict.{Verdict, pass, refuse, ◌then◌, refuse_if, lowest}
 use Rattle.job.specs.Buffers.{given, refused, answer, ends}
-use Rattle.job.proofs.Verdicts.{pass-not-refuse, then-first, then-second, then-passed, then-refused}
+use Rattle.job.proofs.Verdicts.{pass-not-refuse, then-first, then-second, then-passed}
 
 -- a refusal is no pass
 pub refused-not : {number place : ℕ} → refuse number place ≡ pass → ⊥
@@ -18,10 +18,6 @@ refused-not e = pass-not-refuse e refl
 -- two checks in turn pass only if both do
 pub then-pass : (v w : Verdict) → (v then w) ≡ pass → (v ≡ pass) × (w ≡ pass)
 then-pass v w e = (then-first v w e, then-second v w e)
-
--- the first check refuses, or it passes and the others decide
-pub then-stop : {u v : Verdict} (w : Verdict) (number place : ℕ) → v ≡ u → v ≡ refuse number place → v ≡ (u then w)
-then-stop {u} w number place e r = r ∙ sym (then-refused u w number place (sym e ∙ r))
 
 pub then-on : {u v w : Verdict} → u ≡ pass → v ≡ w → v ≡ (u then w)
 then-on {u} {v} {w} p e = e ∙ sym (then-passed u w p)

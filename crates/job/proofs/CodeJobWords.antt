@@ -1,9 +1,9 @@
--- What the code knows of words that passed the line row: as many sizes and item types as it says, and the number of sizes by its word.
+-- What the code knows of words that passed the line row: as many sizes and item types as it says.
 use mathlib.Core.Path.{◌≡◌, ◌∙◌}
 use Prim.Native.Nat.{ℕ}
 use mathlib.Core.List.{List}
 use native.Mathlib.Omega.{arith}
-use lib.ListN.{length, get_or}
+use lib.ListN.{length}
 use Rattle.job.specs.declared.mode.Mode.{Mode}
 use Rattle.job.specs.Job.{job_of}
 use Rattle.job.specs.JobWords.{JobWords}
@@ -16,7 +16,3 @@ module _ {ws : List ℕ} {mode : Mode} {t n : ℕ} (w : JobWords ws mode t n) wh
 
   pub words-items : length (job_of ws).items ≡ n
   words-items = items-length ws n (omega (arith, w.words, w.sizes))
-
-  -- the same, with the number of sizes as the third word
-  pub by_word : JobWords ws mode (get_or ws 2 0) n
-  by_word = rw w.sizes w

@@ -2,7 +2,8 @@
 pub mod Sizes
 pub mod Lists
 pub mod Verdict
-pub mod Row
+pub mod Refused
+pub mod Lent
 pub mod Buffers
 pub mod Mode
 pub mod Job

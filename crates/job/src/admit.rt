@@ -4,13 +4,13 @@ ghost use Rattle.job.specs.Lists.{all};
 ghost use Rattle.job.specs.Sizes.{words_of_head, words_before, job_size, max_types};
 ghost use Rattle.job.specs.Verdict.{pass, ◌then◌, lowest, within};
 ghost use Rattle.job.specs.Job.{board_sizes, job_of, head_right, size_right, item_right, job_words, fits_in, fits, larger, demanded, admission};
-ghost use Rattle.job.specs.Row.{row_verdict};
+ghost use Rattle.job.specs.Refused.{row_verdict};
 
 use crate::counters::{ItemType, PlateType};
 use crate::head::head_of;
 use crate::item::{Item, Position};
 use crate::position::{turned, unturned};
-use crate::row::Row;
+use crate::refused::{Refusal, Refused};
 use crate::size::Size;
 use crate::sizes::{
     BLADE, EXACT, HEAD_WORDS, ITEM_WORDS, MAX_BLADE, MAX_COST, MAX_PIECES, MAX_SIDE, MAX_SIZES,
@@ -51,14 +51,11 @@ fn sizes_right(job: &[u16]) -> bool
     requires { words_before (board_sizes job.now) ≤ length job.now }
     ensures { result ≡ all size_right (job_of job.now).sizes }
 {
-    let sizes = job[SIZES];
-    let mut j: u16 = 0;
-    while j < sizes {
+    for j in 0..job[SIZES] {
         let size = size_at(job, PlateType(j));
         if !size_right(size) {
             return false;
         }
-        j += 1;
     }
     true
 }
@@ -74,52 +71,47 @@ fn item_right(item: Item) -> bool
 }
 
 // 2 for the lowest of n item types with a word outside its limits.
-fn types_right(job: &[u16], n: ItemType) -> Row
+fn types_right(job: &[u16], n: ItemType) -> Result<(), Refused>
     requires { (length job.now ≡ job_size (board_sizes job.now) n.0) × (n.0 ≤ max_types) }
     ensures { row_verdict result ≡ lowest 2 (λ _ it. not (item_right it)) 1 (job_of job.now).items }
 {
-    let last = n.0;
-    let mut i: u16 = 1;
-    while i <= last {
+    for i in 1..n.0 + 1 {
         let item = item_at(job, ItemType(i));
         if !item_right(item) {
-            return Row::Refuses(2, i as usize);
+            return Err(Refusal::Limits.at(i as usize));
         }
-        i += 1;
     }
-    Row::Passes
+    Ok(())
 }
 
 // The line row of a job's words: 1 for another length than its numbers of sizes and of types ask for, 2 for a value outside its limits.
-pub fn job_words(job: &[u16]) -> Row
+pub fn job_words(job: &[u16]) -> Result<(), Refused>
     ensures { row_verdict result ≡ job_words job.now }
 {
     if job.len() < HEAD_WORDS {
-        return Row::Refuses(1, 0);
+        return Err(Refusal::Form.at(0));
     }
     let t = job[SIZES];
     let n = job[TYPES];
     let words = HEAD_WORDS + SIZE_WORDS * (t as usize) + ITEM_WORDS * (n as usize);
     if job.len() != words {
-        return Row::Refuses(1, 0);
+        return Err(Refusal::Form.at(0));
     }
     if !head_right(job) {
-        return Row::Refuses(2, 0);
+        return Err(Refusal::Limits.at(0));
     }
     if !sizes_right(job) {
-        return Row::Refuses(2, 0);
+        return Err(Refusal::Limits.at(0));
     }
     types_right(job, ItemType(n))
 }
 
 // Whether a position is permitted and not wider or taller than a board of this size.
+#[tactic(auto, unfolding(crate::specs::Job::fits_in))]
 fn fits_in(position: Position, size: Size) -> bool
     ensures { result ≡ fits_in position size }
 {
-    if !position.allowed {
-        return false;
-    }
-    position.width <= size.width && position.height <= size.height
+    position.allowed && position.width <= size.width && position.height <= size.height
 }
 
 // Whether a position is permitted and not wider or taller than a board of some size.
@@ -127,44 +119,36 @@ fn fits(job: &[u16], position: Position) -> bool
     requires { words_before (board_sizes job.now) ≤ length job.now }
     ensures { result ≡ fits (job_of job.now) position }
 {
-    let sizes = job[SIZES];
-    let mut j: u16 = 0;
-    while j < sizes {
+    for j in 0..job[SIZES] {
         let size = size_at(job, PlateType(j));
         if fits_in(position, size) {
             return true;
         }
-        j += 1;
     }
     false
 }
 
 // Whether no permitted position of an item type fits a board of any size.
+#[tactic(auto, unfolding(crate::specs::Job::larger))]
 fn larger(job: &[u16], item: Item) -> bool
     requires { words_before (board_sizes job.now) ≤ length job.now }
     ensures { result ≡ larger (job_of job.now) item }
 {
-    if fits(job, unturned(item)) {
-        return false;
-    }
-    !fits(job, turned(item))
+    !fits(job, unturned(item)) && !fits(job, turned(item))
 }
 
 // 3 for the lowest of n item types of which no permitted position fits any size.
-fn types_fit(job: &[u16], n: ItemType) -> Row
+fn types_fit(job: &[u16], n: ItemType) -> Result<(), Refused>
     requires { (length job.now ≡ job_size (board_sizes job.now) n.0) × (n.0 ≤ max_types) }
     ensures { row_verdict result ≡ lowest 3 (λ _ it. larger (job_of job.now) it) 1 (job_of job.now).items }
 {
-    let last = n.0;
-    let mut i: u16 = 1;
-    while i <= last {
+    for i in 1..n.0 + 1 {
         let item = item_at(job, ItemType(i));
         if larger(job, item) {
-            return Row::Refuses(3, i as usize);
+            return Err(Refusal::ItemLarger.at(i as usize));
         }
-        i += 1;
     }
-    Row::Passes
+    Ok(())
 }
 
 // The demands of n item types, added up.
@@ -172,41 +156,33 @@ fn demanded(job: &[u16], n: ItemType) -> u32
     requires { (length job.now ≡ job_size (board_sizes job.now) n.0) × (n.0 ≤ max_types) }
     ensures { result ≡ demanded (job_of job.now) }
 {
-    let last = n.0;
-    let mut sum: u32 = 0;
-    let mut i: u16 = 1;
-    while i <= last {
+    let mut sum = 0;
+    for i in 1..n.0 + 1 {
         let item = item_at(job, ItemType(i));
         sum += item.demand as u32;
-        i += 1;
     }
     sum
 }
 
 // The job row, once the job's words have passed: 3 for an item of which no permitted position fits any size, 4 for demands above 4,000.
-pub fn admit(job: &[u16]) -> Row
+#[tactic(auto, unfolding(crate::specs::Job::admission))]
+pub fn admit(job: &[u16]) -> Result<(), Refused>
     requires { job_words job.now ≡ pass }
     ensures { row_verdict result ≡ admission (job_of job.now) }
 {
     let head = head_of(job);
     let n = head.types;
-    let fit = types_fit(job, n);
-    let Row::Passes = fit else {
-        return fit;
-    };
+    types_fit(job, n)?;
     if (MAX_PIECES as u32) < demanded(job, n) {
-        return Row::Refuses(4, 0);
+        return Err(Refusal::Demands.at(0));
     }
-    Row::Passes
+    Ok(())
 }
 
 // The words of a job and then the job itself: refusals 1 to 4 in their order.
-pub fn check_job(job: &[u16]) -> Row
+pub fn check_job(job: &[u16]) -> Result<(), Refused>
     ensures { row_verdict result ≡ (job_words job.now then admission (job_of job.now)) }
 {
-    let words = job_words(job);
-    let Row::Passes = words else {
-        return words;
-    };
+    job_words(job)?;
     admit(job)
 }

@@ -8,7 +8,7 @@ use crate::mode::Mode;
 use crate::sizes::{BLADE, EXACT, SIZES, STAGES, TYPES};
 
 // The stage mode, the number of sizes, the width of the blade, and the last item type, whose number is that of the item types.
-#[derive(Clone, Copy)]
+#[derive(Clone, Copy, Debug, PartialEq, Eq)]
 pub struct Head {
     pub mode: Mode,
     pub sizes: BoardSizes,

@@ -3,9 +3,10 @@ ghost use Rattle.std.specs.Prelude.{◌≡◌};
 ghost use Rattle.job.specs.Mode.{mode_of, three, exact};
 
 // Two or three stages, exact or non-exact: 0 is 2E, 1 is 2N, 2 is 3E, 3 is 3N.
-#[derive(Clone, Copy)]
+#[derive(Clone, Copy, Debug, PartialEq, Eq)]
 pub struct Mode(pub u8);
 
+#[tactic(auto, unfolding(crate::specs::Mode::three, crate::specs::Mode::exact, crate::specs::Mode::mode_of))]
 impl Mode {
     pub const TWO_EXACT: Mode = Mode(0);
 
@@ -19,31 +20,25 @@ impl Mode {
     pub fn from_line(stages: u16, exact: u16) -> Mode
         ensures { result ≡ mode_of stages exact }
     {
-        if stages == 3 {
-            if exact == 1 {
-                return Mode::THREE_EXACT;
-            }
-            return Mode::THREE_NON_EXACT;
+        match (stages, exact) {
+            (3, 1) => Mode::THREE_EXACT,
+            (3, _) => Mode::THREE_NON_EXACT,
+            (_, 1) => Mode::TWO_EXACT,
+            _ => Mode::TWO_NON_EXACT,
         }
-        if exact == 1 {
-            return Mode::TWO_EXACT;
-        }
-        Mode::TWO_NON_EXACT
     }
 
     // Whether the mode has three stages, or else two.
     pub fn three(self) -> bool
         ensures { result ≡ three self }
     {
-        let m = self.0;
-        2 <= m
+        2 <= self.0
     }
 
     // Whether the mode is exact, or else non-exact.
     pub fn exact(self) -> bool
         ensures { result ≡ exact self }
     {
-        let m = self.0;
-        m == 0 || m == 2
+        self == Mode::TWO_EXACT || self == Mode::THREE_EXACT
     }
 }

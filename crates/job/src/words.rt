@@ -40,9 +40,5 @@ pub fn item_at(job: &[u16], i: ItemType) -> Item
 pub fn clear(buffer: &mut [u16])
     ensures { buffer.new ≡ replicate (length buffer.old) 0 }
 {
-    let mut i = 0;
-    while i < buffer.len() {
-        buffer[i] = 0;
-        i += 1;
-    }
+    buffer.fill(0);
 }

@@ -1,7 +1,7 @@
 -- Lines in turn, on plain values: what is left to look at from the line behind c others on is the whole.
 use mathlib.Core.Path.{◌≡◌, sym, ap, ◌∙◌}
 use Prim.Native.Nat.{ℕ, suc, ◌+◌, ◌*◌, ◌-◌, ◌≤◌, ◌<◌}
-use mathlib.Core.Bool.{Bool, true, false, cond, not, ◌||◌}
+use mathlib.Core.Bool.{Bool, true, false, cond, not}
 use mathlib.Core.List.{List, [], ◌∷◌}
 use native.Mathlib.Omega.{arith}
 use borrow.Author.Tests.{not-true, not-false}
@@ -12,14 +12,6 @@ use Rattle.layouts.specs.Placement.{opened, Turn, turn, Placement}
 use Rattle.layouts.specs.Lines.{rows_of, same_turn, follows, in_turn, turns}
 use Rattle.placement.specs.PlacementRead.{placement_at}
 use Rattle.placement.proofs.Rows.{rows-from, rows_end}
-
--- a chain of tests joined by "or", as the code evaluates it: a flag f that says a; where it holds, it is the flag g of the whole
-pub or-stop : {f g : Bool} {a : Bool} (b : Bool) → f ≡ a → f ≡ true → g ≡ f → g ≡ (a || b)
-or-stop b e t h = rw (← e, t) (h ∙ t)
-
--- where it does not hold, the flag of the whole is the next test's answer, which says b
-pub or-next : {f g r : Bool} {a b : Bool} → f ≡ a → f ≡ false → r ≡ b → g ≡ r → g ≡ (a || b)
-or-next e t n h = rw (← e, t) (h ∙ n)
 
 -- what the first line is, 1, 1, 1, 1, of its own size
 abbrev pub first_turn : Placement → Turn

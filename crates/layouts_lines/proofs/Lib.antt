@@ -1,5 +1,4 @@
 -- The laws of this crate: lines of layout words on plain values.
-pub mod CodeChecks
 pub mod CodeLimits
 pub mod CodePermitted
 pub mod CodeTurns

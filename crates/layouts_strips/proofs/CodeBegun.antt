@@ -11,8 +11,7 @@ use Rattle.job.specs.Sizes.{words_of_placement}
 use Rattle.job.proofs.Tests.{not-both, at-most-or-above}
 use Rattle.layouts.specs.Placement.{Placement}
 use Rattle.layouts.specs.Lines.{Level, stack, strip, board, level_of, begun, rows_of}
-use Rattle.layouts_strips.specs.declared.begins.Begins.{Begins}
-use Rattle.layouts_strips.specs.Begun.{level_in, begins_strip}
+use Rattle.layouts_strips.specs.Begun.{begins_strip}
 use Rattle.layouts_strips.specs.First.{size_named, strip_plate}
 use Rattle.layouts_strips.specs.Measures.{LentLines}
 use Rattle.placement.specs.PlacementRead.{placement_at}
@@ -47,10 +46,6 @@ module _ (ws : List ℕ) (n c : ℕ) (e : length ws ≡ words_of_placement * n) 
   pub begun-board : r.turn.place ≡ 1 → r.turn.stack ≡ 1 → r.turn.strip ≡ 1 → some board ≡ begun (drop c (rows_of ws))
   unfolding level_of
   begun-board p q s = sym (line-begun ∙ rw (eq-eqb _ _ p, level_of, eq-eqb _ _ q, eq-eqb _ _ s))
-
--- a test of what a line begins, by the answer of the code
-pub flag : (test : Option Level → Bool) {b x : Begins} {o : Option Level} → level_in b ≡ o → b ≡ x → test (level_in x) ≡ test o
-flag test e f = ap test (rw (← f) e)
 
 -- a line that goes on, or begins less than a board, is there
 pub line-inside : (test : Option Level → Bool) (ws : List ℕ) (n c : ℕ) {b : Bool} → test (some board) ≡ false → length ws ≡ words_of_placement * n → b ≡ test (begun (drop c (rows_of ws))) → b ≡ true → c < n

@@ -1,11 +1,11 @@
 -- Item positions line by line: they are those of the lines of the set that the lines make.
 use mathlib.Core.Path.{◌≡◌, refl, sym, ap, ◌∙◌}
 use Prim.Native.Nat.{ℕ, suc, ◌+◌, ◌-◌, ◌*◌, ◌≤◌, ◌<◌, max}
-use mathlib.Core.Bool.{true, false, ◌&&◌}
+use mathlib.Core.Bool.{Bool, true, false, not, ◌&&◌}
 use mathlib.Core.List.{List, [], ◌∷◌, ◌++◌}
 use mathlib.Core.Option.{Option, none, some}
 use native.Mathlib.Omega.{arith}
-use borrow.Author.Tests.{eq-eqb, ne_eqb}
+use borrow.Author.Tests.{not-true, not-false}
 use lib.Dec.{eqb}
 use lib.ListN.{length, drop}
 use Rattle.job.specs.Sizes.{words_of_placement}
@@ -201,17 +201,17 @@ module _ (job : Job) where
   spots-begin k rs = let e : k + 0 ≡ k = omega arith in rw e (spotted-whole k rs)
 
   module _ (k : ℕ) (s : Spot) (r : Placement) (rs : List Placement) where
-    spotted-x : (r.x ≡ s.x → ⊥) → spotted k s (r ∷ rs) ≡ refuse 18 k
-    unfolding spotted
-    spotted-x h = rw (ne_eqb r.x s.x h, spotted)
+    -- whether its x and y are those of the spot
+    abbrev at_spot : Bool
+    at_spot = eqb r.x s.x && eqb r.y s.y
 
-    spotted-y : r.x ≡ s.x → (r.y ≡ s.y → ⊥) → spotted k s (r ∷ rs) ≡ refuse 18 k
+    spotted-off : at_spot ≡ false → spotted k s (r ∷ rs) ≡ refuse 18 k
     unfolding spotted
-    spotted-y e h = rw (eq-eqb r.x s.x e, ne_eqb r.y s.y h, spotted)
+    spotted-off h = rw (h, spotted)
 
-    spotted-on : r.x ≡ s.x → r.y ≡ s.y → spotted k s (r ∷ rs) ≡ spotted (suc k) (moved_to job.blade (begun rs) (put_on job.blade s (position_at job r.item))) rs
+    spotted-on : at_spot ≡ true → spotted k s (r ∷ rs) ≡ spotted (suc k) (moved_to job.blade (begun rs) (put_on job.blade s (position_at job r.item))) rs
     unfolding spotted
-    spotted-on e h = rw (eq-eqb r.x s.x e, eq-eqb r.y s.y h, spotted)
+    spotted-on h = rw (h, spotted)
 
   -- at the line behind c others, whose words are read
   module _ (ws : List ℕ) (n k c : ℕ) (s : Spot) {whole : Verdict} (l : length ws ≡ words_of_placement * n) (w : whole ≡ spotted (k + c) s (drop c (rows_of ws))) where
@@ -223,16 +223,18 @@ module _ (job : Job) where
       at-line : whole ≡ spotted (k + c) s (r ∷ drop (c + 1) (rows_of ws))
       at-line = w ∙ rw (rows-from ws n c l h, read)
 
-      pub off-across : (r.x ≡ s.x → ⊥) → refuse 18 (k + c) ≡ whole
-      off-across d = sym (at-line ∙ spotted-x (k + c) s r (drop (c + 1) (rows_of ws)) d)
+      -- by the test of the code, whether the line lies elsewhere
+      module _ {b : Bool} (test : b ≡ not (eqb r.x s.x && eqb r.y s.y)) where
+        pub spots-off : b ≡ true → refuse 18 (k + c) ≡ whole
+        spots-off t = sym (at-line ∙ spotted-off (k + c) s r (drop (c + 1) (rows_of ws)) (not-true _ (sym test ∙ t)))
 
-      pub off-up : r.x ≡ s.x → (r.y ≡ s.y → ⊥) → refuse 18 (k + c) ≡ whole
-      off-up e d = sym (at-line ∙ spotted-y (k + c) s r (drop (c + 1) (rows_of ws)) e d)
-
-      pub spots-next : r.x ≡ s.x → r.y ≡ s.y → {s' : Spot} → s' ≡ moved_to job.blade (begun (drop (c + 1) (rows_of ws))) (put_on job.blade s (position_at job (placement_at ws c).item)) → whole ≡ spotted (k + (c + 1)) s' (drop (c + 1) (rows_of ws))
-      spots-next a b e =
-          let q : k + (c + 1) ≡ suc (k + c) = omega arith in
-          at-line ∙ spotted-on (k + c) s r (drop (c + 1) (rows_of ws)) a b ∙ rw (q, e, read)
+        pub spots-next :
+            b ≡ false → {s' : Spot}
+            → s' ≡ moved_to job.blade (begun (drop (c + 1) (rows_of ws))) (put_on job.blade s (position_at job (placement_at ws c).item))
+            → whole ≡ spotted (k + (c + 1)) s' (drop (c + 1) (rows_of ws))
+        spots-next t e =
+            let q : k + (c + 1) ≡ suc (k + c) = omega arith in
+            at-line ∙ spotted-on (k + c) s r (drop (c + 1) (rows_of ws)) (not-false _ (sym test ∙ t)) ∙ rw (q, e, read)
 
 -- the spot of the next line, as the code makes it
 pub spot-said : (b : Option Level) {o : Option Level} (s : Spot) {p r : Spot} {it it' : Position} {g g' : ℕ} → r ≡ moved_to g b p → b ≡ o → p ≡ put_on g s it → it ≡ it' → g ≡ g' → r ≡ moved_to g' o (put_on g' s it')

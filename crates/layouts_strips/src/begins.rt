@@ -5,11 +5,12 @@ ghost use Rattle.layouts.specs.Lines.{rows_of, begun};
 ghost use Rattle.layouts_strips.specs.Begun.{level_in, goes_on, begins_stack, begins_strip};
 ghost use Rattle.layouts_strips.specs.First.{size_named, strip_plate};
 
+use crate::lines::Lines;
 use job::counters::PlateType;
 use placement::placement_at;
 
 // A further place of a stack, or the first of a stack, of a strip, of a board.
-#[derive(Clone, Copy)]
+#[derive(Clone, Copy, Debug, PartialEq, Eq)]
 pub enum Begins {
     Place,
     Stack,
@@ -18,6 +19,7 @@ pub enum Begins {
 }
 
 // What the line behind c others begins; past the last line only another board could begin.
+// Words and a number in place of `Lines`, here and in two more: what may not change (`goes_on` and `begins_strip`, which ask for whole lines alone).
 pub fn begins_at(layouts: &[u16], lines: usize, c: usize) -> Begins
     requires { (length layouts.now ≡ words_of_placement * lines) × (c ≤ lines) }
     ensures { level_in result ≡ begun (drop c (rows_of layouts.now)) }
@@ -26,16 +28,13 @@ pub fn begins_at(layouts: &[u16], lines: usize, c: usize) -> Begins
         return Begins::Board;
     }
     let line = placement_at(layouts, c);
-    let place = line.place;
-    let stack = line.stack;
-    let strip = line.strip;
-    if place != 1 {
+    if line.place != 1 {
         return Begins::Place;
     }
-    if stack != 1 {
+    if line.stack != 1 {
         return Begins::Stack;
     }
-    if strip != 1 {
+    if line.strip != 1 {
         return Begins::Strip;
     }
     Begins::Board
@@ -46,25 +45,7 @@ pub fn goes_on(layouts: &[u16], lines: usize, c: usize) -> bool
     requires { (length layouts.now ≡ words_of_placement * lines) × (c ≤ lines) }
     ensures { result ≡ goes_on (begun (drop c (rows_of layouts.now))) }
 {
-    match begins_at(layouts, lines, c) {
-        Begins::Place => true,
-        Begins::Stack => false,
-        Begins::Strip => false,
-        Begins::Board => false,
-    }
-}
-
-// Whether the line begins a further stack of a strip.
-pub fn begins_stack(layouts: &[u16], lines: usize, c: usize) -> bool
-    requires { (length layouts.now ≡ words_of_placement * lines) × (c ≤ lines) }
-    ensures { result ≡ begins_stack (begun (drop c (rows_of layouts.now))) }
-{
-    match begins_at(layouts, lines, c) {
-        Begins::Place => false,
-        Begins::Stack => true,
-        Begins::Strip => false,
-        Begins::Board => false,
-    }
+    begins_at(layouts, lines, c) == Begins::Place
 }
 
 // Whether the line begins a further strip of a board.
@@ -72,33 +53,44 @@ pub fn begins_strip(layouts: &[u16], lines: usize, c: usize) -> bool
     requires { (length layouts.now ≡ words_of_placement * lines) × (c ≤ lines) }
     ensures { result ≡ begins_strip (begun (drop c (rows_of layouts.now))) }
 {
-    match begins_at(layouts, lines, c) {
-        Begins::Place => false,
-        Begins::Stack => false,
-        Begins::Strip => true,
-        Begins::Board => false,
-    }
+    begins_at(layouts, lines, c) == Begins::Strip
 }
 
-// The size of its board that the line behind c others names, and 0 past the last line.
-pub fn size_named(layouts: &[u16], lines: usize, c: usize) -> PlateType
-    requires { length layouts.now ≡ words_of_placement * lines }
-    ensures { result.0 ≡ size_named (drop c (rows_of layouts.now)) }
-{
-    if lines <= c {
-        return PlateType(0);
+impl Lines<'_> {
+    // What the line behind c others begins.
+    pub fn begins_at(&self, c: usize) -> Begins
+        requires { c ≤ self.now.number }
+        ensures { level_in result ≡ begun (drop c (rows_of self.now.layouts.now)) }
+    {
+        begins_at(self.layouts, self.number, c)
     }
-    let line = placement_at(layouts, c);
-    line.size
-}
 
-// A plate type for the strip that begins behind c lines: the given one where it is a further strip of a board, else the size of its board.
-pub fn strip_plate(layouts: &[u16], lines: usize, c: usize, further: PlateType) -> PlateType
-    requires { (length layouts.now ≡ words_of_placement * lines) × (c ≤ lines) }
-    ensures { result.0 ≡ strip_plate (drop c (rows_of layouts.now)) further.0 }
-{
-    if begins_strip(layouts, lines, c) {
-        return further;
+    // Whether the line begins a further stack of a strip.
+    pub fn begins_stack(&self, c: usize) -> bool
+        requires { c ≤ self.now.number }
+        ensures { result ≡ begins_stack (begun (drop c (rows_of self.now.layouts.now))) }
+    {
+        self.begins_at(c) == Begins::Stack
     }
-    size_named(layouts, lines, c)
+
+    // The size of its board that the line behind c others names, and 0 past the last line.
+    pub fn size_named(&self, c: usize) -> PlateType
+        ensures { result.0 ≡ size_named (drop c (rows_of self.now.layouts.now)) }
+    {
+        if self.number <= c {
+            return PlateType(0);
+        }
+        placement_at(self.layouts, c).size
+    }
+
+    // A plate type for the strip that begins behind c lines: the given one where it is a further strip of a board, else the size of its board.
+    pub fn strip_plate(&self, c: usize, further: PlateType) -> PlateType
+        requires { c ≤ self.now.number }
+        ensures { result.0 ≡ strip_plate (drop c (rows_of self.now.layouts.now)) further.0 }
+    {
+        if begins_strip(self.layouts, self.number, c) {
+            return further;
+        }
+        self.size_named(c)
+    }
 }

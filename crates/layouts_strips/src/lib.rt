@@ -2,6 +2,7 @@
 #![tactic(auto)]
 
 pub mod begins;
+pub mod lines;
 pub mod past;
 pub mod positions;
 pub mod spot;

@@ -5,16 +5,16 @@ ghost use Rattle.job.specs.Job.{job_of, position_at};
 ghost use Rattle.layouts.specs.Lines.{rows_of, begun};
 ghost use Rattle.placement.specs.PlacementRead.{placement_at};
 ghost use Rattle.layouts_strips.specs.Begun.{level_in};
-ghost use Rattle.layouts_strips.specs.Measures.{max_step, LentLines};
+ghost use Rattle.layouts_strips.specs.Measures.{max_step};
 ghost use Rattle.layouts_strips.specs.Spots.{put_on, moved_to, SpotSmall};
 
-use crate::begins::{Begins, begins_at};
-use crate::stack::{greater, item_of};
+use crate::begins::Begins;
+use crate::lines::Lines;
 use job::head::head_of;
 use job::item::Position;
 
 // The position of the next item of a stack; the strip's lower edge, the stack's width so far, and the lower edge of the next strip so far.
-#[derive(Clone, Copy)]
+#[derive(Clone, Copy, Debug, PartialEq, Eq)]
 pub struct Spot {
     pub x: u32,
     pub y: u32,
@@ -29,13 +29,11 @@ fn put(spot: Spot, item: Position, blade: u16) -> Spot
     ensures { result ≡ put_on blade spot item }
 {
     let high = spot.y + item.height as u32 + blade as u32;
-    let wide = item.width as u32;
     Spot {
-        x: spot.x,
         y: high,
-        base: spot.base,
-        width: greater(spot.width, wide),
-        above: greater(spot.above, high),
+        width: spot.width.max(item.width as u32),
+        above: spot.above.max(high),
+        ..spot
     }
 }
 
@@ -70,14 +68,16 @@ fn moved(spot: Spot, begins: Begins, blade: u16) -> Spot
     }
 }
 
-// The spot of the line after the one behind c others, whose item lies at a spot.
-pub fn next_spot(job: &[u16], layouts: &[u16], lines: usize, c: usize, spot: Spot) -> Spot
-    requires { (LentLines job.now layouts.now lines) × ((c < lines) × (SpotSmall c spot)) }
-    ensures { (result ≡ moved_to (job_of job.now).blade (begun (drop (c + 1) (rows_of layouts.now))) (put_on (job_of job.now).blade spot (position_at (job_of job.now) (placement_at layouts.now c).item))) × (SpotSmall (c + 1) result) }
-{
-    let head = head_of(job);
-    let item = item_of(job, layouts, lines, c);
-    let placed = put(spot, item, head.blade);
-    let next = begins_at(layouts, lines, c + 1);
-    moved(placed, next, head.blade)
+impl Lines<'_> {
+    // The spot of the line after the one behind c others, whose item lies at a spot.
+    pub fn next_spot(&self, c: usize, spot: Spot) -> Spot
+        requires { (c < self.now.number) × (SpotSmall c spot) }
+        ensures { (result ≡ moved_to (job_of self.now.job.now).blade (begun (drop (c + 1) (rows_of self.now.layouts.now))) (put_on (job_of self.now.job.now).blade spot (position_at (job_of self.now.job.now) (placement_at self.now.layouts.now c).item))) × (SpotSmall (c + 1) result) }
+    {
+        let head = head_of(self.job);
+        let item = self.item_of(c);
+        let placed = put(spot, item, head.blade);
+        let next = self.begins_at(c + 1);
+        moved(placed, next, head.blade)
+    }
 }

@@ -4,14 +4,14 @@ ghost use Rattle.job.specs.Sizes.{max_pieces};
 ghost use Rattle.job.specs.Job.{job_of};
 ghost use Rattle.layouts.specs.Lines.{rows_of};
 ghost use Rattle.layouts_strips.specs.First.{strip_of};
-ghost use Rattle.layouts_strips.specs.Measures.{max_word, max_step, LentLines, StripIs, StripSmall, stack_in};
+ghost use Rattle.layouts_strips.specs.Measures.{max_word, max_step, StripIs, StripSmall, stack_in};
 
-use crate::begins::begins_stack;
-use crate::stack::{StackMeasure, greater, stack_at};
+use crate::lines::Lines;
+use crate::stack::StackMeasure;
 use job::head::head_of;
 
 // A strip: the line behind its last, the widths of its stacks with a blade's width after each, and its height.
-#[derive(Clone, Copy)]
+#[derive(Clone, Copy, Debug, PartialEq, Eq)]
 pub struct StripMeasure {
     pub end: usize,
     pub across: u32,
@@ -26,26 +26,28 @@ fn with_stack(m: StripMeasure, stack: StackMeasure, blade: u16) -> StripMeasure
     StripMeasure {
         end: stack.end,
         across: m.across + stack.width + blade as u32,
-        height: greater(m.height, stack.height),
+        height: m.height.max(stack.height),
     }
 }
 
-// The measures of the strip whose first line stands behind a others.
-pub fn strip_at(job: &[u16], layouts: &[u16], lines: usize, a: usize) -> StripMeasure
-    requires { (LentLines job.now layouts.now lines) × (a < lines) }
-    ensures { (StripIs (job_of job.now) a (strip_of (drop a (rows_of layouts.now))) result) × ((StripSmall a lines result) × (a < result.end)) }
-{
-    let head = head_of(job);
-    let mut m = StripMeasure {
-        end: a,
-        across: 0,
-        height: 0,
-    };
-    loop {
-        let stack = stack_at(job, layouts, lines, m.end);
-        m = with_stack(m, stack, head.blade);
-        if !begins_stack(layouts, lines, m.end) {
-            return m;
+impl Lines<'_> {
+    // The measures of the strip whose first line stands behind a others.
+    pub fn strip_at(&self, a: usize) -> StripMeasure
+        requires { a < self.now.number }
+        ensures { (StripIs (job_of self.now.job.now) a (strip_of (drop a (rows_of self.now.layouts.now))) result) × ((StripSmall a self.now.number result) × (a < result.end)) }
+    {
+        let head = head_of(self.job);
+        let mut m = StripMeasure {
+            end: a,
+            across: 0,
+            height: 0,
+        };
+        loop {
+            let stack = self.stack_at(m.end);
+            m = with_stack(m, stack, head.blade);
+            if !self.begins_stack(m.end) {
+                return m;
+            }
         }
     }
 }

@@ -7,7 +7,8 @@ use job::counters::{CutNumber, ItemPosition, PlateType};
 use job::sizes::CUT_WORDS;
 
 // The plate type of a cut, its item in its position, and its top and its right, 0 if not kept.
-#[derive(Clone, Copy)]
+// 0 in place of an `Option`: the C interface, for a number stands so in the words of a cut.
+#[derive(Clone, Copy, Debug, PartialEq, Eq)]
 pub struct CutRecord {
     pub plate: PlateType,
     pub item: ItemPosition,

@@ -4,8 +4,6 @@ use Prim.Native.Nat.{ℕ, ◌-◌, ◌≤◌, ◌<◌}
 use mathlib.Core.List.{List, [], ◌∷◌, flat_map, map}
 use native.Mathlib.Omega.{arith}
 use lib.ListN.{length, get_or, replicate, length-map}
-use Rattle.job.specs.declared.counters.PlateTypes.{PlateTypes}
-use Rattle.job.specs.declared.counters.CutNumber.{CutNumber}
 use Rattle.job.specs.Sizes.{max_sizes, plates_size, cuts_size}
 use Rattle.job.specs.Verdict.{Verdict, pass, refuse, ◌then◌}
 use Rattle.job.specs.Buffers.{Answer, given, refused, answer, ends, sized}
@@ -26,8 +24,9 @@ use Rattle.listing.specs.Holds.{Holds}
 use Rattle.listing.proofs.CodeHolds.{cleared}
 use Rattle.listing.proofs.Steps.{row-going, row-stopped, row-listing, listing-going}
 use Rattle.listing.proofs.ListingExact.{listing-exact}
-use Rattle.listing_call.specs.declared.call.Listed.{Listed}
-use Rattle.listing_call.specs.declared.call.Listed.TheVariants.{Done, Refused}
+use Rattle.std.specs.Prelude.{Result, Ok, Err}
+use Rattle.job.specs.declared.refused.Refused.{Refused}
+use Rattle.listing_call.specs.declared.walk.Listed.{Listed}
 use Rattle.listing_call.specs.ListSays.{says_of, SizesListed, OnListed}
 use Rattle.listing_call.specs.Steps.{Rep, Here}
 
@@ -144,19 +143,19 @@ module _ (ws plates cuts : List ℕ) where
       (then-first (job_words ws) _ a, (sized-pass 1 plates_size plates (then-first (sized 1 plates_size plates) _ b), sized-pass 2 cuts_size cuts (then-second (sized 1 plates_size plates) _ b)))
 
 -- a listing that is done has the sizes among its plate types
-pub sizes-listed : (job : Job) {a : Listed} {m : PlateTypes} {k : CutNumber} → a ≡ Done m k → SizesListed job a → length job.sizes ≤ m.0
+pub sizes-listed : (job : Job) {a : Result Listed Refused} {n : Listed} → a ≡ Ok n → SizesListed job a → length job.sizes ≤ n.plates.0
 sizes-listed job e = subst (SizesListed job) e
 
 -- what a call that succeeds has listed is the listing of the job
 pub listed-is :
-    (ws : List ℕ) (a : Listed)
+    (ws : List ℕ) (a : Result Listed Refused)
     → (job_words ws then admission (job_of ws)) ≡ pass
     → says_of (job_of ws) a ≡ answer (model_row (job_of ws)) (listing_results ws)
     → OnListed a (IsListing (job_of ws) (listing_of (job_of ws)))
-listed-is ws (Done m k) admitted e =
+listed-is ws (Ok n) admitted e =
     ((listing-exact.admitted ws admitted).walked (listing_of (job_of ws))).0 (row-listing (job_of ws) (given-pass (model_row (job_of ws)) (listing_results ws) e))
-listed-is ws (Refused number place) admitted e = tt
+listed-is ws (Err r) admitted e = tt
 
 -- a call that succeeds keeps its promise
-pub listed-done : {a : Listed} {m : PlateTypes} {k : CutNumber} {promise : Type 0} → a ≡ Done m k → OnListed a promise → promise
-listed-done {promise = promise} e = subst (λ (x : Listed). OnListed x promise) e
+pub listed-done : {a : Result Listed Refused} {n : Listed} {promise : Type 0} → a ≡ Ok n → OnListed a promise → promise
+listed-done {promise = promise} e = subst (λ (x : Result Listed Refused). OnListed x promise) e

@@ -9,8 +9,6 @@ use borrow.Author.Tests.{lt-ltb, le-ltb, ltb-true, ltb-false, le-leb, lt-leb}
 use lib.Dec.{ltb}
 use lib.ListN.{length, get_or, set, length-append, get_or-append, get_or-eq_default}
 use lib.Seq.{get_or-set_same, get_or-set_other, get_or-append_seam}
-use Rattle.job.specs.declared.counters.PlateType.{PlateType}
-use Rattle.job.specs.declared.counters.PlateTypes.{PlateTypes}
 use Rattle.job.specs.Sizes.{max_plates}
 use Rattle.job.proofs.Tests.{at-most-or-above}
 use Rattle.job.specs.declared.size.Size.{Size}
@@ -24,7 +22,9 @@ use Rattle.listing.proofs.Numbers.{from-before}
 use Rattle.listing_index.specs.Index.{Indexed, New}
 use Rattle.listing_positions.specs.Least.{least_of}
 use Rattle.listing_call.specs.declared.entry.Entered.{Entered}
-use Rattle.listing_call.specs.declared.entry.Entered.TheVariants.{As, Full}
+use Rattle.std.specs.Prelude.{Result, Ok, Err}
+use Rattle.job.specs.declared.refused.Refusal.{Refusal}
+use Rattle.job.specs.declared.refused.Refusal.TheVariants.{PlatesMany}
 use Rattle.listing_call.specs.Steps.{Holding, KeptFrom, EnteredIn, EnteredAs}
 
 -- past the sizes a plate type costs nothing
@@ -122,8 +122,8 @@ module _ (job : Job) (p : Plate) (ps : List Plate) where
           })
 
 -- an answer taken apart
-pub as-numbered : {job : Job} {e : Entry} {a : Entered} {j : PlateType} {m : PlateTypes} {plates index leasts : List ℕ} → a ≡ As j m → EnteredAs job e a plates index leasts → EnteredIn job e j.0 m.0 plates index leasts
-as-numbered {job} {e} {plates = plates} {index = index} {leasts = leasts} q = subst (λ (x : Entered). EnteredAs job e x plates index leasts) q
+pub as-numbered : {job : Job} {e : Entry} {a : Result Entered Refusal} {n : Entered} {plates index leasts : List ℕ} → a ≡ Ok n → EnteredAs job e a plates index leasts → EnteredIn job e n.number.0 n.plates.0 plates index leasts
+as-numbered {job} {e} {plates = plates} {index = index} {leasts = leasts} q = subst (λ (x : Result Entered Refusal). EnteredAs job e x plates index leasts) q
 
-pub as-full : (job : Job) (e : Entry) {a : Entered} (plates index leasts : List ℕ) → a ≡ Full → EnteredAs job e a plates index leasts → max_plates < length e.plates
-as-full job e plates index leasts q = subst (λ (x : Entered). EnteredAs job e x plates index leasts) q
+pub as-full : (job : Job) (e : Entry) {a : Result Entered Refusal} {r : Refusal} (plates index leasts : List ℕ) → a ≡ Err r → EnteredAs job e a plates index leasts → (r ≡ PlatesMany) × (max_plates < length e.plates)
+as-full job e plates index leasts q = subst (λ (x : Result Entered Refusal). EnteredAs job e x plates index leasts) q

@@ -1,14 +1,12 @@
 -- The sizes written as the first plate types, on plain values: after j of them the buffer holds the first j.
 use mathlib.Core.Path.{◌≡◌, refl, ap, subst, sym, ◌∙◌}
 use Prim.Native.Nat.{ℕ, zero, suc, ◌+◌, ◌≤◌, ◌<◌}
-use mathlib.Core.Logic.{◌⊎◌, inl, inr}
 use mathlib.Core.List.{List, [], ◌∷◌, ◌++◌, map}
 use native.Mathlib.Omega.{arith}
 use native.Mathlib.Numerals.{add-one}
-use lib.ListN.{length, get_or, set, take, replicate, length-map}
-use lib.Seq.{take-suc, take_all, length-take-le, get_or-set_same, get_or-set_other}
+use lib.ListN.{length, get_or, take, replicate, length-map}
+use lib.Seq.{take-suc, take_all, length-take-le}
 use Rattle.job.specs.Sizes.{max_plates}
-use Rattle.job.proofs.Tests.{at-most-or-above}
 use Rattle.job.specs.declared.size.Size.{Size}
 use Rattle.job.specs.Job.{Job, no_size, size_at}
 use Rattle.listing.specs.declared.plate.Plate.{Plate}
@@ -58,11 +56,3 @@ sizes-known job t e few f =
       of-index = index-empty (length job.sizes) (map board job.sizes) n (omega arith);
       of-leasts = λ j l. f j (omega arith) ∙ ap (least_of job) (sym (size-at job.sizes j (omega arith)));
     }
-
--- one least side more
-pub leasts-next : (f : ℕ → ℕ) (leasts : List ℕ) (j : ℕ) {x : ℕ} → j < length leasts → x ≡ f j → ((i : ℕ) → i < j → get_or leasts i 0 ≡ f i) → (i : ℕ) → i < j + 1 → get_or (set leasts j x) i 0 ≡ f i
-leasts-next f leasts j {x} room e h i l = go (at-most-or-above j i)
-  where
-    go : (j ≤ i) ⊎ (i < j) → get_or (set leasts j x) i 0 ≡ f i
-    go (inl b) = let z : i ≡ j = omega arith in rw z (get_or-set_same leasts j x 0 room ∙ e)
-    go (inr b) = get_or-set_other leasts j i x 0 (λ z. omega arith) ∙ h i b

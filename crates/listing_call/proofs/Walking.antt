@@ -8,8 +8,6 @@ use native.Mathlib.Numerals.{add-one}
 use native.Mathlib.Omega.{arith}
 use borrow.Author.Tests.{lt-ltb}
 use lib.ListN.{length, get_or, drop}
-use Rattle.job.specs.declared.counters.PlateTypes.{PlateTypes}
-use Rattle.job.specs.declared.counters.CutNumber.{CutNumber}
 use Rattle.job.specs.declared.mode.Mode.{Mode}
 use Rattle.job.specs.declared.item.Position.{Position}
 use Rattle.job.specs.Sizes.{max_plates, max_cuts}
@@ -27,8 +25,10 @@ use Rattle.listing.proofs.CodeHolds.{held-plate}
 use Rattle.listing.proofs.Steps.{plates-end}
 use Rattle.listing_positions.specs.Least.{least_of}
 use Rattle.listing_positions.specs.Table.{Next}
-use Rattle.listing_call.specs.declared.walk.Step.{Step}
-use Rattle.listing_call.specs.declared.walk.Step.TheVariants as step
+use Rattle.std.specs.Prelude.{Result, Ok, Err}
+use Rattle.job.specs.declared.refused.Refusal.{Refusal}
+use Rattle.job.specs.Refused.{number_of}
+use Rattle.listing_call.specs.declared.walk.Listed.{Listed}
 use Rattle.listing_call.specs.Steps.{Ready, Rep, Here, Known, Stands, and_then, rest_walk, rest_row, Goes, Stepped}
 use Rattle.listing_call.proofs.Pairing.{Paired, step-none}
 
@@ -193,15 +193,12 @@ module _ (job : Job) (j : ℕ) {plates index leasts cuts : List ℕ} {m k : ℕ}
           rw z (row-skip q (i + 1) s (omega arith) f)
 
 -- an answer taken apart
-pub goes-next : {job : Job} {rest : Listing → Walk} {a : Step} {m : PlateTypes} {k : CutNumber} {plates index leasts cuts : List ℕ} → a ≡ step.Next m k → Goes job rest a plates index leasts cuts → Stands job rest plates index leasts cuts m.0 k.0
-goes-next {job} {rest} {plates = plates} {index = index} {leasts = leasts} {cuts = cuts} e = subst (λ (x : Step). Goes job rest x plates index leasts cuts) e
+pub goes-next : {job : Job} {rest : Listing → Walk} {a : Result Listed Refusal} {n : Listed} {plates index leasts cuts : List ℕ} → a ≡ Ok n → Goes job rest a plates index leasts cuts → Stands job rest plates index leasts cuts n.plates.0 n.cuts.0
+goes-next {job} {rest} {plates = plates} {index = index} {leasts = leasts} {cuts = cuts} e = subst (λ (x : Result Listed Refusal). Goes job rest x plates index leasts cuts) e
 
-pub goes-stop : (job : Job) (rest : Listing → Walk) {a : Step} {number : ℕ} (plates index leasts cuts : List ℕ) → a ≡ step.Stop number → Goes job rest a plates index leasts cuts → (walk job ≡ stopped number) × (5 < number)
-goes-stop job rest plates index leasts cuts e = subst (λ (x : Step). Goes job rest x plates index leasts cuts) e
+module _ {job : Job} {w : Walk} {a : Result Listed Refusal} where
+  pub as-next : {n : Listed} {plates cuts : List ℕ} → a ≡ Ok n → Stepped job w a plates cuts → Here job going w plates cuts n.plates.0 n.cuts.0
+  as-next {plates = plates} {cuts = cuts} e = subst (λ (x : Result Listed Refusal). Stepped job w x plates cuts) e
 
-module _ {job : Job} {w : Walk} {a : Step} where
-  pub as-next : {m : PlateTypes} {k : CutNumber} {plates cuts : List ℕ} → a ≡ step.Next m k → Stepped job w a plates cuts → Here job going w plates cuts m.0 k.0
-  as-next {plates = plates} {cuts = cuts} e = subst (λ (x : Step). Stepped job w x plates cuts) e
-
-pub as-stop : (job : Job) {w : Walk} {a : Step} {number : ℕ} (plates cuts : List ℕ) → a ≡ step.Stop number → Stepped job w a plates cuts → (w ≡ stopped number) × (5 < number)
-as-stop job {w} plates cuts e = subst (λ (x : Step). Stepped job w x plates cuts) e
+pub as-stop : (job : Job) {w : Walk} {a : Result Listed Refusal} {r : Refusal} (plates cuts : List ℕ) → a ≡ Err r → Stepped job w a plates cuts → (w ≡ stopped (number_of r)) × (5 < number_of r)
+as-stop job {w} plates cuts e = subst (λ (x : Result Listed Refusal). Stepped job w x plates cuts) e

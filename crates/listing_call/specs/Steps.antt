@@ -1,11 +1,13 @@
 -- How the code's walk stands to the walk of the model: buffers, tables and counters that hold a listing, from which the rest of the walk is the whole.
-use Rattle.std.specs.Prelude.{ℕ, ◌+◌, ◌-◌, ◌*◌, ◌≤◌, ◌<◌, ◌≡◌, true, cond, List, leb, eqb, length, get_or, drop}
+use Rattle.std.specs.Prelude.{ℕ, ◌+◌, ◌-◌, ◌*◌, ◌≤◌, ◌<◌, ◌≡◌, true, cond, List, leb, eqb, length, get_or, drop, Result, Ok, Err}
 use Rattle.job.specs.declared.mode.Mode.{Mode}
 use Rattle.job.specs.Mode.{three}
+use Rattle.job.specs.declared.refused.Refusal.{Refusal}
+use Rattle.job.specs.declared.refused.Refusal.TheVariants.{PlatesMany}
+use Rattle.job.specs.Refused.{number_of}
 use Rattle.job.specs.Sizes.{max_types, max_plates, max_cuts, plates_size, cuts_size}
 use Rattle.job.specs.Job.{Job, job_of, positions}
 use Rattle.job.specs.Admitted.{Sided}
-use Rattle.job.specs.JobWords.{JobWords}
 use Rattle.listing.specs.declared.plate.Plate.{Plate}
 use Rattle.listing.specs.Plate.{waste, kept}
 use Rattle.listing.specs.Listing.{Listing, Walk, going, stopped, Entry, over_items, over_plates, walk}
@@ -15,19 +17,15 @@ use Rattle.listing_index.specs.Index.{index_size, Indexed}
 use Rattle.listing_positions.specs.Least.{least_of}
 use Rattle.listing_positions.specs.Table.{table_size, Table}
 use Rattle.listing_call.specs.declared.entry.Entered.{Entered}
-use Rattle.listing_call.specs.declared.entry.Entered.TheVariants.{As, Full}
-use Rattle.listing_call.specs.declared.walk.Step.{Step}
-use Rattle.listing_call.specs.declared.walk.Step.TheVariants.{Next, Stop}
+use Rattle.listing_call.specs.declared.walk.Listed.{Listed}
 
--- room for every plate type and every cut, and the job's words, with its blade (request Four) and sides of at least 1
-pub record Room (ws : List ℕ) (mode : Mode) (blade t n : ℕ) (plates cuts : List ℕ) : Type 0 where
-  pub of-job : JobWords ws mode t n
-  pub of-blade : blade ≡ (job_of ws).blade
+-- room for every plate type and every cut, and a job with sides of at least 1
+pub record Room (ws plates cuts : List ℕ) : Type 0 where
   pub sided : Sided (job_of ws)
   pub plate-room : plates_size ≤ length plates
   pub cut-room : cuts_size ≤ length cuts
 
--- the same within the walk, with the table of the job's positions, and room for the index and for the least side of every plate type
+-- the same within the walk, with the mode of the job and its blade (request Four), the table of the job's positions, and room for the index and for the least side of every plate type
 pub record Ready (ws : List ℕ) (mode : Mode) (blade : ℕ) (table plates index leasts cuts : List ℕ) : Type 0 where
   pub of-mode : mode ≡ (job_of ws).mode
   pub of-blade : blade ≡ (job_of ws).blade
@@ -93,9 +91,9 @@ pub record EnteredIn (job : Job) (e : Entry) (j m : ℕ) (plates index leasts : 
   pub number : j ≡ e.number
   pub holding : Holding job e.plates plates index leasts m
 
-abbrev pub EnteredAs : Job → Entry → Entered → List ℕ → List ℕ → List ℕ → Type 0
-EnteredAs job e (As j m) plates index leasts = EnteredIn job e j.0 m.0 plates index leasts
-EnteredAs job e Full plates index leasts = max_plates < length e.plates
+abbrev pub EnteredAs : Job → Entry → Result Entered Refusal → List ℕ → List ℕ → List ℕ → Type 0
+EnteredAs job e (Ok a) plates index leasts = EnteredIn job e a.number.0 a.plates.0 plates index leasts
+EnteredAs job e (Err r) plates index leasts = (r ≡ PlatesMany) × (max_plates < length e.plates)
 
 -- the walk goes on with `rest` unless it has stopped
 abbrev pub and_then : Walk → (Listing → Walk) → Walk
@@ -109,11 +107,11 @@ abbrev pub rest_row : Job → ℕ → Plate → ℕ → Listing → Walk
 rest_row job j q i l = and_then (over_items max_plates max_cuts job j q i (drop (i - 1) (positions job)) l) (rest_walk job (j + 1))
 
 -- a part of the walk, as the code answers it: the buffers hold a listing from which `rest` is the whole walk, or this has stopped with 6 or 7
-abbrev pub Goes : Job → (Listing → Walk) → Step → List ℕ → List ℕ → List ℕ → List ℕ → Type 0
-Goes job rest (Next m k) plates index leasts cuts = Stands job rest plates index leasts cuts m.0 k.0
-Goes job rest (Stop number) plates index leasts cuts = (walk job ≡ stopped number) × (5 < number)
+abbrev pub Goes : Job → (Listing → Walk) → Result Listed Refusal → List ℕ → List ℕ → List ℕ → List ℕ → Type 0
+Goes job rest (Ok a) plates index leasts cuts = Stands job rest plates index leasts cuts a.plates.0 a.cuts.0
+Goes job rest (Err r) plates index leasts cuts = (walk job ≡ stopped (number_of r)) × (5 < number_of r)
 
 -- the whole walk, as the code answers it: it ends with a listing, which the buffers then hold, or it has stopped with 6 or 7
-abbrev pub Stepped : Job → Walk → Step → List ℕ → List ℕ → Type 0
-Stepped job w (Next m k) plates cuts = Here job going w plates cuts m.0 k.0
-Stepped job w (Stop number) plates cuts = (w ≡ stopped number) × (5 < number)
+abbrev pub Stepped : Job → Walk → Result Listed Refusal → List ℕ → List ℕ → Type 0
+Stepped job w (Ok a) plates cuts = Here job going w plates cuts a.plates.0 a.cuts.0
+Stepped job w (Err r) plates cuts = (w ≡ stopped (number_of r)) × (5 < number_of r)

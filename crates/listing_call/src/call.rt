@@ -4,31 +4,23 @@ ghost use Rattle.job.specs.Sizes.{plates_size, cuts_size};
 ghost use Rattle.job.specs.Verdict.{pass, ◌then◌};
 ghost use Rattle.job.specs.Buffers.{answer, sized};
 ghost use Rattle.job.specs.Job.{job_of, job_words, admission};
-ghost use Rattle.job.specs.Row.{row_verdict};
+ghost use Rattle.job.specs.Refused.{row_verdict};
 ghost use Rattle.listing.specs.Listing.{listing_of, model_row, residual_types};
 ghost use Rattle.listing.specs.Numbering.{IsListing};
 ghost use Rattle.listing.specs.ListCall.{list_verdict, list_answer, plates_end, cuts_end};
 ghost use Rattle.listing_call.specs.ListSays.{says_of, SizesListed, OnListed};
 
 use crate::sizes::put_sizes;
-use crate::walk::{Step, walk};
+use crate::walk::{Listed, walk};
 use job::admit::check_job;
-use job::counters::{CutNumber, PlateTypes};
-use job::head::head_of;
-use job::lent::{end_refused, model_sized};
-use job::row::Row;
+use job::job_read::JobRead;
+use job::lent::model_sized;
+use job::refused::Refused;
 use job::words::clear;
-
-// The numbers of plate types and cuts; or the number of a refusal and the place that it names.
-#[derive(Clone, Copy)]
-pub enum Listed {
-    Done(PlateTypes, CutNumber),
-    Refused(u16, usize),
-}
 
 // Lists a job whose words have passed into buffers of full size: plate types and cuts, and zeros past them. Refused are 6 and 7, naming 0; every word of
 // both buffers is then 0.
-pub fn list_into(job: &[u16], plates: &mut [u16], cuts: &mut [u16]) -> Listed
+pub fn list_into(job: &[u16], plates: &mut [u16], cuts: &mut [u16]) -> Result<Listed, Refused>
     requires job_value { job_words job.now ≡ pass }
     requires plates_size_in_bounds { (plates_size ≤ length plates.old) × (cuts_size ≤ length cuts.old) }
     ensures sizes_listed { SizesListed (job_of job.now) result }
@@ -38,28 +30,23 @@ pub fn list_into(job: &[u16], plates: &mut [u16], cuts: &mut [u16]) -> Listed
 {
     clear(plates);
     clear(cuts);
-    let head = head_of(job);
-    put_sizes(job, head.sizes, plates);
-    match walk(
-        job, head.mode, head.blade, head.sizes, head.types, plates, cuts,
-    ) {
-        Step::Next(m, k) => Listed::Done(m, k),
-        Step::Stop(number) => {
+    let read = JobRead::new(job);
+    put_sizes(job, read.head.sizes, plates);
+    match walk(&read, plates, cuts) {
+        Ok(listed) => Ok(listed),
+        Err(refusal) => {
             clear(plates);
             clear(cuts);
-            Listed::Refused(number, 0)
+            Err(refusal.at(0))
         }
     }
 }
 
 // The rows before the model: the job, and then the lent buffers.
-fn list_checks(job: &[u16], plates: &[u16], cuts: &[u16]) -> Row
+fn list_checks(job: &[u16], plates: &[u16], cuts: &[u16]) -> Result<(), Refused>
     ensures { row_verdict result ≡ ((job_words job.now then admission (job_of job.now)) then sized 1 plates_size plates.now then sized 2 cuts_size cuts.now) }
 {
-    let admitted = check_job(job);
-    let Row::Passes = admitted else {
-        return admitted;
-    };
+    check_job(job)?;
     model_sized(plates, cuts)
 }
 
@@ -67,7 +54,7 @@ fn list_checks(job: &[u16], plates: &[u16], cuts: &[u16]) -> Row
 // Refused are 1 to 4 of the job; 5 a buffer shorter than its full size, plates 1, cuts 2; 6 and 7 of the model, naming 0. After 5 both buffers are
 // unchanged, after another refusal every word of them is 0, after success the unused words are 0. On success what they hold is the listing of the job, of which
 // there is exactly one.
-pub fn list(job: &[u16], plates: &mut [u16], cuts: &mut [u16]) -> Listed
+pub fn list(job: &[u16], plates: &mut [u16], cuts: &mut [u16]) -> Result<Listed, Refused>
     ensures sizes_listed { SizesListed (job_of job.now) result }
     ensures on_listed { OnListed result (IsListing (job_of job.now) (listing_of (job_of job.now))) }
     ensures result_value { says_of (job_of job.now) result ≡ list_answer job.now plates.old cuts.old }
@@ -75,11 +62,11 @@ pub fn list(job: &[u16], plates: &mut [u16], cuts: &mut [u16]) -> Listed
     ensures cuts_after { cuts.new ≡ cuts_end (list_verdict job.now plates.old cuts.old) job.now cuts.old }
 {
     match list_checks(job, plates, cuts) {
-        Row::Refuses(number, place) => {
-            end_refused(number, plates);
-            end_refused(number, cuts);
-            Listed::Refused(number, place)
+        Err(refused) => {
+            refused.end(plates);
+            refused.end(cuts);
+            Err(refused)
         }
-        Row::Passes => list_into(job, plates, cuts),
+        Ok(()) => list_into(job, plates, cuts),
     }
 }

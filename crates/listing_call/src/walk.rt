@@ -1,48 +1,50 @@
 // The walk: plate types in rising number, at each the item types in rising number, each unturned and then turned.
-ghost use Rattle.std.specs.Prelude.{◌≡◌, true, ◌+◌, ◌*◌, length};
-ghost use Rattle.job.specs.Job.{job_of, positions, permitted};
+ghost use Rattle.std.specs.Prelude.{◌≡◌, true, ◌+◌};
+ghost use Rattle.job.specs.Job.{job_of, permitted};
 ghost use Rattle.listing.specs.Listing.{walk_start, walk};
 ghost use Rattle.listing_positions.specs.Least.{least_of};
 ghost use Rattle.listing_call.specs.Steps.{Room, Ready, Rep, Stands, top_from, right_from, rest_walk, rest_row, Goes, Stepped};
 
-use crate::entry::{Entered, enter};
+use crate::entry::enter;
 use crate::sizes::put_leasts;
-use job::counters::{BoardSizes, CutNumber, ItemPosition, ItemType, PlateType, PlateTypes};
+use job::counters::{CutNumber, ItemPosition, PlateType, PlateTypes};
+use job::job_read::JobRead;
 use job::mode::Mode;
+use job::refused::Refusal;
 use job::sizes::{MAX_CUTS, MAX_PLATES};
 use listing::plate::{Plate, cut_leaves, may_cut};
 use listing::words::{plate_at, put_cut};
 use listing_index::index::INDEX_SIZE;
 use listing_positions::table::{Leasts, TABLE_SIZE, learn, leasts_at, lying_at, next_at};
 
-// The numbers of plate types and cuts so far; or the refusal that the walk met.
-#[derive(Clone, Copy)]
-pub enum Step {
-    Next(PlateTypes, CutNumber),
-    Stop(u16),
+// The numbers of plate types and cuts so far.
+#[derive(Clone, Copy, Debug, PartialEq, Eq)]
+pub struct Listed {
+    pub plates: PlateTypes,
+    pub cuts: CutNumber,
 }
 
 // From which sides on the residuals of a cut are kept, by the stage and the least side of its plate and by the least sides of its item's position.
+#[tactic(auto, unfolding(crate::specs::Steps::top_from, crate::specs::Steps::right_from))]
 fn leasts_left(mode: Mode, stage: u16, least: u16, lying: Leasts) -> Leasts
     ensures { (result.top ≡ top_from stage least lying.top) × (result.right ≡ right_from mode stage least lying.right) }
 {
-    if stage == 1 {
-        return Leasts {
-            right: lying.right,
+    match (stage, mode.three()) {
+        (1, _) => Leasts {
             top: least,
-        };
-    }
-    if mode.three() {
-        return Leasts {
+            ..lying
+        },
+        (_, true) => Leasts {
             right: least,
-            top: lying.top,
-        };
+            ..lying
+        },
+        _ => lying,
     }
-    lying
 }
 
 // The pair of plate type j, which is `plate` and has this least side, and an item in position i: if it may be cut, it becomes the next cut, and its residuals
 // are entered.
+// Words, mode and blade in place of a `JobRead`: what may not change (`pair_step`, which docs/requests/01-turned-items.md names).
 pub fn pair_step(
     job: &[u16],
     mode: Mode,
@@ -58,7 +60,7 @@ pub fn pair_step(
     plate: Plate,
     least: u16,
     i: ItemPosition,
-) -> Step
+) -> Result<Listed, Refusal>
     requires ready { Ready job.now mode blade table.now plates.old index.old leasts.old cuts.old }
     requires i_value { (permitted (job_of job.now) i.0 ≡ true) × (least ≡ least_of (job_of job.now) plate) }
     requires stands { Stands (job_of job.now) (rest_row (job_of job.now) j.0 plate i.0) plates.old index.old leasts.old cuts.old m.0 k.0 }
@@ -66,60 +68,64 @@ pub fn pair_step(
 {
     let item = lying_at(table, i);
     if !may_cut(mode, item, plate) {
-        return Step::Next(m, k);
+        return Ok(Listed { plates: m, cuts: k });
     }
     let done = k.0;
     if MAX_CUTS <= done {
-        return Step::Stop(7);
+        return Err(Refusal::CutsMany);
     }
     let left = cut_leaves(mode, blade, item, plate);
     let top = left.top;
     let right = left.right;
     let from = leasts_left(mode, plate.stage, least, leasts_at(table, i));
-    let Entered::As(t, m1) = enter(plates, index, leasts, m, top, top.height, from.top) else {
-        return Step::Stop(6);
-    };
-    let Entered::As(r, m2) = enter(plates, index, leasts, m1, right, right.width, from.right) else {
-        return Step::Stop(6);
-    };
-    put_cut(cuts, k, j, i, t, r);
-    Step::Next(m2, CutNumber(done + 1))
+    let t = enter(plates, index, leasts, m, top, top.height, from.top)?;
+    let r = enter(
+        plates,
+        index,
+        leasts,
+        t.plates,
+        right,
+        right.width,
+        from.right,
+    )?;
+    put_cut(cuts, k, j, i, t.number, r.number);
+    Ok(Listed {
+        plates: r.plates,
+        cuts: CutNumber(done + 1),
+    })
 }
 
 // The plate types in rising number, at each the permitted positions in rising number; both loops are left when a 2,049th plate type or an 8,193rd cut is met.
 fn walk_rows(
-    job: &[u16],
-    mode: Mode,
-    blade: u16,
-    sizes: BoardSizes,
-    n: ItemType,
+    job: &JobRead,
     table: &[u16],
     plates: &mut [u16],
     index: &mut [u16],
     leasts: &mut [u16],
     cuts: &mut [u16],
-) -> Step
-    requires ready { Ready job.now mode blade table.now plates.old index.old leasts.old cuts.old }
-    requires job_len { length (positions (job_of job.now)) ≡ 2 * n.0 + 1 }
-    requires stands { Stands (job_of job.now) (rest_walk (job_of job.now) 0) plates.old index.old leasts.old cuts.old sizes.0 0 }
-    ensures { Stepped (job_of job.now) (walk (job_of job.now)) result plates.new cuts.new }
+) -> Result<Listed, Refusal>
+    requires ready { Ready job.now.words.now job.now.head.mode job.now.head.blade table.now plates.old index.old leasts.old cuts.old }
+    requires stands { Stands (job_of job.now.words.now) (rest_walk (job_of job.now.words.now) 0) plates.old index.old leasts.old cuts.old job.now.head.sizes.0 0 }
+    ensures { Stepped (job_of job.now.words.now) (walk (job_of job.now.words.now)) result plates.new cuts.new }
 {
-    let last = 2 * n.0 + 1;
-    let mut m = PlateTypes(sizes.0);
+    let head = job.head;
+    let last = 2 * head.types.0 + 1;
+    let mut m = PlateTypes(head.sizes.0);
     let mut k = CutNumber(0);
     let mut j: u16 = 0;
+    // By hand and left by its label: a rule of the project (docs/DECISIONS.md 25); m, where it ends, rises as it goes.
     'walk: loop {
         if m.0 <= j {
-            break 'walk Step::Next(m, k);
+            break 'walk Ok(Listed { plates: m, cuts: k });
         }
         let plate = plate_at(plates, PlateType(j));
         let least = leasts[j as usize];
         let mut i: u16 = 2;
         while i <= last {
             match pair_step(
-                job,
-                mode,
-                blade,
+                job.words,
+                head.mode,
+                head.blade,
                 table,
                 plates,
                 index,
@@ -132,12 +138,12 @@ fn walk_rows(
                 least,
                 ItemPosition(i),
             ) {
-                Step::Next(m1, k1) => {
-                    m = m1;
-                    k = k1;
+                Ok(listed) => {
+                    m = listed.plates;
+                    k = listed.cuts;
                 }
-                Step::Stop(number) => {
-                    break 'walk Step::Stop(number);
+                Err(refusal) => {
+                    break 'walk Err(refusal);
                 }
             }
             i = next_at(table, ItemPosition(i));
@@ -147,34 +153,15 @@ fn walk_rows(
 }
 
 // The whole walk, from buffers that hold the sizes alone.
-pub fn walk(
-    job: &[u16],
-    mode: Mode,
-    blade: u16,
-    sizes: BoardSizes,
-    n: ItemType,
-    plates: &mut [u16],
-    cuts: &mut [u16],
-) -> Step
-    requires room { Room job.now mode blade sizes.0 n.0 plates.old cuts.old }
-    requires rep { Rep (job_of job.now) (walk_start (job_of job.now)) plates.old cuts.old sizes.0 0 }
-    ensures { Stepped (job_of job.now) (walk (job_of job.now)) result plates.new cuts.new }
+pub fn walk(job: &JobRead, plates: &mut [u16], cuts: &mut [u16]) -> Result<Listed, Refusal>
+    requires room { Room job.now.words.now plates.old cuts.old }
+    requires rep { Rep (job_of job.now.words.now) (walk_start (job_of job.now.words.now)) plates.old cuts.old job.now.head.sizes.0 0 }
+    ensures { Stepped (job_of job.now.words.now) (walk (job_of job.now.words.now)) result plates.new cuts.new }
 {
     let mut table = [0u16; TABLE_SIZE];
-    learn(job, mode, n, &mut table);
+    learn(job, &mut table);
     let mut index = [0u16; INDEX_SIZE];
     let mut leasts = [0u16; MAX_PLATES as usize];
-    put_leasts(job, mode, sizes, n, &mut leasts);
-    walk_rows(
-        job,
-        mode,
-        blade,
-        sizes,
-        n,
-        &table,
-        plates,
-        &mut index,
-        &mut leasts,
-        cuts,
-    )
+    put_leasts(job, &mut leasts);
+    walk_rows(job, &table, plates, &mut index, &mut leasts, cuts)
 }

@@ -7,7 +7,7 @@ use mathlib.Core.Bool.{Bool, true, false, cond, ◌&&◌}
 use mathlib.Core.List.{List, [], ◌∷◌}
 use lib.Dec.{ltb, eqb}
 use lib.ListN.{length, get_or}
-use borrow.Author.Tests.{eq-eqb, ne_eqb, eqb-true, eqb-false, ltb-true, ltb-false}
+use borrow.Author.Tests.{eqb-true, eqb-false, ltb-true, ltb-false}
 use Rattle.job.specs.Job.{Job}
 use Rattle.listing.specs.Listing.{Cut, Listing, no_cut, cut_at}
 use Rattle.listing.specs.Model.{Before, Model}
@@ -78,24 +78,6 @@ module _ (cs : List Cut) (r : Rising cs) (j i a b m : ℕ) (n : Narrowed cs j i 
 -- the cut is that of the pair
 abbrev is_pair : ℕ → ℕ → Cut → Bool
 is_pair j i c = on_plate j c && of_position i c
-
--- where two cuts are the same, the plate types of the one, and then its positions, are compared for the other
-module _ (j i : ℕ) (c d : Cut) (h : c ≡ d) where
-  pub earlier-other : (c.plate ≡ j → ⊥) → ltb c.plate j ≡ earlier j i d
-  unfolding earlier
-  earlier-other e = rw (← h, ne_eqb c.plate j e)
-
-  pub earlier-same : c.plate ≡ j → ltb c.item i ≡ earlier j i d
-  unfolding earlier
-  earlier-same e = rw (← h, eq-eqb c.plate j e)
-
-  pub pair_same : c.plate ≡ j → eqb c.item i ≡ is_pair j i d
-  unfolding on_plate of_position
-  pair_same e = rw (← h, eq-eqb c.plate j e)
-
-  pub pair-other : (c.plate ≡ j → ⊥) → eqb c.plate j ≡ is_pair j i d
-  unfolding on_plate of_position
-  pair-other e = rw (← h, ne_eqb c.plate j e)
 
 -- one that comes before the pair, or after it, is not
 pair_parts : (j i : ℕ) (c : Cut) → is_pair j i c ≡ true → (c.plate ≡ j) × (c.item ≡ i)

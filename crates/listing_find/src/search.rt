@@ -11,32 +11,24 @@ ghost use Rattle.listing_find.specs.Found.{cut_found, Among};
 use job::counters::{CutNumber, ItemPosition, PlateType};
 use listing::cut::cut_at;
 
-// The cut that is found, if there is one.
-#[derive(Clone, Copy)]
-pub enum Found {
-    At(CutNumber),
-    Nothing,
-}
-
 // Whether a cut comes before the pair of plate type j and position i.
+#[tactic(auto, unfolding(crate::specs::Rising::earlier))]
 fn is_earlier(cuts: &[u16], c: CutNumber, j: PlateType, i: ItemPosition) -> bool
     requires { (1 ≤ c.0) × (words_of_cut * c.0 ≤ length cuts.now) }
     ensures { result ≡ earlier j.0 i.0 (cut_read cuts.now (c.0 - 1)) }
 {
     let cut = cut_at(cuts, c);
-    if cut.plate.0 != j.0 {
-        return cut.plate.0 < j.0;
-    }
-    cut.item.0 < i.0
+    (cut.plate, cut.item) < (j, i)
 }
 
 // Whether a cut is that of plate type j and position i.
+#[tactic(auto, unfolding(plan::specs::Plan::on_plate, plan::specs::Plan::of_position))]
 fn is_pair(cuts: &[u16], c: CutNumber, j: PlateType, i: ItemPosition) -> bool
     requires { (1 ≤ c.0) × (words_of_cut * c.0 ≤ length cuts.now) }
     ensures { result ≡ (on_plate j.0 (cut_read cuts.now (c.0 - 1)) && of_position i.0 (cut_read cuts.now (c.0 - 1))) }
 {
     let cut = cut_at(cuts, c);
-    cut.plate.0 == j.0 && cut.item.0 == i.0
+    cut.plate == j && cut.item == i
 }
 
 // The number of the cut of plate type j and position i among k cuts in rising order, where the first `from` cuts come before the pair, and those behind
@@ -48,7 +40,7 @@ fn find_between(
     to: u16,
     j: PlateType,
     i: ItemPosition,
-) -> Found
+) -> Option<CutNumber>
     requires k_in_bounds { (words_of_cut * k.0 ≤ length cuts.now) × ((from ≤ to) × (to ≤ k.0)) }
     requires narrowed { Rising (cuts_read k.0 cuts.now) → Narrowed (cuts_read k.0 cuts.now) j.0 i.0 from to }
     ensures result_value { (l : Listing) → l.cuts ≡ cuts_read k.0 cuts.now → Rising l.cuts → cut_found result ≡ cut_of l j.0 i.0 }
@@ -64,16 +56,14 @@ fn find_between(
             high = middle;
         }
     }
-    if low < k.0 {
-        if is_pair(cuts, CutNumber(low + 1), j, i) {
-            return Found::At(CutNumber(low + 1));
-        }
+    if low < k.0 && is_pair(cuts, CutNumber(low + 1), j, i) {
+        return Some(CutNumber(low + 1));
     }
-    Found::Nothing
+    None
 }
 
 // The number of the cut of plate type j and position i among k cuts in rising order.
-pub fn find_cut(cuts: &[u16], k: CutNumber, j: PlateType, i: ItemPosition) -> Found
+pub fn find_cut(cuts: &[u16], k: CutNumber, j: PlateType, i: ItemPosition) -> Option<CutNumber>
     requires { words_of_cut * k.0 ≤ length cuts.now }
     ensures result_value { (l : Listing) → l.cuts ≡ cuts_read k.0 cuts.now → Rising l.cuts → cut_found result ≡ cut_of l j.0 i.0 }
     ensures among { Among k.0 result }
@@ -85,10 +75,7 @@ pub fn find_cut(cuts: &[u16], k: CutNumber, j: PlateType, i: ItemPosition) -> Fo
 fn cuts_before(c: CutNumber) -> u16
     ensures { result ≡ c.0 - 1 }
 {
-    if c.0 == 0 {
-        return 0;
-    }
-    c.0 - 1
+    c.0.saturating_sub(1)
 }
 
 // The same, found in fewer steps where it is not far behind the cut `near`: the cuts from there on are tried at distances that double.
@@ -98,7 +85,7 @@ pub fn find_cut_near(
     near: CutNumber,
     j: PlateType,
     i: ItemPosition,
-) -> Found
+) -> Option<CutNumber>
     requires { words_of_cut * k.0 ≤ length cuts.now }
     ensures result_value { (l : Listing) → l.cuts ≡ cuts_read k.0 cuts.now → Rising l.cuts → cut_found result ≡ cut_of l j.0 i.0 }
     ensures among { Among k.0 result }

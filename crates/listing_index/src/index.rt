@@ -1,5 +1,6 @@
 // The index of residual types, in words: for each bucket one more than the greatest number in it, and behind them for each number one more than the one
 // before it in its bucket; 0 where there is none.
+// Numbers in words, not a map: a rule of the project (no heap, fixed memory).
 ghost use Rattle.std.specs.Prelude.{◌≡◌, List, [], ◌∷◌, ◌++◌, ℕ, ◌≤◌, ◌<◌, ◌*◌, length};
 ghost use Rattle.job.specs.Sizes.{max_plates, words_of_plate};
 ghost use Rattle.job.specs.Job.{Job};
@@ -26,6 +27,7 @@ const STAGE_FACTOR: usize = 3121;
 pub const INDEX_SIZE: usize = BUCKETS + MAX_PLATES as usize;
 
 // The bucket of a plate type.
+#[tactic(auto, unfolding(crate::specs::Index::bucket_of))]
 fn bucket(p: Plate) -> usize
     ensures { (result ≡ bucket_of p) × (result < buckets) }
 {

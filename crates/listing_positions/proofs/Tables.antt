@@ -12,26 +12,23 @@ use Rattle.job.specs.declared.item.Position.{Position}
 use Rattle.job.specs.Job.{Job, job_of, unturned, type_of, turn_of, positions, position_at, permitted}
 use Rattle.job.specs.JobWords.{JobWords}
 use Rattle.job.proofs.Tests.{not-both, at-most-or-above}
-use Rattle.job.proofs.CodeItems.{items-length}
+use Rattle.job.proofs.CodeJobWords.{words-items}
 use Rattle.job.proofs.Positions.{type-turn, turn_small, positions-length, position-unturned, permitted-range}
 use Rattle.listing.specs.Plate.{plate}
 use Rattle.listing_positions.specs.Least.{least_of}
 use Rattle.listing_positions.specs.Table.{words_of_position, word_at, Next, Tabled, TableTo, Table}
 
 -- there are two positions for each item type, from 2 on
-pub within-last : (ws : List ℕ) (mode : Mode) (n q : ℕ) → JobWords ws mode (get_or ws 2 0) n → q ≤ 2 * n + 1 → q ≤ length (positions (job_of ws))
-within-last ws mode n q w h = omega (arith, positions-length (job_of ws), items-length ws n w.words)
+pub within-last : {ws : List ℕ} {mode : Mode} {t n : ℕ} (q : ℕ) → JobWords ws mode t n → q ≤ 2 * n + 1 → q ≤ length (positions (job_of ws))
+within-last {ws} q w h = omega (arith, positions-length (job_of ws), words-items w)
 
-pub past-last : (ws : List ℕ) (mode : Mode) (n q : ℕ) → JobWords ws mode (get_or ws 2 0) n → 2 * n + 1 < q → length (positions (job_of ws)) < q
-past-last ws mode n q w h = omega (arith, positions-length (job_of ws), items-length ws n w.words)
+pub past-last : {ws : List ℕ} {mode : Mode} {t n : ℕ} (q : ℕ) → JobWords ws mode t n → 2 * n + 1 < q → length (positions (job_of ws)) < q
+past-last {ws} q w h = omega (arith, positions-length (job_of ws), words-items w)
 
 module _ (job : Job) (q : ℕ) where
-  -- past the last position, and one that is permitted
+  -- past the last position
   pub next_past : length (positions job) < q + 1 → Next job q (q + 1)
   next_past h = record { follows = inl refl; allowed = λ l. absurd (omega arith) }
-
-  pub next-is : permitted job (q + 1) ≡ true → Next job q (q + 1)
-  next-is h = record { follows = inl refl; allowed = λ l. h }
 
   -- an item type is always permitted unturned
   unturned-allowed : (i : ℕ) → 1 ≤ i → i ≤ length job.items → permitted job (2 * i) ≡ true
@@ -149,14 +146,7 @@ module _ (job : Job) where
   pub table-start : (table : List ℕ) → TableTo job 2 table
   table-start table = record { each = λ x a l. absurd (omega (arith, (permitted-range job x a).0)) }
 
-  -- position q is not permitted, or it is written
-  pub table-skip : {table : List ℕ} (q : ℕ) → permitted job q ≡ false → TableTo job q table → TableTo job (q + 1) table
-  table-skip {table} q h t = record { each = λ x a l. go x a (at-most-or-above q x) l }
-    where
-      go : (x : ℕ) → permitted job x ≡ true → (q ≤ x) ⊎ (x < q) → x < q + 1 → Tabled job table x
-      go x a (inl b) l = let z : x ≡ q = omega arith in absurd (not-both (rw z at a) h)
-      go x a (inr b) l = t.each x a b
-
+  -- position q is written
   pub table-next : {before after : List ℕ} (q : ℕ) → Written job q before after → TableTo job q before → TableTo job (q + 1) after
   table-next {before} {after} q w t = record { each = λ x a l. go x a (at-most-or-above q x) l }
     where

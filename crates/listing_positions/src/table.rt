@@ -1,15 +1,13 @@
 // The positions of a job in words, for the walk: of each that is permitted its sides, the least sides from which what its cut leaves is kept, and the
 // position that comes next.
 ghost use Rattle.std.specs.Prelude.{◌≡◌, true, ◌+◌, ◌*◌, ◌≤◌, length};
-ghost use Rattle.job.specs.Job.{board_sizes, job_of, position};
-ghost use Rattle.job.specs.JobWords.{JobWords};
+ghost use Rattle.job.specs.Job.{job_of, position};
 ghost use Rattle.listing_positions.specs.Table.{words_of_position, table_size, word_at, Next, TableTo, Table};
 
 use crate::least::least_side;
-use job::counters::{ItemPosition, ItemType};
+use job::counters::ItemPosition;
 use job::item::Position;
-use job::mode::Mode;
-use job::position::position_at;
+use job::job_read::JobRead;
 use job::sizes::MAX_TYPES;
 use listing::plate::Plate;
 
@@ -20,7 +18,7 @@ pub const POSITION_WORDS: usize = 8;
 pub const TABLE_SIZE: usize = POSITION_WORDS * (2 * (MAX_TYPES as usize) + 2);
 
 // The least width of a right, and the least height of a top of stage 3, from which it is kept.
-#[derive(Clone, Copy)]
+#[derive(Clone, Copy, Debug, PartialEq, Eq)]
 pub struct Leasts {
     pub right: u16,
     pub top: u16,
@@ -61,17 +59,17 @@ pub fn next_at(table: &[u16], q: ItemPosition) -> u16
 }
 
 // The permitted position that follows position q.
-fn next_of(job: &[u16], mode: Mode, n: ItemType, q: ItemPosition) -> u16
-    requires job_words { JobWords job.now mode (board_sizes job.now) n.0 }
-    requires le_q { (2 ≤ q.0) × (q.0 ≤ 2 * n.0 + 1) }
-    ensures { Next (job_of job.now) q.0 result }
+#[tactic(auto, unfolding(job::specs::Job::type_of))]
+fn next_of(job: &JobRead, q: ItemPosition) -> u16
+    requires le_q { (2 ≤ q.0) × (q.0 ≤ 2 * job.now.head.types.0 + 1) }
+    ensures { Next (job_of job.now.words.now) q.0 result }
 {
-    let last = 2 * n.0 + 1;
+    let last = 2 * job.head.types.0 + 1;
     let next = q.0 + 1;
     if last < next {
         return next;
     }
-    let item = position_at(job, ItemPosition(next));
+    let item = job.position(ItemPosition(next));
     if item.allowed {
         return next;
     }
@@ -79,20 +77,18 @@ fn next_of(job: &[u16], mode: Mode, n: ItemType, q: ItemPosition) -> u16
 }
 
 // Writes the words of position q, if it is permitted.
-fn put_position(job: &[u16], mode: Mode, n: ItemType, q: ItemPosition, table: &mut [u16])
-    requires job_words { JobWords job.now mode (board_sizes job.now) n.0 }
-    requires le_q { (2 ≤ q.0) × ((q.0 ≤ 2 * n.0 + 1) × (table_size ≤ length table.old)) }
-    ensures { TableTo (job_of job.now) q.0 table.old → TableTo (job_of job.now) (q.0 + 1) table.new }
+#[tactic(auto, unfolding(job::specs::Job::type_of))]
+fn put_position(job: &JobRead, q: ItemPosition, table: &mut [u16])
+    requires le_q { (2 ≤ q.0) × ((q.0 ≤ 2 * job.now.head.types.0 + 1) × (table_size ≤ length table.old)) }
+    ensures { TableTo (job_of job.now.words.now) q.0 table.old → TableTo (job_of job.now.words.now) (q.0 + 1) table.new }
 {
-    let item = position_at(job, q);
+    let item = job.position(q);
     if !item.allowed {
         return;
     }
     let at = POSITION_WORDS * (q.0 as usize);
     let right = least_side(
         job,
-        mode,
-        n,
         Plate {
             width: 0,
             height: item.height,
@@ -101,15 +97,13 @@ fn put_position(job: &[u16], mode: Mode, n: ItemType, q: ItemPosition, table: &m
     );
     let top = least_side(
         job,
-        mode,
-        n,
         Plate {
             width: item.width,
             height: 0,
             stage: 3,
         },
     );
-    let next = next_of(job, mode, n, q);
+    let next = next_of(job, q);
     table[at] = item.width;
     table[at + 1] = item.height;
     table[at + 2] = right;
@@ -118,15 +112,11 @@ fn put_position(job: &[u16], mode: Mode, n: ItemType, q: ItemPosition, table: &m
 }
 
 // The table of a job.
-pub fn learn(job: &[u16], mode: Mode, n: ItemType, table: &mut [u16])
-    requires job_words { JobWords job.now mode (board_sizes job.now) n.0 }
+pub fn learn(job: &JobRead, table: &mut [u16])
     requires table_size_in_bounds { table_size ≤ length table.old }
-    ensures { Table (job_of job.now) table.new }
+    ensures { Table (job_of job.now.words.now) table.new }
 {
-    let last = 2 * n.0 + 1;
-    let mut q: u16 = 2;
-    while q <= last {
-        put_position(job, mode, n, ItemPosition(q), table);
-        q += 1;
+    for q in 2..2 * job.head.types.0 + 2 {
+        put_position(job, ItemPosition(q), table);
     }
 }

@@ -11,7 +11,7 @@ use job::counters::{ItemPosition, ItemType, PlateType};
 use job::sizes::PLACEMENT_WORDS;
 
 // The board of an item and the size of that board, the item's strip, stack and place, its type, where it lies, and 1 if it is turned, else 0.
-#[derive(Clone, Copy)]
+#[derive(Clone, Copy, Debug, PartialEq, Eq)]
 pub struct Placement {
     pub board: u16,
     pub size: PlateType,

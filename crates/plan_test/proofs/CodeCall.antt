@@ -17,11 +17,6 @@ cleared-end ws plates cuts plates' cuts' v bs e n ep ec =
 
 -- some rows, with results of their own, which left the buffers as they end; and rows after them
 module _ (ws plates cuts plates' cuts' : List ℕ) (u w : Verdict) (rs bs : List ℕ) where
-  pub first-refused : {number place : ℕ} → refused number place ≡ answer u rs → plates' ≡ plates_end u ws plates → cuts' ≡ cuts_end u ws cuts → Ended (u then w) bs ws plates cuts (refused number place) plates' cuts'
-  first-refused e ep ec =
-      let r = refused-refuse u rs e in
-      (rw r, (rw r (rw r at ep), rw r (rw r at ec)))
-
   module _ {xs : List ℕ} (passes : given xs ≡ answer u rs) where
     pub both-passed : {ys : List ℕ} → given ys ≡ answer w bs → plates' ≡ plates_end u ws plates → cuts' ≡ cuts_end u ws cuts → Ended (u then w) bs ws plates cuts (given ys) plates' cuts'
     both-passed e ep ec =

@@ -1,11 +1,11 @@
 -- What the code knows once a job is listed: the cuts that it reads are those of the job's listing, and each is in range.
-use mathlib.Core.Path.{◌≡◌, sym, ◌∙◌}
+use mathlib.Core.Path.{◌≡◌, sym, ap, ◌∙◌}
 use Prim.Native.Nat.{ℕ, suc, ◌-◌, ◌≤◌, ◌<◌}
 use mathlib.Core.List.{List, [], ◌∷◌}
 use native.Mathlib.Omega.{arith}
 use lib.ListN.{length, get_or}
 use Rattle.job.specs.Sizes.{cuts_size, job_size}
-use Rattle.job.specs.Verdict.{pass}
+use Rattle.job.specs.Verdict.{pass, ◌then◌}
 use Rattle.job.specs.Buffers.{given, answer}
 use Rattle.job.specs.Job.{Job, job_of, type_of, job_words, admission}
 use Rattle.job.specs.Admitted.{Between, Admitted}
@@ -13,7 +13,11 @@ use Rattle.job.proofs.CodeItems.{items-length}
 use Rattle.job.proofs.SizeWords.{sizes-length}
 use Rattle.job.proofs.CodeAdmission.{passed_length, passed-few-sizes, passed-few}
 use Rattle.job.proofs.Positions.{permitted-type}
-use Rattle.job.proofs.Verdicts.{then-both}
+use Rattle.job.specs.Head.{HeadOf}
+use Rattle.job.specs.declared.head.Head.{Head}
+use Rattle.job.specs.declared.refused.Refused.{Refused}
+use Rattle.std.specs.Prelude.{Result, Ok}
+use Rattle.job.proofs.Verdicts.{then-first, then-second, then-both}
 use Rattle.job.proofs.Admission.{admitted-words, admitted-job, admitted-sided, admitted-stocked}
 use Rattle.job.proofs.CodeEnds.{given-pass}
 use Rattle.listing.specs.Listing.{Listing, plate_at, cut_at, model_row, listing_of, residual_types}
@@ -26,7 +30,9 @@ use Rattle.listing.proofs.ModelLaws.{numbered_below}
 use Rattle.listing.proofs.WalkModel.{row-model}
 use Rattle.listing.specs.CutRead.{cuts_read, Sound, Lent}
 use Rattle.listing.proofs.CodeCuts.{held-cuts}
-use Rattle.listing_call.proofs.CodeEnding.{listing_results}
+use Rattle.listing_call.specs.declared.walk.Listed.{Listed}
+use Rattle.listing_call.specs.ListSays.{says_of, SizesListed}
+use Rattle.listing_call.proofs.CodeEnding.{listing_results, sizes-listed}
 
 -- the cuts of the model are in range
 model-sound : (job : Job) (l : Listing) → Model job l → Sound (length l.plates) (length job.items) l.cuts
@@ -93,3 +99,20 @@ module _ (ws cuts cuts' : List ℕ) (t n m k : ℕ) (words : job_words ws ≡ pa
           sound = rw (← types, ← i, ← c) (model-sound job listing model);
         };
       }
+
+-- the same of a call that has listed the job, whose head was read
+module _ (ws cuts cuts' : List ℕ) (job : (job_words ws then admission (job_of ws)) ≡ pass) {head : Head} (of : HeadOf ws head) where
+  pub listed-ready :
+      {a : Result Listed Refused} {x : Listed}
+      → a ≡ Ok x
+      → SizesListed (job_of ws) a
+      → says_of (job_of ws) a ≡ answer (model_row (job_of ws)) (listing_results ws)
+      → cuts' ≡ cuts_end (model_row (job_of ws)) ws cuts
+      → length cuts' ≡ length cuts
+      → cuts_size ≤ length cuts
+      → Ready ws cuts' head.sizes.0 head.types.0 x.plates.0 x.cuts.0
+  listed-ready is s e h l z =
+      let words = then-first (job_words ws) _ job in
+      let admitted = then-second (job_words ws) _ job in
+      let done = sym (ap (says_of (job_of ws)) is) ∙ e in
+      ready ws cuts cuts' _ _ _ _ words admitted of.of-sizes of.of_types done (sizes-listed (job_of ws) is s) h l z

@@ -1,6 +1,6 @@
 -- The plan row that the code decides by its sums is that of the definitions.
 use mathlib.Core.Path.{◌≡◌, sym, ap, ◌∙◌}
-use Prim.Native.Nat.{ℕ, suc, ◌*◌, ◌-◌, ◌≤◌, ◌<◌}
+use Prim.Native.Nat.{ℕ, ◌+◌, suc, ◌*◌, ◌-◌, ◌≤◌, ◌<◌}
 use mathlib.Core.Bool.{Bool, not}
 use mathlib.Core.List.{List, [], ◌∷◌}
 use native.Mathlib.Omega.{arith}
@@ -14,12 +14,13 @@ use Rattle.job.specs.Job.{Job, size_at}
 use Rattle.listing.specs.Listing.{Cut, Listing}
 use Rattle.plan.specs.Plan.{count_of, of_item, on_plate, leaves_plate, total, short, overdrawn, counts_row, balance_row, plan_row}
 use Rattle.plan.specs.PlanCall.{boards_and_cost}
-use Rattle.job.specs.declared.row.Row.{Row}
-use Rattle.job.specs.declared.row.Row.TheVariants.{Passes, Refuses}
-use Rattle.job.specs.Row.{row_verdict}
-use Rattle.listing.specs.CutRead.{Sound}
+use Rattle.std.specs.Prelude.{Result, Ok, Err}
+use Rattle.job.specs.declared.refused.Refused.{Refused}
+use Rattle.job.specs.Refused.{number_of, row_verdict}
 use Rattle.plan_test.specs.Sums.{SumsOf, Sums, SumRoom, sum_below}
+use Rattle.plan_test.proofs.CodePass.{sum_room}
 use Rattle.plan_test.proofs.CodeSums.{count_of-le}
+use lib.Dec.{lit<, lit≤}
 use Rattle.plan_test.proofs.CodeOpened.{boards-summed, cost-summed}
 use Rattle.plan_test.proofs.CodeRow.{row-refused, row-passed}
 use Rattle.plan.proofs.PlanExact.{counts-exact, total-take}
@@ -36,9 +37,14 @@ sums_none ns a b d = record { by-item = sums-zero of_item ns a; by-plate = sums-
 pub room-zeros : (a b d : ℕ) → max_types < a → max_plates ≤ b → max_plates ≤ d → SumRoom (replicate a 0) (replicate b 0) (replicate d 0)
 room-zeros a b d p q r = record { for-items = rw length-replicate p; for-plates = rw length-replicate q; for-residuals = rw length-replicate r }
 
--- cuts in range of few types are in range of more
-pub sound_more : {m n m' n' : ℕ} (cs : List Cut) → m ≤ m' → n ≤ n' → Sound m n cs → Sound m' n' cs
-sound_more cs p q s = record { each = λ c h. let r = s.each c h in record { on-plate = omega arith; from_one = r.from_one; of-item = omega arith; top-plate = omega arith; right-plate = omega arith } }
+-- words that are as many as a word for each item type and for each plate type
+pub zeros-room :
+    {items on left : List ℕ}
+    → length items ≡ length (replicate {A = ℕ} (max_types + 1) 0)
+    → length on ≡ length (replicate {A = ℕ} max_plates 0)
+    → length left ≡ length (replicate {A = ℕ} max_plates 0)
+    → SumRoom items on left
+zeros-room a b d = sum_room (room-zeros (max_types + 1) max_plates max_plates (lit< tt) (lit≤ tt) (lit≤ tt)) a b d
 
 -- counts that come to at most 4,000 do so on each plate type
 pub sums-small : (cs : List Cut) (ns on : List ℕ) (k : ℕ) → SumsOf on_plate cs ns on → length cs ≤ k → total (take k ns) ≤ max_pieces → (j : ℕ) → j < length on → get_or on j 0 ≤ max_pieces
@@ -59,29 +65,29 @@ module _ (job : Job) (l : Listing) (ns items on left : List ℕ) (s : Sums l.cut
       let e : length (drop l.sizes l.plates) ≡ length l.plates - l.sizes = length-drop l.sizes l.plates in
       rw (s.by-residual j (omega arith), s.by-plate j (omega arith)))
 
-  module _ {r : Row} (says : row_verdict r ≡ lowest 11 (λ i item. ltb (get_or items i 0) item.demand) 1 job.items) where
-    pub short-refused : {number place : ℕ} → r ≡ Refuses number place → refused number place ≡ answer (balance_row job l ns) (boards_and_cost job l ns)
+  module _ {r : Result (Unit {0}) Refused} (says : row_verdict r ≡ lowest 11 (λ i item. ltb (get_or items i 0) item.demand) 1 job.items) where
+    pub short-refused : {x : Refused} → r ≡ Err x → refused (number_of x.refusal) x.place ≡ answer (balance_row job l ns) (boards_and_cost job l ns)
     short-refused e = row-refused (says ∙ short_row) (lowest 12 (overdrawn l ns) l.sizes (drop l.sizes l.plates)) (boards_and_cost job l ns) e
 
-    module _ (passes : r ≡ Passes) {q : Row} (says' : row_verdict q ≡ lowest 12 (λ j _. ltb (get_or left j 0) (get_or on j 0)) l.sizes (drop l.sizes l.plates)) where
-      pub overdrawn-refused : {number place : ℕ} → q ≡ Refuses number place → refused number place ≡ answer (balance_row job l ns) (boards_and_cost job l ns)
+    module _ (passes : r ≡ Ok tt) {q : Result (Unit {0}) Refused} (says' : row_verdict q ≡ lowest 12 (λ j _. ltb (get_or left j 0) (get_or on j 0)) l.sizes (drop l.sizes l.plates)) where
+      pub overdrawn-refused : {x : Refused} → q ≡ Err x → refused (number_of x.refusal) x.place ≡ answer (balance_row job l ns) (boards_and_cost job l ns)
       overdrawn-refused e =
           row-passed (says ∙ short_row) (lowest 12 (overdrawn l ns) l.sizes (drop l.sizes l.plates)) (boards_and_cost job l ns) passes (rw (← overdrawn-row, ← says', e))
 
-      pub balance-accepted : q ≡ Passes → (t boards cost : ℕ) → t ≤ length on → l.sizes ≡ t → length job.sizes ≡ t → boards ≡ sum_below (λ j. get_or on j 0) t → cost ≡ sum_below (λ j. (size_at job j).cost * get_or on j 0) t → given (boards ∷ cost ∷ []) ≡ answer (balance_row job l ns) (boards_and_cost job l ns)
+      pub balance-accepted : q ≡ Ok tt → (t boards cost : ℕ) → t ≤ length on → l.sizes ≡ t → length job.sizes ≡ t → boards ≡ sum_below (λ j. get_or on j 0) t → cost ≡ sum_below (λ j. (size_at job j).cost * get_or on j 0) t → given (boards ∷ cost ∷ []) ≡ answer (balance_row job l ns) (boards_and_cost job l ns)
       balance-accepted e t boards cost h z z' b c =
           row-passed (says ∙ short_row) (lowest 12 (overdrawn l ns) l.sizes (drop l.sizes l.plates)) (boards_and_cost job l ns) passes (rw (← overdrawn-row, ← says', e, b ∙ boards-summed job l ns on s.by-plate t h z, c ∙ cost-summed job l ns on s.by-plate t h z'))
 
 -- the plan row of counts for k cuts: 8 of those past them, 10 by the total of the first k
-module _ (job : Job) (l : Listing) (k : ℕ) (ns : List ℕ) (e : length l.cuts ≡ k) (r : Row) (says : row_verdict r ≡ lowest 8 (λ _ n. not (eqb n 0)) (suc k) (drop k ns)) where
+module _ (job : Job) (l : Listing) (k : ℕ) (ns : List ℕ) (e : length l.cuts ≡ k) (r : Result (Unit {0}) Refused) (says : row_verdict r ≡ lowest 8 (λ _ n. not (eqb n 0)) (suc k) (drop k ns)) where
   counts-row : row_verdict r ≡ counts_row l ns
   unfolding counts_row
   counts-row = rw e says
 
-  pub past-refused : {number place : ℕ} → r ≡ Refuses number place → refused number place ≡ answer (counts_row l ns then plan_row job l ns) (boards_and_cost job l ns)
+  pub past-refused : {x : Refused} → r ≡ Err x → refused (number_of x.refusal) x.place ≡ answer (counts_row l ns then plan_row job l ns) (boards_and_cost job l ns)
   past-refused p = row-refused counts-row (plan_row job l ns) (boards_and_cost job l ns) p
 
-  module _ (passes : r ≡ Passes) where
+  module _ (passes : r ≡ Ok tt) where
     all_first : total ns ≡ total (take k ns)
     all_first =
         let none : counts_row l ns ≡ pass = sym counts-row ∙ ap row_verdict passes in

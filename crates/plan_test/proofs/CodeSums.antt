@@ -14,7 +14,7 @@ use Rattle.job.specs.Job.{type_of}
 use Rattle.job.proofs.Sums.{sum_of-take}
 use Rattle.listing.specs.Listing.{Cut}
 use Rattle.plan.specs.Plan.{count_of, of_item, on_plate, leaves_plate, total}
-use Rattle.plan_test.specs.Sums.{added, Fit, SumsOf, Sums}
+use Rattle.plan_test.specs.Sums.{added, SumsOf, Sums}
 
 -- one cut more adds its count to the sums whose test it passes
 count_of-snoc : (test : Cut → Bool) (cs : List Cut) (c : Cut) (ns : List ℕ) → length cs < length ns → count_of test (cs ++ c ∷ []) ns ≡ count_of test cs ns + cond (test c) (get_or ns (length cs) 0) 0
@@ -67,12 +67,6 @@ room test cs ns k h l =
 added-at : (s : List ℕ) (j n i : ℕ) (t : Bool) → eqb j i ≡ t → j < length s → get_or (added s j n) i 0 ≡ get_or s i 0 + cond t n 0
 added-at s j n i true e h = let z : j ≡ i = eqb-true j i e in rw z (get_or-set_same s i (get_or s i 0 + n) 0 (omega arith))
 added-at s j n i false e h = get_or-set_other s j i (get_or s j 0 + n) 0 (λ z. eqb-false j i e (sym z)) ∙ omega arith
-
--- a word with room for n more has it still after n were added to another
-pub fit-other : {s s' : List ℕ} (j k n : ℕ) → s' ≡ added s j n → Fit s k n → (k ≡ j → ⊥) → Fit s' k n
-fit-other {s} j k n e f d =
-    let l : get_or (added s j n) k 0 ≡ get_or s k 0 = get_or-set_other s j k (get_or s j 0 + n) 0 d in
-    rw e (record { inside = simp length-set f.inside; small = rw l f.small })
 
 -- one cut more, counted n: each word has what its test lets in
 sums_next : (test : ℕ → Cut → Bool) (cs : List Cut) (c : Cut) (ns : List ℕ) (n : ℕ) (s s' : List ℕ) → length cs < length ns → get_or ns (length cs) 0 ≡ n → length s' ≡ length s → ((i : ℕ) → get_or s' i 0 ≡ get_or s i 0 + cond (test i c) n 0) → SumsOf test cs ns s → SumsOf test (cs ++ c ∷ []) ns s'

@@ -2,7 +2,7 @@
 ghost use Rattle.std.specs.Prelude.{◌≡◌, ◌↔◌, ◌≤◌, length};
 ghost use Rattle.job.specs.Sizes.{plates_size, cuts_size, counts_size};
 ghost use Rattle.job.specs.Verdict.{pass, ◌then◌};
-ghost use Rattle.job.specs.Row.{row_verdict};
+ghost use Rattle.job.specs.Refused.{row_verdict};
 ghost use Rattle.job.specs.Buffers.{answer, sized};
 ghost use Rattle.job.specs.Job.{job_of, job_words, admission};
 ghost use Rattle.listing.specs.Listing.{listing_of};
@@ -11,46 +11,51 @@ ghost use Rattle.plan.specs.PlanCall.{plan_verdict, boards_and_cost, plan_answer
 ghost use Rattle.plan.specs.Exactly.{Accepts, PlanRight};
 ghost use Rattle.plan_test.specs.PlanSays.{says_of, plan_tail};
 
-use crate::plan_row::{PlanAnswer, plan_rows};
+use crate::listed_job::ListedJob;
+use crate::opened::Opening;
+use crate::plan_row::plan_rows;
 use job::admit::check_job;
-use job::head::head_of;
-use job::lent::{counts_sized, end_refused};
-use job::row::Row;
+use job::job_read::JobRead;
+use job::lent::counts_sized;
+use job::refused::Refused;
 use job::words::clear;
-use listing_call::call::{Listed, list_into};
+use listing_call::call::list_into;
 
 // Lists an admitted job into buffers of full size, and tests a plan of at least 8,192 counts by it.
-fn plan_into(job: &[u16], counts: &[u16], plates: &mut [u16], cuts: &mut [u16]) -> PlanAnswer
+fn plan_into(
+    job: &[u16],
+    counts: &[u16],
+    plates: &mut [u16],
+    cuts: &mut [u16],
+) -> Result<Opening, Refused>
     requires job_value { (job_words job.now then admission (job_of job.now)) ≡ pass }
     requires plates_size_in_bounds { (plates_size ≤ length plates.old) × ((cuts_size ≤ length cuts.old) × (counts_size ≤ length counts.now)) }
     ensures result_value { says_of result ≡ answer (plan_tail (job_of job.now) counts.now) (boards_and_cost (job_of job.now) (listing_of (job_of job.now)) counts.now) }
     ensures plates_after { plates.new ≡ plates_end (plan_tail (job_of job.now) counts.now) job.now plates.old }
     ensures cuts_after { cuts.new ≡ cuts_end (plan_tail (job_of job.now) counts.now) job.now cuts.old }
 {
-    match list_into(job, plates, cuts) {
-        Listed::Refused(number, place) => PlanAnswer::Refused(number, place),
-        Listed::Done(m, k) => {
-            let head = head_of(job);
-            match plan_rows(job, head.sizes, head.types, cuts, m, k, counts) {
-                PlanAnswer::Accepted(boards, cost) => PlanAnswer::Accepted(boards, cost),
-                PlanAnswer::Refused(number, place) => {
-                    clear(plates);
-                    clear(cuts);
-                    PlanAnswer::Refused(number, place)
-                }
-            }
+    let listed = list_into(job, plates, cuts)?;
+    let listed_job = ListedJob {
+        job: JobRead::new(job),
+        cuts,
+        plates: listed.plates,
+        last: listed.cuts,
+    };
+    match plan_rows(&listed_job, counts) {
+        Ok(opening) => Ok(opening),
+        Err(row) => {
+            clear(plates);
+            clear(cuts);
+            Err(row)
         }
     }
 }
 
 // The rows before the model: the job, and then the lent buffers.
-fn plan_checks(job: &[u16], counts: &[u16], plates: &[u16], cuts: &[u16]) -> Row
+fn plan_checks(job: &[u16], counts: &[u16], plates: &[u16], cuts: &[u16]) -> Result<(), Refused>
     ensures { row_verdict result ≡ ((job_words job.now then admission (job_of job.now)) then sized 1 plates_size plates.now then sized 2 cuts_size cuts.now then sized 3 counts_size counts.now) }
 {
-    let admitted = check_job(job);
-    let Row::Passes = admitted else {
-        return admitted;
-    };
+    check_job(job)?;
     counts_sized(plates, cuts, counts)
 }
 
@@ -59,18 +64,23 @@ fn plan_checks(job: &[u16], counts: &[u16], plates: &[u16], cuts: &[u16]) -> Row
 // the last cut, naming the cut that it would be; 10 a total above 4,000, naming 0; 11 a type short; 12 a residual type overdrawn, naming its plate number.
 // Plates and cuts end as the listing; after 5 they are unchanged, after another refusal every word of them is 0. A plan is accepted exactly when all that
 // `PlanRight` names is right.
-pub fn test_plan(job: &[u16], counts: &[u16], plates: &mut [u16], cuts: &mut [u16]) -> PlanAnswer
+pub fn test_plan(
+    job: &[u16],
+    counts: &[u16],
+    plates: &mut [u16],
+    cuts: &mut [u16],
+) -> Result<Opening, Refused>
     ensures result_value { says_of result ≡ plan_answer job.now counts.now plates.old cuts.old }
     ensures plates_after { plates.new ≡ plates_end (plan_verdict job.now counts.now plates.old cuts.old) job.now plates.old }
     ensures cuts_after { cuts.new ≡ cuts_end (plan_verdict job.now counts.now plates.old cuts.old) job.now cuts.old }
     ensures variant { Accepts (says_of result) ↔ PlanRight job.now counts.now plates.old cuts.old }
 {
     match plan_checks(job, counts, plates, cuts) {
-        Row::Refuses(number, place) => {
-            end_refused(number, plates);
-            end_refused(number, cuts);
-            PlanAnswer::Refused(number, place)
+        Err(refused) => {
+            refused.end(plates);
+            refused.end(cuts);
+            Err(refused)
         }
-        Row::Passes => plan_into(job, counts, plates, cuts),
+        Ok(()) => plan_into(job, counts, plates, cuts),
     }
 }

@@ -9,7 +9,7 @@ use job::size::Size;
 use job::words::size_at;
 
 // How many boards are opened, and what they cost together.
-#[derive(Clone, Copy)]
+#[derive(Clone, Copy, Debug, PartialEq, Eq)]
 pub struct Opening {
     pub boards: u16,
     pub cost: u32,
@@ -29,17 +29,13 @@ pub fn boards_opened(job: &[u16], sizes: BoardSizes, on: &[u16]) -> Opening
     ensures boards_value { result.boards ≡ sum_below (λ j. get_or on.now j 0) sizes.0 }
     ensures cost_value { result.cost ≡ sum_below (λ j. (size_at (job_of job.now) j).cost * get_or on.now j 0) sizes.0 }
 {
-    let t = sizes.0;
     let mut boards: u16 = 0;
     let mut cost: u32 = 0;
-    let mut j: u16 = 0;
-    while j < t {
+    for j in 0..sizes.0 {
         let size = size_at(job, PlateType(j));
-        let at = j as usize;
-        let n = on[at];
+        let n = on[j as usize];
         cost += cost_of(size, n);
         boards += n;
-        j += 1;
     }
     Opening { boards, cost }
 }

@@ -15,7 +15,7 @@ fn add_at(s: &mut [u16], place: usize, n: u16)
     requires { Fit s.old place n }
     ensures { s.new ≡ added s.old place n }
 {
-    s[place] = s[place] + n;
+    s[place] += n;
 }
 
 // Adds the count n of the next cut to the sums of its item type, in either turn, of its plate type and of the residual types that it leaves.
@@ -50,13 +50,8 @@ pub fn sum_counts(
     requires sums { Sums [] counts.now items.old on.old left.old }
     ensures { Sums (cuts_read k.0 cuts.now) counts.now items.new on.new left.new }
 {
-    let end = k.0;
-    let mut c: u16 = 0;
-    while c < end {
+    for c in 0..k.0 {
         let cut = cut_at(cuts, CutNumber(c + 1));
-        let at = c as usize;
-        let n = counts[at];
-        add_cut(cut, n, items, on, left);
-        c += 1;
+        add_cut(cut, counts[c as usize], items, on, left);
     }
 }

@@ -18,8 +18,9 @@ use Rattle.plan.proofs.AcceptsExactly.{accepts-exactly, answer-accepts}
 use Rattle.layouts.specs.Demand3.{J, L, Listed, Priced}
 use Rattle.layouts.specs.Promises.{PricePromise}
 use Rattle.layouts.proofs.demand.Demand3.{demand3}
-use Rattle.price_test.specs.declared.prices.PriceAnswer.{PriceAnswer}
-use Rattle.price_test.specs.declared.prices.PriceAnswer.TheVariants.{Accepted, Refused}
+use Rattle.std.specs.Prelude.{Result, Ok, Err}
+use Rattle.job.specs.declared.refused.Refused.{Refused}
+use Rattle.price_test.specs.declared.prices.Bound.{Bound}
 use Rattle.price_test.specs.PriceSays.{says_of, OnAccepted, sum_and_d, price_tail}
 use Rattle.listing_call.proofs.CodeEnding.{Ended}
 
@@ -52,19 +53,19 @@ module _ (ws prices plates cuts : List ℕ) where
     bounds = (demand3.every-listed ws listed).bounds prices priced
 
   -- what the test accepts bounds
-  promised : (r : PriceAnswer) → says_of r ≡ price_answer ws prices plates cuts → OnAccepted r (PricePromise ws)
+  promised : (r : Result Bound Refused) → says_of r ≡ price_answer ws prices plates cuts → OnAccepted r (PricePromise ws)
   unfolding price_answer
-  promised (Refused number place) e = tt
-  promised (Accepted sum d) e =
+  promised (Err r) e = tt
+  promised (Ok b) e =
       let p = given-pass (price_verdict ws prices plates cuts) (sum_and_d (job_of ws) prices) e in
-      let f : given (sum ∷ d ∷ []) ≡ given (sum_and_d (job_of ws) prices) = rw p at e in
-      let s : sum ≡ price_sum (job_of ws) (prices_of (job_of ws) prices) = cc in
-      let t : d ≡ (prices_of (job_of ws) prices).denominator = cc in
+      let f : given (b.sum ∷ b.d ∷ []) ≡ given (sum_and_d (job_of ws) prices) = rw p at e in
+      let s : b.sum ≡ price_sum (job_of ws) (prices_of (job_of ws) prices) = cc in
+      let t : b.d ≡ (prices_of (job_of ws) prices).denominator = cc in
       rw (s, t) (bounds p)
 
   -- what the call ensures: its answer, both buffers, what it accepts, and its promise
   pub with_bound :
-      (r : PriceAnswer) {plates' cuts' : List ℕ}
+      (r : Result Bound Refused) {plates' cuts' : List ℕ}
       → Ended (price_verdict ws prices plates cuts) (sum_and_d (job_of ws) prices) ws plates cuts (says_of r) plates' cuts'
       → (says_of r ≡ price_answer ws prices plates cuts)
       × ((plates' ≡ plates_end (price_verdict ws prices plates cuts) ws plates)

@@ -10,7 +10,7 @@ use Rattle.job.specs.Sizes.{plates_size, cuts_size}
 use Rattle.job.specs.Verdict.{Verdict, pass, ◌then◌}
 use Rattle.job.specs.Buffers.{sized}
 use Rattle.job.specs.Job.{Job, job_of, job_words, admission}
-use Rattle.job.proofs.Verdicts.{then-assoc, then-assoc-3, then-first, then-second}
+use Rattle.job.proofs.Verdicts.{then-assoc, then-assoc-3, then-first, then-second, then-both}
 use Rattle.job.proofs.Buffers.{sized-pass}
 use Rattle.job.proofs.CodeEnds.{Not5, not5-if, not5-then, not5-lowest}
 use Rattle.listing.specs.Listing.{Listing, residual_types}
@@ -25,6 +25,12 @@ prices-not5 job l ws ps =
     not5-then (prices_sized job l ws) (prices_row job l ps)
     (not5-if (not (eqb (length ws) (1 + length job.items + residual_types l))) 13 0 (λ e. omega arith))
     (not5-lowest 14 _ 1 l.cuts (λ e. omega arith))
+
+-- where words and job pass, the job is admitted
+pub words-and-job : (ws prices : List ℕ) → (job_words ws then price_words prices then admission (job_of ws)) ≡ pass → (job_words ws then admission (job_of ws)) ≡ pass
+words-and-job ws prices e =
+    let after = then-second (job_words ws) _ e in
+    then-both (job_words ws) _ (then-first (job_words ws) _ e) (then-second (price_words prices) _ after)
 
 -- the rows before the model: the words and the job, and then the lent buffers; "words of prices and layouts belong to the line row, after the job's words"
 abbrev rows_before : List ℕ → List ℕ → List ℕ → List ℕ → Verdict

@@ -8,10 +8,10 @@ use Rattle.job.specs.Verdict.{◌then◌, lowest}
 use Rattle.job.specs.Buffers.{given, refused, answer}
 use Rattle.job.specs.Job.{Job}
 use Rattle.listing.specs.Listing.{Listing, residual_types}
-use Rattle.job.specs.declared.row.Row.{Row}
-use Rattle.job.specs.declared.row.Row.TheVariants.{Passes, Refuses}
+use Rattle.std.specs.Prelude.{Result, Ok, Err}
+use Rattle.job.specs.declared.refused.Refused.{Refused}
 use Rattle.plan.specs.Prices.{prices_at, prices_of, over_limit, prices_sized, prices_row, price_sum}
-use Rattle.job.specs.Row.{row_verdict}
+use Rattle.job.specs.Refused.{number_of, row_verdict}
 use Rattle.price_test.specs.PriceSays.{sum_and_d}
 
 -- price words for n item types, of a listing of m plate types, t sizes among them
@@ -30,13 +30,13 @@ module _ (job : Job) (l : Listing) (t n m : ℕ) (ws : List ℕ) (z : l.sizes �
   unfolding prices_sized
   other-size h = rw (size, ne_eqb _ _ h)
 
-  module _ (h : length ws ≡ 1 + n + (m - t)) {r : Row} (says : row_verdict r ≡ lowest 14 (λ _ c. over_limit job (prices_at n ws) c) 1 l.cuts) where
+  module _ (h : length ws ≡ 1 + n + (m - t)) {r : Result (Unit {0}) Refused} (says : row_verdict r ≡ lowest 14 (λ _ c. over_limit job (prices_at n ws) c) 1 l.cuts) where
     -- a cut over its limit is 14
-    pub over-refused : {number place : ℕ} → r ≡ Refuses number place → refused number place ≡ answer (prices_sized job l ws then prices_row job l (prices_of job ws)) (sum_and_d job ws)
+    pub over-refused : {x : Refused} → r ≡ Err x → refused (number_of x.refusal) x.place ≡ answer (prices_sized job l ws then prices_row job l (prices_of job ws)) (sum_and_d job ws)
     unfolding prices_sized prices_row
     over-refused f = rw (size, eq-eqb _ _ h, prices-at, ← says, f)
 
     -- else the answer is the sum and D
-    pub prices-accepted : r ≡ Passes → {sum : ℕ} → sum ≡ price_sum job (prices_at n ws) → given (sum ∷ get_or ws 0 0 ∷ []) ≡ answer (prices_sized job l ws then prices_row job l (prices_of job ws)) (sum_and_d job ws)
+    pub prices-accepted : r ≡ Ok tt → {sum : ℕ} → sum ≡ price_sum job (prices_at n ws) → given (sum ∷ get_or ws 0 0 ∷ []) ≡ answer (prices_sized job l ws then prices_row job l (prices_of job ws)) (sum_and_d job ws)
     unfolding prices_sized prices_row
     prices-accepted f g = rw (size, eq-eqb _ _ h, prices-at, ← says, f, g)

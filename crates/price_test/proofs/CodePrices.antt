@@ -6,6 +6,9 @@ use mathlib.Core.Bool.{Bool, true, false, not}
 use mathlib.Core.List.{List, [], ◌∷◌}
 use native.Mathlib.Omega.{arith}
 use native.Mathlib.Nat.{mul-le-mul, pos_of_ne-zero}
+use Rattle.std.specs.Prelude.{None, Some}
+use Rattle.std.specs.List.{slice_get}
+use Rattle.std.proofs.lemmas.Option.{get_or_from_slice_get, slice_get-get_or, slice_get_past}
 use borrow.Author.Tests.{ltb-true, ltb-false, lt-ltb, le-ltb, not-false}
 use lib.Dec.{ltb}
 use lib.ListN.{length, get_or, take, drop, length-take, length-drop, get_or-eq_default}
@@ -48,16 +51,16 @@ pub over-said : (job : Job) (ps : Prices) {b t : Bool} {x y z : Cut} → b ≡ o
 over-said job ps e f g h = cc
 
 -- no words at all pass
-pub no_words : (ws : List ℕ) → length ws ≡ 0 → pass ≡ price_words ws
+pub no_words : (ws : List ℕ) → None ≡ slice_get ws 0 → pass ≡ price_words ws
 unfolding price_words
 no_words [] h = refl
-no_words (d ∷ ws) h = absurd (omega arith)
+no_words (d ∷ ws) h = let e = slice_get-get_or (d ∷ ws) 0 0 (omega arith) in cc
 
 -- a D of 0 is word 1
-pub no-denominator : (ws : List ℕ) → (length ws ≡ 0 → ⊥) → get_or ws 0 0 ≡ 0 → refuse 2 1 ≡ price_words ws
+pub no-denominator : (ws : List ℕ) {d : ℕ} → Some d ≡ slice_get ws 0 → d ≡ 0 → refuse 2 1 ≡ price_words ws
 unfolding price_words
-no-denominator [] h e = absurd (h refl)
-no-denominator (d ∷ ws) h e = rw e
+no-denominator [] h e = let n = slice_get_past {X = ℕ} [] 0 (omega arith) in absurd cc
+no-denominator (d ∷ ws) h e = let g = get_or_from_slice_get (d ∷ ws) 0 _ 0 (sym h) in rw (g ∙ e)
 
 -- where D is not 0, it has the limit of the prices
 pub words-all : (ws : List ℕ) → (get_or ws 0 0 ≡ 0 → ⊥) → price_words ws ≡ lowest 2 (λ _ x. ltb max_price x) 1 ws
@@ -87,9 +90,14 @@ prices-small (d ∷ ws) e (suc i) = go (ltb i (length ws)) refl
 pub demands-small : (ws : List ℕ) (n : ℕ) → job_words ws ≡ pass → length ws ≡ job_size (get_or ws 2 0) n → (i : ℕ) → 1 ≤ i → i ≤ n → (item_at (job_of ws) i).demand ≤ max_pieces
 demands-small ws n e l i h g = let r = words_right ws e in (r.each_item i h (omega (arith, r.whole))).demand-limits.1
 
--- a price times a demand
-pub product_small : {p d : ℕ} → p ≤ max_price → d ≤ max_pieces → p * d ≤ max_price * max_pieces
-product_small h l = mul-le-mul h l
+-- the price of an item type times its demand
+pub product-most :
+    (ws prices : List ℕ) (n : ℕ)
+    → (job_words ws ≡ pass) × (price_words prices ≡ pass)
+    → length ws ≡ job_size (get_or ws 2 0) n
+    → (i : ℕ) → 1 ≤ i → i ≤ n → {x : Item} → x ≡ item_at (job_of ws) i
+    → get_or prices i 0 * x.demand ≤ max_price * max_pieces
+product-most ws prices n p l i h g e = mul-le-mul {n₂ = max_price} {m₂ = max_pieces} (prices-small prices p.1 i) (rw e (demands-small ws n p.0 l i h g))
 
 -- the sum of price times demand: what has been added up, and the rest
 module _ (job : Job) (n : ℕ) (ws : List ℕ) (e : length job.items ≡ n) (l : n < length ws) where

@@ -1,3 +1,2 @@
--- The definitions of this crate: what the answer of the price test says, and what the code knows when it prices a cut.
-pub mod PriceRoom
+-- The definitions of this crate: what the answer of the price test says.
 pub mod PriceSays

@@ -1,21 +1,22 @@
 -- What the price test's answer says: the sum of price times demand and D, or a refusal's number and place; and the last rows of its verdict.
-use Rattle.std.specs.Prelude.{ℕ, List, [], ◌∷◌}
+use Rattle.std.specs.Prelude.{ℕ, List, [], ◌∷◌, Result, Ok, Err}
 use Rattle.job.specs.Verdict.{Verdict, ◌then◌}
 use Rattle.job.specs.Buffers.{Answer, given, refused}
 use Rattle.job.specs.Job.{Job}
 use Rattle.listing.specs.Listing.{model_row, listing_of}
 use Rattle.plan.specs.Prices.{prices_of, price_sum, prices_sized, prices_row}
-use Rattle.price_test.specs.declared.prices.PriceAnswer.{PriceAnswer}
-use Rattle.price_test.specs.declared.prices.PriceAnswer.TheVariants.{Accepted, Refused}
+use Rattle.job.specs.declared.refused.Refused.{Refused}
+use Rattle.job.specs.Refused.{number_of}
+use Rattle.price_test.specs.declared.prices.Bound.{Bound}
 
-abbrev pub says_of : PriceAnswer → Answer
-says_of (Accepted sum d) = given (sum ∷ d ∷ [])
-says_of (Refused number place) = refused number place
+abbrev pub says_of : Result Bound Refused → Answer
+says_of (Ok b) = given (b.sum ∷ b.d ∷ [])
+says_of (Err r) = refused (number_of r.refusal) r.place
 
 -- what is promised of prices that are accepted
-abbrev pub OnAccepted : PriceAnswer → (ℕ → ℕ → Type 0) → Type 0
-OnAccepted (Accepted sum d) promise = promise sum d
-OnAccepted (Refused number place) promise = Unit {0}
+abbrev pub OnAccepted : Result Bound Refused → (ℕ → ℕ → Type 0) → Type 0
+OnAccepted (Ok b) promise = promise b.sum b.d
+OnAccepted (Err r) promise = Unit {0}
 
 -- the rows from the model on
 abbrev pub price_tail : Job → List ℕ → Verdict

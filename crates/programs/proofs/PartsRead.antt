@@ -1,8 +1,7 @@
 -- A text read in parts: between two parts some text has been read, of at least as many bytes as the parts have; these are the bytes that the input gave.
-use Rattle.std.proofs.Common.{◌≡◌, ℕ, ◌+◌, ◌*◌, ◌≤◌, ◌<◌, Bool, false, Option, List, [], ◌++◌, arith, length}
-use Rattle.std.proofs.Math.ListN.{length-append}
+use Rattle.std.proofs.Common.{◌≡◌, ℕ, ◌*◌, ◌≤◌, ◌<◌, Bool, false, Option, List, ◌++◌, arith, length}
 use Rattle.std.specs.Io.KnownBytes.{Consumes, IsAtEnd}
-use Rattle.std.proofs.KnownBytes.{Consumes-nil, Consumes-trans}
+use Rattle.std.proofs.KnownBytes.{Consumes-trans}
 use Rattle.programs.specs.Program.{part_size, most_parts, PartsDecide, ReadFrom}
 
 module _ {F W : Type 0} (After : List ℕ → F → W → Type 0) (given : Option (List ℕ)) where
@@ -12,24 +11,6 @@ module _ {F W : Type 0} (After : List ℕ → F → W → Type 0) (given : Optio
     pub after : After text reader words
     pub full : part_size * parts ≤ length text
     pub consumed : Consumes given left text
-
-  pub none_read : {f : F} {w : W} → After [] f w → PartsRead given f w 0
-  none_read a = record { text = []; after = a; full = omega arith; consumed = Consumes-nil given }
-
-  -- a full part more
-  pub full-read :
-      {left left' : Option (List ℕ)} {f f' : F} {w w' : W} {parts : ℕ} (part : List ℕ) (r : PartsRead left f w parts)
-      → After (r.text ++ part) f' w'
-      → part_size ≤ length part
-      → Consumes left left' part
-      → PartsRead left' f' w' (parts + 1)
-  full-read {left} {left'} part r a h c =
-      record {
-        text = r.text ++ part;
-        after = a;
-        full = simp length-append (omega (arith, r.full));
-        consumed = Consumes-trans given left left' r.text part r.consumed c;
-      }
 
   module _ (answer : List ℕ → List ℕ) where
     -- a part that is not full is the last

@@ -5,3 +5,4 @@ pub mod input;
 pub mod parts;
 #[cfg(test)]
 mod tests;
+pub mod text;

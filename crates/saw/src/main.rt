@@ -1,17 +1,20 @@
 // The saw program: a saw text comes from standard input in parts, and its answer goes to standard output.
 #![tactic(auto)]
 
-ghost use Rattle.std.specs.Prelude.{ℕ, ◌≡◌, ◌≤◌, false, IfOk, IfSome, OnOk, OnErr, length};
+ghost use Rattle.std.specs.Prelude.{◌≡◌, refl, false, IfSome, OnOk};
 ghost use Rattle.std.specs.Io.KnownBytes.{Appends};
 ghost use Rattle.texts.specs.SawText.{saw_text};
-ghost use Rattle.saw_text_lines.specs.SawKept.{lent, Room};
+ghost use Rattle.texts.specs.TextLaws.{longest_saw_text};
+ghost use Rattle.texts_writing.specs.Wrote.{longest_saw};
+ghost use Rattle.saw_text_lines.specs.SawKept.{lent};
 ghost use Rattle.saw_text_reader.specs.Parts.{After};
-ghost use Rattle.saw_text_ending.specs.SawEnd.{RoomToEnd};
-ghost use Rattle.programs.specs.Program.{part_size, ReadFrom, WholeAnswer, AnswersFrom, WritesFrom};
+ghost use Rattle.programs.specs.Program.{most_parts, WritesFrom};
+ghost use Rattle.programs.proofs.Decided.{enough};
 
 use job::sizes::{COUNTS_SIZE, CUTS_SIZE, JOB_SIZE, PLACEMENTS_SIZE, PLATES_SIZE, PRICES_SIZE};
 use programs::input::Input;
 use programs::parts::PART_SIZE;
+use programs::text::{Text, run};
 use saw_text_ending::finish::finish_listed;
 use saw_text_reader::saw::{SawReader, feed, start};
 use std::io;
@@ -19,102 +22,69 @@ use std::io::{Read, Write};
 use texts::widths::LONGEST_SAW_TEXT;
 use texts_writing::sizes::LONGEST_SAW;
 
-// So many parts have more bytes than the longest text that its lines do not refuse.
-const MOST_PARTS: usize = LONGEST_SAW_TEXT / PART_SIZE + 1;
-
-// What has been read, and how many bytes the last read gave.
-#[derive(Clone, Copy)]
-struct TextRead {
+// A saw text that is read: its reader, and the words that this and the listing are lent, each of full size.
+#[derive(Drop)]
+struct SawText {
     reader: SawReader,
-    last: usize,
+    job: [u16; JOB_SIZE],
+    plates: [u16; PLATES_SIZE],
+    cuts: [u16; CUTS_SIZE],
+    counts: [u16; COUNTS_SIZE],
+    prices: [u16; PRICES_SIZE],
+    placements: [u16; PLACEMENTS_SIZE],
 }
 
-// Reads a text, part after part, to its end, or so much of it that what follows cannot change the answer. The first read that gives less than a part
-// ends the text, whether the input ends there or the read fails.
-fn read<R: Read>(
-    input: &mut Input<R>,
-    part: &mut [u8],
-    job: &mut [u16],
-    plates: &mut [u16],
-    cuts: &mut [u16],
-    counts: &mut [u16],
-    prices: &mut [u16],
-) -> TextRead
-    requires part_size_in_bounds { part_size ≤ length part.old }
-    requires room { Room (lent job.old plates.old cuts.old counts.old prices.old) }
-    ensures { ReadFrom saw_text (R.remaining input.old.reader) (R.remaining input.new.reader) input.new.failed After result.reader (lent job.new plates.new cuts.new counts.new prices.new) (length part.old) result.last }
-{
-    let mut reader = start(job, plates, cuts, counts, prices);
-    let mut parts: usize = 0;
-    while parts < MOST_PARTS {
-        let n = input.fill(part);
-        reader = feed(reader, &part[..n], job, plates, cuts, counts, prices);
-        if n < part.len() {
-            return TextRead { reader, last: n };
-        }
-        parts += 1;
+impl Text for SawText {
+    ghost answer = { saw_text };
+
+    ghost longest = { longest_saw_text };
+
+    ghost longest_answer = { longest_saw };
+
+    ghost after = { λ bytes t. After bytes t.reader (lent t.job t.plates t.cuts t.counts t.prices) };
+
+    ghost MOST_PARTS = { most_parts longest_saw_text };
+
+    const MOST_PARTS: usize = LONGEST_SAW_TEXT / PART_SIZE + 1;
+
+    fn start(&mut self) {
+        self.reader = start(
+            &mut self.job,
+            &mut self.plates,
+            &mut self.cuts,
+            &mut self.counts,
+            &mut self.prices,
+        );
     }
-    TextRead {
-        reader,
-        last: part.len(),
+
+    fn feed(&mut self, part: &[u8]) {
+        self.reader = feed(
+            self.reader,
+            part,
+            &mut self.job,
+            &mut self.plates,
+            &mut self.cuts,
+            &mut self.counts,
+            &mut self.prices,
+        );
     }
-}
 
-// Reads a text and leaves its answer at the start of the output; the number of its bytes is handed back.
-fn answer<R: Read>(
-    input: &mut Input<R>,
-    part: &mut [u8],
-    job: &mut [u16],
-    plates: &mut [u16],
-    cuts: &mut [u16],
-    counts: &mut [u16],
-    prices: &mut [u16],
-    placements: &mut [u16],
-    out: &mut [u8],
-) -> usize
-    requires part_size_in_bounds { part_size ≤ length part.old }
-    requires room_to_end { RoomToEnd (lent job.old plates.old cuts.old counts.old prices.old) placements.old out.old }
-    ensures { AnswersFrom saw_text (R.remaining input.old.reader) (R.remaining input.new.reader) input.new.failed out.old result out.new }
-{
-    let text = read(input, part, job, plates, cuts, counts, prices);
-    let reader = text.reader;
-    finish_listed(reader, job, plates, cuts, counts, prices, placements, out)
-}
+    fn finish(&mut self, out: &mut [u8]) -> usize {
+        finish_listed(
+            self.reader,
+            &self.job,
+            &self.plates,
+            &self.cuts,
+            &self.counts,
+            &self.prices,
+            &mut self.placements,
+            out,
+        )
+    }
 
-// Hands bytes to the write that are the answer to some text, whole; their number is handed back, or the error of a write that fails.
-fn write_answer<W: Write>(output: &mut W, bytes: &[u8]) -> io::Result<usize>
-    requires { WholeAnswer saw_text bytes.now }
-    ensures counted { IfOk result (λ n. n ≡ length bytes.now) }
-    ensures written { OnOk result (Appends (W.contents output.old) (W.contents output.new) bytes.now) }
-{
-    output.write_all(bytes)?;
-    Ok(bytes.len())
-}
+    ghost decides = { enough.saw };
 
-// Reads a text and writes its answer, which stands at the start of `out`; the number of bytes handed to the write is handed back, or the error of a write
-// that fails.
-fn run<R: Read, W: Write>(
-    input: &mut Input<R>,
-    output: &mut W,
-    part: &mut [u8],
-    job: &mut [u16],
-    plates: &mut [u16],
-    cuts: &mut [u16],
-    counts: &mut [u16],
-    prices: &mut [u16],
-    placements: &mut [u16],
-    out: &mut [u8],
-) -> io::Result<usize>
-    requires part_size_in_bounds { part_size ≤ length part.old }
-    requires room_to_end { RoomToEnd (lent job.old plates.old cuts.old counts.old prices.old) placements.old out.old }
-    ensures answered { IfOk result (λ n. AnswersFrom saw_text (R.remaining input.old.reader) (R.remaining input.new.reader) input.new.failed out.old n out.new) }
-    ensures failed { OnErr result ((n : ℕ) × AnswersFrom saw_text (R.remaining input.old.reader) (R.remaining input.new.reader) input.new.failed out.old n out.new) }
-    ensures written { OnOk result (WritesFrom saw_text (R.remaining input.old.reader) (R.remaining input.new.reader) input.new.failed (W.contents output.old) (W.contents output.new)) }
-{
-    let n = answer(
-        input, part, job, plates, cuts, counts, prices, placements, out,
-    );
-    write_answer(output, &out[..n])
+    ghost most = { refl };
 }
 
 // The program on any input and output, with room for any answer: reads a text and writes its answer. Where no read has failed, what is written is the answer
@@ -123,26 +93,23 @@ fn program<R: Read, W: Write>(input: &mut Input<R>, output: &mut W) -> io::Resul
     ensures written { OnOk result (WritesFrom saw_text (R.remaining input.old.reader) (R.remaining input.new.reader) input.new.failed (W.contents output.old) (W.contents output.new)) }
     ensures whole { input.new.failed ≡ false → OnOk result (IfSome (R.remaining input.old.reader) (λ text. Appends (W.contents output.old) (W.contents output.new) (saw_text text))) }
 {
-    let mut part = [0u8; PART_SIZE];
     let mut job = [0u16; JOB_SIZE];
     let mut plates = [0u16; PLATES_SIZE];
     let mut cuts = [0u16; CUTS_SIZE];
     let mut counts = [0u16; COUNTS_SIZE];
     let mut prices = [0u16; PRICES_SIZE];
-    let mut placements = [0u16; PLACEMENTS_SIZE];
+    let mut text = SawText {
+        reader: start(&mut job, &mut plates, &mut cuts, &mut counts, &mut prices),
+        job,
+        plates,
+        cuts,
+        counts,
+        prices,
+        placements: [0; PLACEMENTS_SIZE],
+    };
+    let mut part = [0u8; PART_SIZE];
     let mut out = [0u8; LONGEST_SAW];
-    run(
-        input,
-        output,
-        &mut part,
-        &mut job,
-        &mut plates,
-        &mut cuts,
-        &mut counts,
-        &mut prices,
-        &mut placements,
-        &mut out,
-    )?;
+    run(&mut text, input, output, &mut part, &mut out)?;
     Ok(())
 }
 

@@ -12,7 +12,7 @@ use Rattle.job.specs.Admitted.{Admitted}
 use Rattle.job.proofs.Verdicts.{then-first, then-second, then-both}
 use Rattle.job.proofs.Admission.{admitted-words, admitted-job, admitted-sided, admitted-stocked}
 use Rattle.listing.specs.Listing.{model_row, listing_of}
-use Rattle.listing.specs.Model.{Model}
+use Rattle.listing.specs.Model.{Model as ListedModel}
 use Rattle.listing.specs.Records.{plate_words}
 use Rattle.listing.specs.Holds.{Holds}
 use Rattle.listing.specs.ListCall.{list_verdict, list_answer, plates_end, cuts_end}
@@ -20,15 +20,13 @@ use Rattle.listing.proofs.WalkModel.{row-model}
 use Rattle.job.specs.declared.counters.PlateTypes.{PlateTypes}
 use Rattle.job.specs.declared.counters.CutNumber.{CutNumber}
 use Rattle.job.proofs.CodeEnds.{given-pass}
-use Rattle.listing_call.specs.declared.call.Listed.{Listed}
-use Rattle.listing_call.specs.declared.call.Listed.TheVariants.{Done}
-use Rattle.listing_call.specs.ListSays.{says_of, SizesListed}
-use Rattle.listing_call.proofs.CodeEnding.{sizes-listed}
 use Rattle.plan_test.proofs.CodeListed.{Ready, ready}
 use Rattle.texts.specs.JobLines.{board_sizes, types_of}
 use Rattle.listing_find.specs.Rising.{Rising}
 use Rattle.listing_find.proofs.Narrowing.{model-rising}
-use Rattle.saw_text_body.specs.ModelRead.{ModelKept}
+use Rattle.saw_text_body.specs.declared.model.Model.{Model}
+use Rattle.saw_text_body.specs.declared.model.Model.TheVariants.{Listed}
+use Rattle.saw_text_body.specs.ModelRead.{says_of, SizesListed, ModelKept}
 
 -- a buffer ends by its length alone
 ends-again : (v : Verdict) (b b' ws : List ℕ) → length b' ≡ length b → b' ≡ ends v b ws → b' ≡ ends v b' ws
@@ -45,7 +43,7 @@ verdict-again ws plates cuts plates' cuts' p c = rw (p, c)
 
 -- as the listing call leaves it
 pub model-kept :
-    (ws : List ℕ) (a : Listed) (plates cuts plates' cuts' : List ℕ)
+    (ws : List ℕ) (a : Model) (plates cuts plates' cuts' : List ℕ)
     → length plates' ≡ length plates
     → length cuts' ≡ length cuts
     → SizesListed (job_of ws) a
@@ -83,7 +81,7 @@ modelled ws plates cuts m k room some says e =
     let w : job_words ws ≡ pass = then-first (job_words ws) _ v in
     let a : admission job ≡ pass = then-first (admission job) _ v1 in
     let all : Admitted job = admitted-job ws ((admitted-words ws).0 (then-both (job_words ws) (admission job) w a)) in
-    let model : Model job (listing_of job) = row-model job (admitted-sided job all) (admitted-stocked job all) p in
+    let model : ListedModel job (listing_of job) = row-model job (admitted-sided job all) (admitted-stocked job all) p in
     record {
       words = w;
       admitted = a;
@@ -93,11 +91,11 @@ modelled ws plates cuts m k room some says e =
     }
 
 -- the same of a kept model that is not refused
-pub kept-modelled : (ws plates cuts : List ℕ) (a : Listed) (m : PlateTypes) (k : CutNumber) → a ≡ Done m k → cuts_size ≤ length cuts → ModelKept ws a plates cuts → Modelled ws cuts m.0 k.0
-kept-modelled ws plates cuts a m k e room kept = modelled ws plates cuts m.0 k.0 room (sizes-listed (job_of ws) e kept.sizes-listed) (sym (ap (says_of (job_of ws)) e) ∙ kept.says) kept.cuts_are
+pub kept-modelled : (ws plates cuts : List ℕ) (a : Model) (m : PlateTypes) (k : CutNumber) → a ≡ Listed m k → cuts_size ≤ length cuts → ModelKept ws a plates cuts → Modelled ws cuts m.0 k.0
+kept-modelled ws plates cuts a m k e room kept = modelled ws plates cuts m.0 k.0 room (rw e at kept.sizes-listed) (sym (ap (says_of (job_of ws)) e) ∙ kept.says) kept.cuts_are
 
 -- and the plates that it leaves
-pub kept-plates : (ws plates cuts : List ℕ) (a : Listed) (m : PlateTypes) (k : CutNumber) → a ≡ Done m k → ModelKept ws a plates cuts → Holds plates (plate_words (job_of ws) (listing_of (job_of ws)).plates)
+pub kept-plates : (ws plates cuts : List ℕ) (a : Model) (m : PlateTypes) (k : CutNumber) → a ≡ Listed m k → ModelKept ws a plates cuts → Holds plates (plate_words (job_of ws) (listing_of (job_of ws)).plates)
 unfolding list_answer plates_end
 kept-plates ws plates cuts a m k e kept =
     let v : list_verdict ws plates cuts ≡ pass = given-pass (list_verdict ws plates cuts) _ (sym (ap (says_of (job_of ws)) e) ∙ kept.says) in

@@ -6,9 +6,8 @@ use mathlib.Core.Bool.{Bool, true, false, cond, not}
 use mathlib.Core.List.{List, [], ◌∷◌, ◌++◌}
 use lib.Dec.{leb, eqb}
 use lib.ListN.{length, set}
-use borrow.Author.Tests.{le-leb, lt-leb, eq-eqb, ne_eqb}
+use borrow.Author.Tests.{le-leb, lt-leb, ne_eqb}
 use Rattle.job.specs.Verdict.{pass, refuse, refuse_if, lowest}
-use Rattle.listing.specs.declared.plate.Plate.{Plate}
 use Rattle.listing.specs.Plate.{same}
 use Rattle.listing.specs.Listing.{Listing, plate_at}
 use Rattle.job.specs.Job.{Job}
@@ -47,20 +46,6 @@ first_more number bad first rs r (suc u) line e h p = rw (ne_eqb (suc u) 0 (λ q
 pub at-refused : (number line : ℕ) → (line ≡ 0 → ⊥) → at_line number line ≡ refuse number line
 at-refused number zero h = absurd (h refl)
 at-refused number (suc line) h = refl
-
--- a plate s that is shown beside a plate p that is read as q, number by number
-module _ (s p q : Plate) (read : p ≡ q) where
-  pub other_width : (s.width ≡ p.width → ⊥) → true ≡ not (same s q)
-  unfolding same
-  other_width w = rw (← read, ne_eqb s.width p.width w)
-
-  pub other-height : s.width ≡ p.width → (s.height ≡ p.height → ⊥) → true ≡ not (same s q)
-  unfolding same
-  other-height w h = rw (← read, eq-eqb s.width p.width w, ne_eqb s.height p.height h)
-
-  pub other-stage : s.width ≡ p.width → s.height ≡ p.height → not (eqb s.stage p.stage) ≡ not (same s q)
-  unfolding same
-  other-stage w h = rw (← read, eq-eqb s.width p.width w, eq-eqb s.height p.height h)
 
 -- the plate that a line shows is another than the model's, by the words of the plate
 pub shown-other :

@@ -14,10 +14,10 @@ ghost use Rattle.saw_text_body.specs.PlanRead.{plate_shown, LineOf, first_line, 
 
 use job::counters::{CutNumber, ItemPosition, PlateType};
 use listing::words::plate_at;
-use listing_find::search::{Found, find_cut_near};
+use listing_find::search::find_cut_near;
 
 // The plate that a line 3 shows, each number as it stands there.
-#[derive(Clone, Copy)]
+#[derive(Clone, Copy, Debug, PartialEq, Eq)]
 pub struct Shown {
     pub width: u32,
     pub height: u32,
@@ -25,7 +25,7 @@ pub struct Shown {
 }
 
 // A line 3: its plate type, the position of its item type and turn, its count, and the plate that it shows.
-#[derive(Clone, Copy)]
+#[derive(Clone, Copy, Debug, PartialEq, Eq)]
 pub struct PlanLine {
     pub plate: PlateType,
     pub item: ItemPosition,
@@ -34,8 +34,8 @@ pub struct PlanLine {
 }
 
 // The lines 3 so far: the first line refused by 8, the first refused by 20, the first refused by 9, each 0 where there is none, and the last cut named
-// before the one refused by 9.
-#[derive(Clone, Copy)]
+// before the one refused by 9. No options: they are a part of the state that a host hands back, with any numbers (`saw::feed`, clause state-same).
+#[derive(Clone, Copy, Debug, PartialEq, Eq)]
 pub struct PlanLines {
     pub unnamed: u32,
     pub misshown: u32,
@@ -45,21 +45,19 @@ pub struct PlanLines {
 
 // Whether the plate that a line shows is not plate type j (request Five): the words of the plate type are widened, and no number of the line is narrowed.
 // Of a number that the listing has not the words are zeros, and the line is refused by 8 before.
+#[tactic(auto, unfolding(listing::specs::Plate::same))]
 fn shows_other(plates: &[u16], j: PlateType, shown: Shown) -> bool
     requires { RecordIn words_of_plate j.0 plates.now }
     ensures { result ≡ not (same (plate_shown shown) (plate_read plates.now j.0)) }
 {
     let p = plate_at(plates, j);
-    if shown.width != p.width as u32 {
-        return true;
-    }
-    if shown.height != p.height as u32 {
-        return true;
-    }
-    shown.stage != p.stage as u32
+    shown.width != p.width as u32
+        || shown.height != p.height as u32
+        || shown.stage != p.stage as u32
 }
 
 // The first line that is refused: the one so far, if there is one, else this line, if it is.
+#[tactic(auto, unfolding(crate::specs::PlanRead::first_line))]
 fn first_line(known: u32, here: bool, line: u32) -> u32
     ensures { result ≡ first_line known here line }
 {
@@ -84,7 +82,7 @@ fn cut_named(
     ensures result_value { (l : Listing) → l.cuts ≡ cuts_read k.0 cuts.now → Rising l.cuts → result.0 ≡ cut_of l j.0 q.0 }
     ensures result_le_k { result.0 ≤ k.0 }
 {
-    let Found::At(c) = find_cut_near(cuts, k, last, j, q) else {
+    let Some(c) = find_cut_near(cuts, k, last, j, q) else {
         return CutNumber(0);
     };
     c
@@ -115,33 +113,22 @@ impl PlanLines {
         requires { (0 < line) × (c.0 ≤ length counts.old) }
         ensures { (l : Listing) (first : ℕ) (rs : List Counted) (r : Counted) → first + length rs ≡ line → c.0 ≡ named_cut l r → c.0 ≤ length l.cuts → other ≡ misshown l r → r.count ≡ count → PlanKept l first rs self counts.old → PlanKept l first (rs ++ r ∷ []) result counts.new }
     {
-        let unnamed = first_line(self.unnamed, c.0 == 0, line);
-        let misshown = first_line(self.misshown, other, line);
-        let last = self.last;
+        let marked = PlanLines {
+            unnamed: first_line(self.unnamed, c.0 == 0, line),
+            misshown: first_line(self.misshown, other, line),
+            ..self
+        };
         if self.fallen != 0 {
-            return PlanLines {
-                unnamed,
-                misshown,
-                fallen: self.fallen,
-                last,
-            };
+            return marked;
         }
-        if c.0 <= last.0 {
+        if c.0 <= self.last.0 {
             return PlanLines {
-                unnamed,
-                misshown,
                 fallen: line,
-                last,
+                ..marked
             };
         }
-        let at = (c.0 - 1) as usize;
-        counts[at] = count;
-        PlanLines {
-            unnamed,
-            misshown,
-            fallen: 0,
-            last: c,
-        }
+        counts[(c.0 - 1) as usize] = count;
+        PlanLines { last: c, ..marked }
     }
 
     // One line more, by the plates and the k cuts of a listing.
@@ -158,10 +145,8 @@ impl PlanLines {
         requires record_in { RecordIn words_of_plate here.plate.0 plates.now }
         ensures { (job : Job) (l : Listing) (first : ℕ) (rs : List Counted) (r : Counted) → Holds plates.now (plate_words job l.plates) → l.cuts ≡ cuts_read k.0 cuts.now → Rising l.cuts → first + length rs ≡ line → LineOf here r → PlanKept l first rs self counts.old → PlanKept l first (rs ++ r ∷ []) result counts.new }
     {
-        let last = self.last;
-        let j = here.plate;
-        let c = cut_named(cuts, k, last, j, here.item);
-        let other = shows_other(plates, j, here.shown);
+        let c = cut_named(cuts, k, self.last, here.plate, here.item);
+        let other = shows_other(plates, here.plate, here.shown);
         self.named(line, c, other, here.count, counts)
     }
 }

@@ -11,9 +11,9 @@ use Rattle.job.proofs.Buffers.{filled_none}
 use Rattle.job.proofs.CodeEnds.{Not5, ends-zeros, given-pass, refused-refuse}
 use Rattle.listing.specs.Holds.{Holds}
 use Rattle.listing.specs.ListCall.{list_verdict, list_answer, plates_end, cuts_end}
-use Rattle.listing_call.specs.declared.call.Listed.{Listed}
-use Rattle.listing_call.specs.declared.call.Listed.TheVariants.{Done, Refused}
-use Rattle.listing_call.specs.ListSays.{says_of}
+use Rattle.saw_text_body.specs.declared.model.Model.{Model}
+use Rattle.saw_text_body.specs.declared.model.Model.TheVariants.{Listed, Refused}
+use Rattle.saw_text_body.specs.ModelRead.{says_of}
 use Rattle.texts.specs.JobLines.{Place, first, sizes, types, body, item_prices, plate_prices, done, board_sizes}
 use Rattle.texts.specs.SawText.{PriceLines, Saw}
 use Rattle.saw_text_body.specs.declared.price_lines.PriceLines.{PriceLines as CodePrices}
@@ -58,13 +58,13 @@ module _ (s : Saw) (h : SawHeld) (b b' : Lent) (long : AsLong b' b) (room : Room
       }
 
   counts-left :
-      (a : Listed) (v : Verdict) (p : PlanLines)
+      (a : Model) (v : Verdict) (p : PlanLines)
       → says_of (job_of s.job) a ≡ list_answer s.job b'.plates b'.cuts
       → list_verdict s.job b'.plates b'.cuts ≡ v
       → PlanHeld s.job a s.plan p b'.counts
       → b'.counts ≡ filled (length b.counts) (counts_by v s)
   unfolding list_answer
-  counts-left (Done m k) v p says e q =
+  counts-left (Listed m k) v p says e q =
       rw (sym e ∙ given-pass (list_verdict s.job b'.plates b'.cuts) _ says) (held-as (length b.counts) long.counts q.counts-are)
   counts-left (Refused number place) v p says e q =
       rw (sym e ∙ refused-refuse (list_verdict s.job b'.plates b'.cuts) _ says) (held-as (length b.counts) long.counts q.1)

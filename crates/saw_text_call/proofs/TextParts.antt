@@ -1,7 +1,7 @@
 -- A saw text read in parts, whatever its split, and the answer where it ends.
-use Prim.Native.Nat.{ℕ, ◌+◌, ◌-◌, ◌≤◌, zero-le}
+use Prim.Native.Nat.{ℕ, ◌+◌, ◌-◌, ◌≤◌}
 use native.Mathlib.Omega.{arith}
-use mathlib.Core.Path.{◌≡◌, refl, sym, ap, ◌∙◌, subst}
+use mathlib.Core.Path.{◌≡◌, sym, ap, ◌∙◌, subst}
 use mathlib.Core.List.{List, [], ◌++◌}
 use lib.ListN.{length, take, drop}
 use lib.Seq.{take-add, take-length}
@@ -17,50 +17,29 @@ use Rattle.saw_text_ending.specs.Finished.{Finished}
 use Rattle.saw_text_call.specs.TextCall.{SawAnswered}
 use Rattle.saw_text_call.proofs.Left.{held_after}
 
--- buffers as long as others that are as long as the first
-pub as_long : {b b' b₀ : Lent} → AsLong b' b → AsLong b b₀ → AsLong b' b₀
-as_long l g =
-    record {
-      job = l.job ∙ g.job;
-      plates = l.plates ∙ g.plates;
-      cuts = l.cuts ∙ g.cuts;
-      counts = l.counts ∙ g.counts;
-      prices = l.prices ∙ g.prices;
-    }
-
-pub long_same : {b : Lent} → AsLong b b
-long_same = record { job = refl; plates = refl; cuts = refl; counts = refl; prices = refl }
-
 -- after no bytes
 pub after_none : {f : SawReader} {b₀ b : Lent} → Room b₀ → Started b₀ f b → After [] f b
 unfolding fed
 after_none room s = s.kept room
 
 -- up to `at` the text has been read
-pub record ReadTo (text : List ℕ) (at : ℕ) (f : SawReader) (b b₀ : Lent) : Type 0 where
+pub record ReadTo (text : List ℕ) (at : ℕ) (f : SawReader) (b : Lent) : Type 0 where
   pub within : at ≤ length text
-  pub long : AsLong b b₀
   pub after : After (take at text) f b
-
--- nothing of it yet
-pub read_none : {text : List ℕ} {f : SawReader} {b₀ b : Lent} → Room b₀ → Started b₀ f b → ReadTo text 0 f b b
-read_none room s = record { within = zero-le; long = long_same; after = after_none room s }
 
 -- a part more
 pub read_more :
-    {text : List ℕ} {at end : ℕ} {f f' : SawReader} {b b' b₀ : Lent}
-    → ReadTo text at f b b₀
+    {text : List ℕ} {at : ℕ} {f f' : SawReader} {b b' : Lent} (end : ℕ)
+    → ReadTo text at f b
     → at ≤ end
     → end ≤ length text
-    → AsLong b' b
     → Fed (take (end - at) (drop at text)) f b f' b'
-    → ReadTo text end f' b' b₀
-read_more {text} {at} {end} {f} {f'} {b} {b'} r h e l x =
+    → ReadTo text end f' b'
+read_more {text} {at} {f} {f'} {b} {b'} end r h e x =
     let sum : at + (end - at) ≡ end = omega arith in
     let whole : take at text ++ take (end - at) (drop at text) ≡ take end text = sym (take-add at (end - at) text) ∙ ap (λ (n : ℕ). take n text) sum in
     record {
       within = e;
-      long = as_long l r.long;
       after = subst (λ (bs : List ℕ). After bs f' b') whole (in_parts.more (take at text) (take (end - at) (drop at text)) f f' b b' r.after x);
     }
 
@@ -69,9 +48,8 @@ pub room-kept : {b b' : Lent} {placements out : List ℕ} → RoomToEnd b placem
 room-kept r q = record { lent = q; for-placements = r.for-placements; for-out = r.for-out }
 
 -- all of it
-pub read_all : {text : List ℕ} {at : ℕ} {f : SawReader} {b b₀ : Lent} → ReadTo text at f b b₀ → at ≡ length text → After text f b
-read_all {text} {at} {f} {b} r e =
-    subst (λ (bs : List ℕ). After bs f b) (ap (λ (n : ℕ). take n text) e ∙ take-length text) r.after
+pub read_all : {text : List ℕ} {f : SawReader} {b : Lent} → ReadTo text (length text) f b → After text f b
+read_all {text} {f} {b} r = subst (λ (bs : List ℕ). After bs f b) (take-length text) r.after
 
 -- the answer
 pub answered :

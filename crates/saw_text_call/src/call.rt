@@ -1,27 +1,10 @@
 // The saw text as a call: from bytes to bytes, whole or in parts.
-ghost use Rattle.std.specs.Prelude.{◌≤◌};
 ghost use Rattle.saw_text_lines.specs.SawKept.{lent, Room};
 ghost use Rattle.saw_text_reader.specs.Parts.{After};
 ghost use Rattle.saw_text_call.specs.TextCall.{SawCall};
 
 use saw_text_ending::finish::{finish_listed, has_room};
 use saw_text_reader::saw::{SawReader, feed, start};
-
-// Reads a text at once.
-fn read_whole(
-    text: &[u8],
-    job: &mut [u16],
-    plates: &mut [u16],
-    cuts: &mut [u16],
-    counts: &mut [u16],
-    prices: &mut [u16],
-) -> SawReader
-    requires { Room (lent job.old plates.old cuts.old counts.old prices.old) }
-    ensures { After text.now result (lent job.new plates.new cuts.new counts.new prices.new) }
-{
-    let reader = start(job, plates, cuts, counts, prices);
-    feed(reader, text, job, plates, cuts, counts, prices)
-}
 
 // The saw text of some bytes: the answer is written at the start of the output, lines 7 and line 8, or one line 9 alone, and its number of bytes is
 // handed back; the bytes behind it stay. The job's words, plates, cuts, counts, prices and placements end as the words of the text and then zeros.
@@ -39,28 +22,21 @@ pub fn saw_text(
 ) -> usize
     ensures { SawCall text.now (lent job.old plates.old cuts.old counts.old prices.old) placements.old out.old result (lent job.new plates.new cuts.new counts.new prices.new) placements.new out.new }
 {
-    if has_room(job, plates, cuts, counts, prices, placements, out) {
-        let whole = read_whole(text, job, plates, cuts, counts, prices);
-        return finish_listed(whole, job, plates, cuts, counts, prices, placements, out);
-    }
-    0
-}
-
-// Where the part that begins at `at` ends: at `end`, if that is after it and within a text of so many bytes; else the part is empty.
-fn part_end(at: usize, end: usize, size: usize) -> usize
-    requires { at ≤ size }
-    ensures { (at ≤ result) × (result ≤ size) }
-{
-    if end <= at {
-        return at;
-    }
-    if size < end {
-        return at;
-    }
-    end
+    saw_in_parts(
+        text,
+        &[],
+        out,
+        job,
+        plates,
+        cuts,
+        counts,
+        prices,
+        placements,
+    )
 }
 
 // Reads a text in parts that end at the given places, and the rest of it as the last part.
+// One loop for both texts is no plainer: `feed` takes five lent buffers here and two in `fold_text_call`, which a trait would want as a struct of each.
 fn read_parts(
     text: &[u8],
     ends: &[u32],
@@ -74,13 +50,14 @@ fn read_parts(
     ensures { After text.now result (lent job.new plates.new cuts.new counts.new prices.new) }
 {
     let mut reader = start(job, plates, cuts, counts, prices);
-    let mut at: usize = 0;
-    let mut i: usize = 0;
-    while i < ends.len() {
-        let end = part_end(at, ends[i] as usize, text.len());
+    let mut at = 0;
+    for &end in ends {
+        let end = end as usize;
+        if end <= at || text.len() < end {
+            continue;
+        }
         reader = feed(reader, &text[at..end], job, plates, cuts, counts, prices);
         at = end;
-        i += 1;
     }
     feed(reader, &text[at..], job, plates, cuts, counts, prices)
 }

@@ -13,9 +13,9 @@ use Rattle.job.proofs.Verdicts.{then-assoc, then-both, then-passed, then-refused
 use Rattle.job.proofs.CodeEnds.{given-pass, refused-refuse}
 use Rattle.listing.specs.Listing.{model_row, listing_of}
 use Rattle.listing.specs.ListCall.{list_verdict, list_answer, plates_end, cuts_end}
-use Rattle.listing_call.specs.declared.call.Listed.{Listed}
-use Rattle.listing_call.specs.declared.call.Listed.TheVariants.{Done, Refused}
-use Rattle.listing_call.specs.ListSays.{says_of}
+use Rattle.saw_text_body.specs.declared.model.Model.{Model}
+use Rattle.saw_text_body.specs.declared.model.Model.TheVariants.{Listed, Refused}
+use Rattle.saw_text_body.specs.ModelRead.{says_of}
 use Rattle.unfold_call.proofs.CodeAccepted.{listed-lent}
 use Rattle.texts.specs.Widths.{place_limit}
 use Rattle.texts.specs.JobLines.{Place, board_sizes, types_of, body_line}
@@ -32,8 +32,8 @@ use Rattle.saw_text_rows.specs.Tail.{PricesEnd, listed_rows}
 use Rattle.saw_text_ending.specs.SawEnd.{ListedLent, WholeKept, Answered}
 
 -- the model that is kept, in lent buffers of full size
-module _ (ws plates cuts : List ℕ) (ps : plates_size ≤ length plates) (cs : cuts_size ≤ length cuts) (a : Listed) (kept : ModelKept ws a plates cuts) where
-  module _ (m : PlateTypes) (k : CutNumber) (e : a ≡ Done m k) where
+module _ (ws plates cuts : List ℕ) (ps : plates_size ≤ length plates) (cs : cuts_size ≤ length cuts) (a : Model) (kept : ModelKept ws a plates cuts) where
+  module _ (m : PlateTypes) (k : CutNumber) (e : a ≡ Listed m k) where
     known : Modelled ws cuts m.0 k.0
     known = kept-modelled ws plates cuts a m k e cs kept
 
@@ -92,14 +92,14 @@ module _ (s : Saw) (h : SawHeld) (b : Lent) (room : Room b) (w : WholeKept s h b
     place-fits = near-place (near-job s.job w.passed) number place row
 
   -- else listed, and answered by the rows after them
-  module _ {m : PlateTypes} {k : CutNumber} (e : h.model ≡ Done m k) where
+  module _ {m : PlateTypes} {k : CutNumber} (e : h.model ≡ Listed m k) where
     pub job-listed : ListedLent (take (job_size (board_sizes b.job) (types_of b.job)) b.job) b.plates b.cuts m.0 k.0
     job-listed =
         subst (λ (ws : List ℕ). ListedLent ws b.plates b.cuts m.0 k.0) (sym words_are)
         (listed-so s.job b.plates b.cuts room.for-plates room.for-cuts h.model w.model m k e)
 
     plan-kept : PlanKept (listing_of (job_of s.job)) (body_line s.job) s.plan h.plan b.counts
-    plan-kept = subst (λ (a : Listed). PlanHeld s.job a s.plan h.plan b.counts) e w.plan
+    plan-kept = subst (λ (a : Model). PlanHeld s.job a s.plan h.plan b.counts) e w.plan
 
     module _ (out placements : List ℕ) (n : ℕ) (out' placements' : List ℕ) where
       abbrev Rest : List ℕ → Type 0

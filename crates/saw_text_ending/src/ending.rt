@@ -19,12 +19,11 @@ ghost use Rattle.saw_text_ending.specs.SawEnd.{ListedLent, Ready, WholeKept, Tex
 
 use job::counters::{CutNumber, PlateTypes};
 use job::head::head_of;
-use job::row::Row;
+use job::job_read::JobRead;
 use job::sizes::{HEAD_WORDS, ITEM_WORDS, SIZE_WORDS};
 use job::words::clear;
-use listing_call::call::Listed;
-use plan_test::plan_row::PlanAnswer;
-use price_test::prices::PriceAnswer;
+use plan_test::listed_job::ListedJob;
+use saw_text_body::model::Model;
 use saw_text_body::plan_lines::PlanLines;
 use saw_text_body::price_lines::PriceLines;
 use saw_text_lines::held::SawHeld;
@@ -66,19 +65,29 @@ pub fn answer_listed(
     requires ready { Ready counts.now prices.now placements.old out.old }
     ensures { (place : Place) (rs : List Counted) (o : Option Lines456) → PlanKept (listing_of (job_of job.now)) (body_line job.now) rs plan counts.now → PricesEnd o lines prices.now → Answered (listed_rows (saw_of place job.now rs o)) (saw_of place job.now rs o) out.old placements.old result out.new placements.new }
 {
-    let head = head_of(job);
-    let t = head.sizes;
-    let n = head.types;
-    match plan_row_of_text(plan, job, t, n, cuts, m, k, counts) {
-        PlanAnswer::Refused(number, place) => refuse(out, number, place),
-        PlanAnswer::Accepted(_, cost) => {
-            match prices_of_text(lines, job, t, n, cuts, m, k, prices) {
-                PriceAnswer::Refused(number, place) => refuse(out, number, place),
-                PriceAnswer::Accepted(sum, d) => {
-                    write_plan(job, counts, plates, cuts, k, cost, sum, d, placements, out)
-                }
-            }
-        }
+    let listed = ListedJob {
+        job: JobRead::new(job),
+        cuts,
+        plates: m,
+        last: k,
+    };
+    match plan_row_of_text(plan, &listed, counts) {
+        Err(refused) => refuse(out, refused.refusal.number(), refused.place),
+        Ok(opening) => match prices_of_text(lines, &listed, prices) {
+            Err(unpriced) => refuse(out, unpriced.refusal.number(), unpriced.place),
+            Ok(bound) => write_plan(
+                job,
+                counts,
+                plates,
+                cuts,
+                k,
+                opening.cost,
+                bound.sum,
+                bound.d,
+                placements,
+                out,
+            ),
+        },
     }
 }
 
@@ -98,19 +107,16 @@ fn answer_job(
     requires ready { Ready counts.now prices.now placements.old out.old }
     ensures { (s : Saw) → WholeKept s held (lent job.now plates.now cuts.now counts.now prices.now) → Answered (saw_rows s) s out.old placements.old result out.new placements.new }
 {
-    let plan = held.plan;
-    let lines = held.prices;
-    let model = held.model;
-    match model {
-        Listed::Refused(number, place) => refuse(out, number, place),
-        Listed::Done(m, k) => {
+    match held.model {
+        Model::Refused(number, place) => refuse(out, number, place),
+        Model::Listed(m, k) => {
             let head = head_of(job);
             let words = HEAD_WORDS
                 + SIZE_WORDS * (head.sizes.0 as usize)
                 + ITEM_WORDS * (head.types.0 as usize);
             answer_listed(
-                plan,
-                lines,
+                held.plan,
+                held.prices,
                 &job[..words],
                 plates,
                 cuts,
@@ -142,9 +148,8 @@ pub fn end_text(
     ensures { (r : Reader Saw) → TextEnds r text held (lent job.now plates.now cuts.now counts.now prices.now) → Answered (text_row saw_grammar r then saw_rows r.state) r.state out.old placements.old result out.new placements.new }
 {
     clear(placements);
-    let place = text.place;
-    match text_row(text, may_end(place)) {
-        Row::Refuses(number, place) => refuse(out, number, place),
-        Row::Passes => answer_job(held, job, plates, cuts, counts, prices, placements, out),
+    match text_row(text, may_end(text.place)) {
+        Err(refused) => refuse(out, refused.number, refused.place),
+        Ok(()) => answer_job(held, job, plates, cuts, counts, prices, placements, out),
     }
 }

@@ -25,16 +25,9 @@ pub fn has_room(
 ) -> bool
     ensures { (result ≡ true → RoomToEnd (lent job.now plates.now cuts.now counts.now prices.now) placements.now out.now) × (result ≡ false → RoomToEnd (lent job.now plates.now cuts.now counts.now prices.now) placements.now out.now → ⊥) }
 {
-    if !room(job, plates, cuts, counts, prices) {
-        return false;
-    }
-    if placements.len() < PLACEMENTS_SIZE {
-        return false;
-    }
-    if out.len() < LONGEST_SAW {
-        return false;
-    }
-    true
+    room(job, plates, cuts, counts, prices)
+        && PLACEMENTS_SIZE <= placements.len()
+        && LONGEST_SAW <= out.len()
 }
 
 // What the saw program writes where its text ends: lines 7 and line 8, or one line 9 alone. The number of bytes is handed back, and the bytes behind
@@ -56,12 +49,18 @@ pub fn finish_listed(
     ensures unchanged { (RoomToEnd (lent job.now plates.now cuts.now counts.now prices.now) placements.old out.old → ⊥) → Unchanged out.old placements.old result out.new placements.new }
     ensures finished { RoomToEnd (lent job.now plates.now cuts.now counts.now prices.now) placements.old out.old → (bs : List ℕ) → After bs reader (lent job.now plates.now cuts.now counts.now prices.now) → Finished (fed saw_grammar (started saw_grammar) bs) out.old placements.old result out.new placements.new }
 {
-    if has_room(job, plates, cuts, counts, prices, placements, out) {
-        let text = reader.text;
-        let held = reader.held;
-        return end_text(
-            text, held, job, plates, cuts, counts, prices, placements, out,
-        );
+    if !has_room(job, plates, cuts, counts, prices, placements, out) {
+        return 0;
     }
-    0
+    end_text(
+        reader.text,
+        reader.held,
+        job,
+        plates,
+        cuts,
+        counts,
+        prices,
+        placements,
+        out,
+    )
 }

@@ -8,6 +8,9 @@ use mathlib.Core.List.{List, [], ◌∷◌}
 use mathlib.Core.Option.{Option, some}
 use lib.ListN.{length, get_or, set, length-append}
 use borrow.Author.Tests.{eq-eqb, ne_eqb}
+use Rattle.job.specs.declared.refused.Refusal.{Refusal}
+use Rattle.job.specs.Refused.{number_of}
+use Rattle.std.specs.Prelude.{Ok, Err}
 use Rattle.job.specs.declared.counters.ItemType.{ItemType}
 use Rattle.job.specs.declared.counters.PlateType.{PlateType}
 use Rattle.listing.specs.Holds.{Holds}
@@ -16,7 +19,7 @@ use Rattle.texts.specs.Shape.{prices_line, item_price_line, plate_price_line, nu
 use Rattle.texts.specs.JobLines.{Place, first, sizes, types, body, item_prices, plate_prices, done, board_sizes}
 use Rattle.texts.specs.SawText.{Counted, PriceLines, Saw, saw_admits, with_price, after_item_price, after_plate_price}
 use Rattle.texts_reading.specs.declared.text.Place.{Place as CodePlace}
-use Rattle.texts_reading.specs.declared.text.Place.TheVariants.{Body, ItemPrices, PlatePrices}
+use Rattle.texts_reading.specs.declared.text.Place.TheVariants.{ItemPrices}
 use Rattle.texts_reading.specs.Judged.{line_verdict}
 use Rattle.texts_reading.specs.Standing.{place_of}
 use Rattle.saw_text_body.specs.declared.price_lines.PriceLines.{PriceLines as CodePrices}
@@ -31,21 +34,21 @@ module _ (s : Saw) (lines r : ℕ) (ns job plates cuts counts prices : List ℕ)
   row : line_verdict r (suc lines) ≡ numbers_row (suc lines) (saw_admits s) ns
   row = rw (row-prices s (suc lines) ns e four) (judged (suc lines))
 
-  pub prices-refused : (r ≡ 0 → ⊥) → TakenAs s lines ns (record { refusal = r; place = Body; held = h }) (lent job plates cuts counts prices)
-  prices-refused n = taken_refused s lines r ns Body h (lent job plates cuts counts prices) row n kept
+  pub prices-refused : (x : Refusal) → r ≡ number_of x → TakenAs s lines ns h (Err x) (lent job plates cuts counts prices)
+  prices-refused x n = taken_refused s lines r ns h (lent job plates cuts counts prices) row x n kept
 
   pub prices-taken :
       r ≡ 0
       → PricesNumbers ns
       → 0 < length prices
-      → TakenAs s lines ns
-      (record { refusal = 0; place = ItemPrices (record { 0 = 1 }); held = record { model = h.model; plan = h.plan; prices = record { given = true; types = record { 0 = get_or ns 2 0 }; residuals = get_or ns 3 0 } } })
+      → TakenAs s lines ns h
+      (Ok (record { place = ItemPrices (record { 0 = 1 }); held = record { model = h.model; plan = h.plan; prices = record { given = true; types = record { 0 = get_or ns 2 0 }; residuals = get_or ns 3 0 } } }))
       (lent job plates cuts counts (set prices 0 (get_or ns 1 0)))
   prices-taken z numbers room =
       let after = after-prices s ns e four in
       let listed : ListedJob h s.job s.plan (lent job plates cuts counts prices) = rw e at kept.of-job in
       let no-prices : NoPrices s.prices h.prices prices = rw e at kept.of-prices in
-      taken-admitted s lines r ns (ItemPrices (record { 0 = 1 })) _ (lent job plates cuts counts (set prices 0 (get_or ns 1 0))) row z (rw after)
+      taken-admitted s lines r ns h (lent job plates cuts counts (set prices 0 (get_or ns 1 0))) row (ItemPrices (record { 0 = 1 })) _ z (rw after)
       (rw after
       (record {
         words = kept.words;
@@ -135,8 +138,8 @@ module _ (s : Saw) (lines r : ℕ) (i : ItemType) (ns job plates cuts counts pri
   item-row : line_verdict r (suc lines) ≡ numbers_row (suc lines) (saw_admits s) ns
   item-row = rw (admits-item-price s i.0 e) (judged (suc lines))
 
-  pub item-price-refused : (r ≡ 0 → ⊥) → TakenAs s lines ns (record { refusal = r; place = ItemPrices i; held = h }) (lent job plates cuts counts prices)
-  item-price-refused n = taken_refused s lines r ns (ItemPrices i) h (lent job plates cuts counts prices) item-row n kept
+  pub item-price-refused : (x : Refusal) → r ≡ number_of x → TakenAs s lines ns h (Err x) (lent job plates cuts counts prices)
+  item-price-refused x n = taken_refused s lines r ns h (lent job plates cuts counts prices) item-row x n kept
 
   item-price-next :
       (p : CodePlace)
@@ -145,12 +148,12 @@ module _ (s : Saw) (lines r : ℕ) (i : ItemType) (ns job plates cuts counts pri
       → place_of p ≡ after_item_price (board_sizes s.job) h.prices.types.0 h.prices.residuals i.0
       → PricesHeld (board_sizes s.job) (item_prices i.0) s.prices h.prices prices
       → ListedJob h s.job s.plan (lent job plates cuts counts prices)
-      → TakenAs s lines ns (record { refusal = 0; place = p; held = h }) (lent job plates cuts counts (set prices i.0 (get_or ns 2 0)))
+      → TakenAs s lines ns h (Ok (record { place = p; held = h })) (lent job plates cuts counts (set prices i.0 (get_or ns 2 0)))
   item-price-next p z room q (from, (few, to)) listed =
       let after = after-item-price s ns i.0 to.lines e to.some_is in
       let v : ℕ = get_or ns 2 0 in
       let next = item-next (some (with_price to.lines v)) h.prices (set prices i.0 v) (board_sizes s.job) to.lines.types to.lines.residuals to.types to.residuals i.0 few (λ k d. prices-more to k v room d) in
-      taken-admitted s lines r ns p h (lent job plates cuts counts (set prices i.0 v)) item-row z (q ∙ rw (after, to.types, to.residuals))
+      taken-admitted s lines r ns h (lent job plates cuts counts (set prices i.0 v)) item-row p h z (q ∙ rw (after, to.types, to.residuals))
       (rw after
       (priced-held (after_item_price (board_sizes s.job) to.lines.types to.lines.residuals i.0) s.job s.plan (with_price to.lines v) (suc lines) h (lent job plates cuts counts (set prices i.0 v)) next.1 kept.words
       (record { whole = listed.whole; model = listed.model; plan = listed.plan }) next.0))
@@ -163,7 +166,7 @@ module _ (s : Saw) (lines r : ℕ) (i : ItemType) (ns job plates cuts counts pri
       → r ≡ 0
       → i.0 < length prices
       → place_of p ≡ after_item_price t h.prices.types.0 h.prices.residuals i.0
-      → TakenAs s lines ns (record { refusal = 0; place = p; held = h }) (lent job plates cuts counts (set prices i.0 (get_or ns 2 0)))
+      → TakenAs s lines ns h (Ok (record { place = p; held = h })) (lent job plates cuts counts (set prices i.0 (get_or ns 2 0)))
   item-price-taken t same p z room q = item-price-next p z room (rw same q) (rw e at kept.of-prices) (rw e at kept.of-job)
 
 -- line 6 of plate type j
@@ -175,8 +178,8 @@ module _ (s : Saw) (lines r : ℕ) (j : PlateType) (ns job plates cuts counts pr
   plate-row : line_verdict r (suc lines) ≡ numbers_row (suc lines) (saw_admits s) ns
   plate-row = rw (admits-plate-price s j.0 e) (judged (suc lines))
 
-  pub plate-price-refused : (r ≡ 0 → ⊥) → TakenAs s lines ns (record { refusal = r; place = PlatePrices j; held = h }) (lent job plates cuts counts prices)
-  plate-price-refused n = taken_refused s lines r ns (PlatePrices j) h (lent job plates cuts counts prices) plate-row n kept
+  pub plate-price-refused : (x : Refusal) → r ≡ number_of x → TakenAs s lines ns h (Err x) (lent job plates cuts counts prices)
+  plate-price-refused x n = taken_refused s lines r ns h (lent job plates cuts counts prices) plate-row x n kept
 
   plate-price-next :
       (p : CodePlace)
@@ -185,12 +188,12 @@ module _ (s : Saw) (lines r : ℕ) (j : PlateType) (ns job plates cuts counts pr
       → place_of p ≡ after_plate_price (board_sizes s.job) h.prices.residuals j.0
       → PricesHeld (board_sizes s.job) (plate_prices j.0) s.prices h.prices prices
       → ListedJob h s.job s.plan (lent job plates cuts counts prices)
-      → TakenAs s lines ns (record { refusal = 0; place = p; held = h }) (lent job plates cuts counts (set prices (at (board_sizes s.job)) (get_or ns 2 0)))
+      → TakenAs s lines ns h (Ok (record { place = p; held = h })) (lent job plates cuts counts (set prices (at (board_sizes s.job)) (get_or ns 2 0)))
   plate-price-next p z room q (from, (few, to)) listed =
       let after = after-plate-price s ns j.0 to.lines e to.some_is in
       let v : ℕ = get_or ns 2 0 in
       let next = plate-next (some (with_price to.lines v)) h.prices (set prices (at (board_sizes s.job)) v) (board_sizes s.job) to.lines.types to.lines.residuals to.types to.residuals j.0 from few (λ k d. prices-more to k v room d) in
-      taken-admitted s lines r ns p h (lent job plates cuts counts (set prices (at (board_sizes s.job)) v)) plate-row z (q ∙ rw (after, to.residuals))
+      taken-admitted s lines r ns h (lent job plates cuts counts (set prices (at (board_sizes s.job)) v)) plate-row p h z (q ∙ rw (after, to.residuals))
       (rw after
       (priced-held (after_plate_price (board_sizes s.job) to.lines.residuals j.0) s.job s.plan (with_price to.lines v) (suc lines) h (lent job plates cuts counts (set prices (at (board_sizes s.job)) v)) next.1 kept.words
       (record { whole = listed.whole; model = listed.model; plan = listed.plan }) next.0))
@@ -202,6 +205,6 @@ module _ (s : Saw) (lines r : ℕ) (j : PlateType) (ns job plates cuts counts pr
       → r ≡ 0
       → at t < length prices
       → place_of p ≡ after_plate_price t h.prices.residuals j.0
-      → TakenAs s lines ns (record { refusal = 0; place = p; held = h }) (lent job plates cuts counts (set prices (at t) (get_or ns 2 0)))
+      → TakenAs s lines ns h (Ok (record { place = p; held = h })) (lent job plates cuts counts (set prices (at t) (get_or ns 2 0)))
   plate-price-taken t same p z room q =
       rw (← same) (plate-price-next p z (rw same room) (rw same q) (rw e at kept.of-prices) (rw e at kept.of-job))

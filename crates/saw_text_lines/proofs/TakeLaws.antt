@@ -11,11 +11,14 @@ use Rattle.job.specs.declared.counters.ItemType.{ItemType}
 use Rattle.job.specs.declared.counters.PlateType.{PlateType}
 use Rattle.job.specs.Sizes.{max_sizes, max_types, words_of_head, words_before, job_size, word_of_type, cuts_size, counts_size}
 use Rattle.job.specs.Job.{job_of}
+use Rattle.job.specs.declared.refused.Refusal.{Refusal}
+use Rattle.job.specs.Refused.{number_of}
+use Rattle.std.specs.Prelude.{Ok, Err}
 use Rattle.listing.specs.Listing.{listing_of}
 use Rattle.listing.specs.Holds.{Holds}
 use Rattle.listing.proofs.CodeHolds.{held_word}
-use Rattle.listing_call.specs.declared.call.Listed.{Listed}
-use Rattle.listing_call.specs.declared.call.Listed.TheVariants.{Done, Refused}
+use Rattle.saw_text_body.specs.declared.model.Model.{Model}
+use Rattle.saw_text_body.specs.declared.model.Model.TheVariants.{Listed, Refused}
 use Rattle.listing.proofs.CodeCuts.{length-cuts_from}
 use Rattle.texts.specs.Shape.{job_line, size_line, item_line, plan_line, numbers_row}
 use Rattle.texts.specs.JobLines.{first, sizes, types, body, board_sizes, types_of, body_line}
@@ -26,7 +29,7 @@ use Rattle.texts_reading.specs.declared.text.Place.TheVariants.{Sizes, Types, Bo
 use Rattle.texts_reading.specs.Judged.{line_verdict}
 use Rattle.texts_reading.specs.JobRead.{FirstRead, SizeRead, ItemRead}
 use Rattle.texts_reading.specs.Standing.{place_of}
-use Rattle.texts_reading.proofs.CodeJobLines.{passed, of-shape}
+use Rattle.texts_reading.proofs.CodeJobLines.{of-shape, passed, refusal-number}
 use Rattle.texts_reading.proofs.JobKept.{held-take}
 use Rattle.saw_text_body.specs.declared.plan_lines.PlanLines.{PlanLines}
 use Rattle.saw_text_body.specs.declared.price_lines.PriceLines.{PriceLines as CodePrices}
@@ -39,13 +42,21 @@ use Rattle.saw_text_lines.specs.SawKept.{Lent, lent, FewSizes, WholeJob, SizesTo
 
 -- ---- a line that is refused, and one that is admitted
 
-module _ (s : Saw) (lines r : ℕ) (ns : List ℕ) (p : Place) (h : SawHeld) (b : Lent) (row : line_verdict r (suc lines) ≡ numbers_row (suc lines) (saw_admits s) ns) where
-  pub taken_refused : (r ≡ 0 → ⊥) → HeldAs s lines h b → TakenAs s lines ns (record { refusal = r; place = p; held = h }) b
-  taken_refused n kept = record { row = row; refused = λ _. kept; next = λ e. absurd (n e); admitted = λ e. absurd (n e) }
+module _ (s : Saw) (lines r : ℕ) (ns : List ℕ) (h : SawHeld) (b : Lent) (row : line_verdict r (suc lines) ≡ numbers_row (suc lines) (saw_admits s) ns) where
+  pub taken_refused : (x : Refusal) → r ≡ number_of x → HeldAs s lines h b → TakenAs s lines ns h (Err x) b
+  taken_refused x e kept = record { row = rw e at row; to = kept }
 
-  pub taken-admitted : r ≡ 0 → place_of p ≡ (saw_after s ns).place → HeldAs (saw_after s ns) (suc lines) h b → TakenAs s lines ns (record { refusal = 0; place = p; held = h }) b
-  taken-admitted e next kept =
-      record { row = sym (passed (suc lines) e row); refused = λ n. absurd (n refl); next = λ _. next; admitted = λ _. kept }
+  pub taken-admitted :
+      (p : Place) (h' : SawHeld)
+      → r ≡ 0
+      → place_of p ≡ (saw_after s ns).place
+      → HeldAs (saw_after s ns) (suc lines) h' b
+      → TakenAs s lines ns h (Ok (record { place = p; held = h' })) b
+  taken-admitted p h' e next kept = record { row = rw e at row; to = (next, kept) }
+
+-- a refusal has a number
+some-number : {r : ℕ} (x : Refusal) → r ≡ number_of x → r ≡ 0 → ⊥
+some-number x e z = refusal-number x (sym e ∙ z)
 
 -- ---- what does not change
 
@@ -72,23 +83,25 @@ module _ (s : Saw) (lines r : ℕ) (ns job job' plates cuts counts prices : List
         size = rw length-drop (omega (arith, shape-groups job_line ns o));
       }
 
-  pub first_taken : TakenAs s lines ns (record { refusal = r; place = Sizes (record { 0 = 0 }); held = h }) (lent job' plates cuts counts prices)
-  first_taken =
+  first-row : line_verdict r (suc lines) ≡ numbers_row (suc lines) (saw_admits s) ns
+  first-row = rw (admits-first s e) (read.row (suc lines))
+
+  pub first_refused : (x : Refusal) → r ≡ number_of x → TakenAs s lines ns h (Err x) (lent job' plates cuts counts prices)
+  first_refused x n =
+      taken_refused s lines r ns h (lent job' plates cuts counts prices) first-row x n (rw (read.unchanged (some-number x n)) kept)
+
+  pub first_taken : r ≡ 0 → TakenAs s lines ns h (Ok (record { place = Sizes (record { 0 = 0 }); held = h })) (lent job' plates cuts counts prices)
+  first_taken z =
       let of-job = rw e at kept.of-job in
       let empty : Holds job [] = rw of-job.0 at kept.words in
-      record {
-        row = rw (admits-first s e) (read.row (suc lines));
-        refused = λ n. rw (read.unchanged n) kept;
-        next = λ z. rw (after_first s ns e);
-        admitted = λ z.
-            rw (after_first s ns e)
-            (record {
-              words = read.read z empty;
-              of-job = (first_to z (read.read z empty), unlisted-again h s.plan job job' plates cuts counts prices of-job.1);
-              of-prices = no-prices-again (rw e at kept.of-prices);
-              of-lines = omega (arith, rw e at kept.of-lines);
-            });
-      }
+      taken-admitted s lines r ns h (lent job' plates cuts counts prices) first-row (Sizes (record { 0 = 0 })) h z (rw (after_first s ns e))
+      (rw (after_first s ns e)
+      (record {
+        words = read.read z empty;
+        of-job = (first_to z (read.read z empty), unlisted-again h s.plan job job' plates cuts counts prices of-job.1);
+        of-prices = no-prices-again (rw e at kept.of-prices);
+        of-lines = omega (arith, rw e at kept.of-lines);
+      }))
 
 -- ---- line 10
 
@@ -102,8 +115,9 @@ module _ (s : Saw) (lines r : ℕ) (j : PlateType) (ns job job' plates cuts coun
   size-row : line_verdict r (suc lines) ≡ numbers_row (suc lines) (saw_admits s) ns
   size-row = rw (admits-size s j.0 e) (read.row (suc lines))
 
-  pub size-refused : (r ≡ 0 → ⊥) → TakenAs s lines ns (record { refusal = r; place = Sizes j; held = h }) (lent job' plates cuts counts prices)
-  size-refused n = taken_refused s lines r ns (Sizes j) h (lent job' plates cuts counts prices) size-row n (rw (read.unchanged n) kept)
+  pub size-refused : (x : Refusal) → r ≡ number_of x → TakenAs s lines ns h (Err x) (lent job' plates cuts counts prices)
+  size-refused x n =
+      taken_refused s lines r ns h (lent job' plates cuts counts prices) size-row x n (rw (read.unchanged (some-number x n)) kept)
 
   module _ (z : r ≡ 0) where
     size-words : Holds job' (s.job ++ drop 2 ns)
@@ -137,10 +151,10 @@ module _ (s : Saw) (lines r : ℕ) (j : PlateType) (ns job job' plates cuts coun
         (t : ℕ)
         → t ≡ board_sizes job'
         → (t ≡ j.0 + 1 → ⊥)
-        → TakenAs s lines ns (record { refusal = 0; place = Sizes (record { 0 = j.0 + 1 }); held = h }) (lent job' plates cuts counts prices)
+        → TakenAs s lines ns h (Ok (record { place = Sizes (record { 0 = j.0 + 1 }); held = h })) (lent job' plates cuts counts prices)
     size-some t read-t other =
         let more : suc j.0 ≡ board_sizes s.job → ⊥ = λ q. other (size-read t read-t ∙ sym q ∙ sym (add-one j.0)) in
-        taken-admitted s lines r ns (Sizes (record { 0 = j.0 + 1 })) h (lent job' plates cuts counts prices) size-row z (rw (after-some-sizes s ns j.0 e more, add-one))
+        taken-admitted s lines r ns h (lent job' plates cuts counts prices) size-row (Sizes (record { 0 = j.0 + 1 })) h z (rw (after-some-sizes s ns j.0 e more, add-one))
         (rw (after-some-sizes s ns j.0 e more)
         (record {
           words = size-words;
@@ -156,10 +170,10 @@ module _ (s : Saw) (lines r : ℕ) (j : PlateType) (ns job job' plates cuts coun
         (t : ℕ)
         → t ≡ board_sizes job'
         → t ≡ j.0 + 1
-        → TakenAs s lines ns (record { refusal = 0; place = Types (record { 0 = 1 }); held = h }) (lent job' plates cuts counts prices)
+        → TakenAs s lines ns h (Ok (record { place = Types (record { 0 = 1 }); held = h })) (lent job' plates cuts counts prices)
     size-all t read-t same =
         let all : suc j.0 ≡ board_sizes s.job = sym (add-one j.0) ∙ sym same ∙ size-read t read-t in
-        taken-admitted s lines r ns (Types (record { 0 = 1 })) h (lent job' plates cuts counts prices) size-row z (rw (after-all-sizes s ns j.0 e all))
+        taken-admitted s lines r ns h (lent job' plates cuts counts prices) size-row (Types (record { 0 = 1 })) h z (rw (after-all-sizes s ns j.0 e all))
         (rw (after-all-sizes s ns j.0 e all)
         (record {
           words = size-words;
@@ -175,14 +189,14 @@ module _ (s : Saw) (lines r : ℕ) (j : PlateType) (ns job job' plates cuts coun
 
 -- no line 3 yet, by the model
 plan-none :
-    (ws plates cuts counts : List ℕ) (a : Listed) (p : PlanLines)
+    (ws plates cuts counts : List ℕ) (a : Model) (p : PlanLines)
     → cuts_size ≤ length cuts
     → counts_size ≤ length counts
     → ModelKept ws a plates cuts
     → NoPlan p
     → Holds counts []
     → PlanHeld ws a [] p counts
-plan-none ws plates cuts counts (Done m k) p c n kept without held =
+plan-none ws plates cuts counts (Listed m k) p c n kept without held =
     let ready = (modelled ws plates cuts m.0 k.0 c kept.sizes-listed kept.says kept.cuts_are).is-ready in
     let size : length (listing_of (job_of ws)).cuts ≡ k.0 = ap length ready.listed ∙ length-cuts_from k.0 0 cuts in
     no_lines (listing_of (job_of ws)) (body_line ws) p (omega (arith, size, ready.lent.few-cuts)) without.unnamed without.misshown without.fallen without.last held
@@ -198,8 +212,9 @@ module _ (s : Saw) (lines r : ℕ) (i : ItemType) (ns job job' plates cuts count
   row : line_verdict r (suc lines) ≡ numbers_row (suc lines) (saw_admits s) ns
   row = rw (admits-item s i.0 e) (read.row (suc lines))
 
-  pub item_refused : (r ≡ 0 → ⊥) → TakenAs s lines ns (record { refusal = r; place = Types i; held = h }) (lent job' plates cuts counts prices)
-  item_refused n = taken_refused s lines r ns (Types i) h (lent job' plates cuts counts prices) row n (rw (read.unchanged n) kept)
+  pub item_refused : (x : Refusal) → r ≡ number_of x → TakenAs s lines ns h (Err x) (lent job' plates cuts counts prices)
+  item_refused x n =
+      taken_refused s lines r ns h (lent job' plates cuts counts prices) row x n (rw (read.unchanged (some-number x n)) kept)
 
   module _ (z : r ≡ 0) where
     words : Holds job' (s.job ++ drop 2 ns)
@@ -236,10 +251,10 @@ module _ (s : Saw) (lines r : ℕ) (i : ItemType) (ns job job' plates cuts count
         (n : ℕ)
         → n ≡ types_of job
         → (i.0 ≡ n → ⊥)
-        → TakenAs s lines ns (record { refusal = 0; place = Types (record { 0 = i.0 + 1 }); held = h }) (lent job' plates cuts counts prices)
+        → TakenAs s lines ns h (Ok (record { place = Types (record { 0 = i.0 + 1 }); held = h })) (lent job' plates cuts counts prices)
     item-some n read-n other =
         let more : i.0 ≡ types_of s.job → ⊥ = λ q. other (q ∙ sym (read-n ∙ types-read)) in
-        taken-admitted s lines r ns (Types (record { 0 = i.0 + 1 })) h (lent job' plates cuts counts prices) row z (rw (after-some s ns i.0 e more, add-one))
+        taken-admitted s lines r ns h (lent job' plates cuts counts prices) row (Types (record { 0 = i.0 + 1 })) h z (rw (after-some s ns i.0 e more, add-one))
         (rw (after-some s ns i.0 e more)
         (record {
           words = words;
@@ -257,20 +272,20 @@ module _ (s : Saw) (lines r : ℕ) (i : ItemType) (ns job job' plates cuts count
         }))
 
     pub item-all :
-        (a : Listed) (plates' cuts' : List ℕ) (t n : ℕ)
+        (a : Model) (plates' cuts' : List ℕ) (t n : ℕ)
         → t ≡ board_sizes job
         → n ≡ types_of job
         → i.0 ≡ n
         → cuts_size ≤ length cuts'
         → counts_size ≤ length counts
         → ((ws : List ℕ) → length ws ≡ job_size t n → Holds job' ws → ModelKept ws a plates' cuts')
-        → TakenAs s lines ns (record { refusal = 0; place = Body; held = record { model = a; plan = h.plan; prices = h.prices } }) (lent job' plates' cuts' counts prices)
+        → TakenAs s lines ns h (Ok (record { place = Body; held = record { model = a; plan = h.plan; prices = h.prices } })) (lent job' plates' cuts' counts prices)
     item-all a plates' cuts' t n read-t read-n same c k model =
         let all : i.0 ≡ types_of s.job = same ∙ read-n ∙ types-read in
         let ws : List ℕ = s.job ++ drop 2 ns in
         let kept-model : ModelKept ws a plates' cuts' = model ws (omega (arith, sized, same, read-t, sizes-read)) words in
         let h' : SawHeld = record { model = a; plan = h.plan; prices = h.prices } in
-        taken-admitted s lines r ns Body h' (lent job' plates' cuts' counts prices) row z (rw (after-all s ns i.0 e all))
+        taken-admitted s lines r ns h (lent job' plates' cuts' counts prices) row Body h' z (rw (after-all s ns i.0 e all))
         (rw (after-all s ns i.0 e all)
         (record {
           words = words;
@@ -312,21 +327,21 @@ module _ (s : Saw) (lines r : ℕ) (ws ns job plates cuts counts prices : List �
   plan-row : line_verdict r (suc lines) ≡ numbers_row (suc lines) (saw_admits s) ns
   plan-row = rw (row-plan s (suc lines) ns e not4, ← words_are) (judged (suc lines))
 
-  pub plan-refused : (r ≡ 0 → ⊥) → TakenAs s lines ns (record { refusal = r; place = Body; held = h }) (lent job plates cuts counts prices)
-  plan-refused m = taken_refused s lines r ns Body h (lent job plates cuts counts prices) plan-row m kept
+  pub plan-refused : (x : Refusal) → r ≡ number_of x → TakenAs s lines ns h (Err x) (lent job plates cuts counts prices)
+  plan-refused x n = taken_refused s lines r ns h (lent job plates cuts counts prices) plan-row x n kept
 
   pub plan-taken :
       (p : PlanLines) (counts' : List ℕ)
       → r ≡ 0
       → get_or ns 0 0 ≡ 3
       → ((ws : List ℕ) (rs : List Counted) → ModelKept ws h.model plates cuts → body_line ws + length rs ≡ suc lines → PlanHeld ws h.model rs h.plan counts → PlanHeld ws h.model (rs ++ counted_in ns ∷ []) p counts')
-      → TakenAs s lines ns (record { refusal = 0; place = Body; held = record { model = h.model; plan = p; prices = h.prices } }) (lent job plates cuts counts' prices)
+      → TakenAs s lines ns h (Ok (record { place = Body; held = record { model = h.model; plan = p; prices = h.prices } })) (lent job plates cuts counts' prices)
   plan-taken p counts' z kind more =
       let h' : SawHeld = record { model = h.model; plan = p; prices = h.prices } in
       let listed : ListedJob h s.job s.plan (lent job plates cuts counts prices) = rw e at kept.of-job in
       let here : body_line s.job + length s.plan ≡ suc lines = rw e at kept.of-lines in
       let after = after-plan s ns e kind in
-      taken-admitted s lines r ns Body h' (lent job plates cuts counts' prices) plan-row z (rw after)
+      taken-admitted s lines r ns h (lent job plates cuts counts' prices) plan-row Body h' z (rw after)
       (rw after
       (record {
         words = kept.words;

@@ -1,13 +1,15 @@
 -- Document 01, "Texts": what is kept of a saw text so far, in a state and in lent buffers; it fixes every word of them.
-use Rattle.std.specs.Prelude.{ℕ, suc, ◌+◌, ◌-◌, ◌≤◌, ◌<◌, ◌≡◌, Bool, true, false, ◌&&◌, List, [], leb, ltb, length}
+use Rattle.std.specs.Prelude.{Result, Ok, Err, ℕ, suc, ◌+◌, ◌-◌, ◌≤◌, ◌<◌, ◌≡◌, Bool, true, false, ◌&&◌, List, [], leb, ltb, length}
 use Rattle.std.proofs.Math.Option.{Option, none, some}
 use Rattle.job.specs.Sizes.{max_sizes, max_types, max_residuals, words_before, job_size, word_of_type, longest_job, plates_size, cuts_size, counts_size, prices_size}
 use Rattle.job.specs.Verdict.{within}
+use Rattle.job.specs.declared.refused.Refusal.{Refusal}
+use Rattle.job.specs.Refused.{number_of}
 use Rattle.job.specs.Job.{job_of}
 use Rattle.listing.specs.Listing.{listing_of}
 use Rattle.listing.specs.Holds.{Holds}
-use Rattle.listing_call.specs.declared.call.Listed.{Listed}
-use Rattle.listing_call.specs.declared.call.Listed.TheVariants.{Done, Refused}
+use Rattle.saw_text_body.specs.declared.model.Model.{Model}
+use Rattle.saw_text_body.specs.declared.model.Model.TheVariants.{Listed, Refused}
 use Rattle.texts.specs.JobLines.{Place, first, sizes, types, body, item_prices, plate_prices, done, board_sizes, types_of, body_line}
 use Rattle.texts.specs.Shape.{numbers_row}
 use Rattle.texts.specs.SawText.{Counted, PriceLines, Saw, saw_admits, saw_after}
@@ -83,8 +85,8 @@ pub record Unlisted (h : SawHeld) (rs : List Counted) (b : Lent) : Type 0 where
   pub no_lines : rs ≡ []
 
 -- from the body on: the lines 3, where the job is listed; where it is refused they are passed over
-abbrev pub PlanHeld : List ℕ → Listed → List Counted → PlanLines → List ℕ → Type 0
-PlanHeld ws (Done m k) rs p counts = PlanKept (listing_of (job_of ws)) (body_line ws) rs p counts
+abbrev pub PlanHeld : List ℕ → Model → List Counted → PlanLines → List ℕ → Type 0
+PlanHeld ws (Listed m k) rs p counts = PlanKept (listing_of (job_of ws)) (body_line ws) rs p counts
 PlanHeld ws (Refused number place) rs p counts = NoPlan p × Holds counts []
 
 pub record ListedJob (h : SawHeld) (ws : List ℕ) (rs : List Counted) (b : Lent) : Type 0 where
@@ -163,9 +165,17 @@ place_sound (ItemPrices i) t n = leb i.0 max_types
 place_sound (PlatePrices j) t n = plate_sound t n j.0
 place_sound AllDone t n = true
 
--- what the next line, with the numbers ns, makes of it: its refusal, which changes nothing, or 0, what comes next, and what is then kept
-pub record TakenAs (s : Saw) (lines : ℕ) (ns : List ℕ) (t : Taken) (b : Lent) : Type 0 where
-  pub row : line_verdict t.refusal (suc lines) ≡ numbers_row (suc lines) (saw_admits s) ns
-  pub refused : (t.refusal ≡ 0 → ⊥) → HeldAs s lines t.held b
-  pub next : t.refusal ≡ 0 → place_of t.place ≡ (saw_after s ns).place
-  pub admitted : t.refusal ≡ 0 → HeldAs (saw_after s ns) (suc lines) t.held b
+-- the number of the refusal of a line, 0 where there is none
+abbrev pub taken_said : Result Taken Refusal → ℕ
+taken_said (Ok t) = 0
+taken_said (Err r) = number_of r
+
+-- what is then kept: of a line that is admitted what it makes of the text, with what comes next; after a refusal all is as it was
+abbrev pub TakenTo : Saw → ℕ → List ℕ → SawHeld → Lent → Result Taken Refusal → Type 0
+TakenTo s lines ns h b (Ok t) = (place_of t.place ≡ (saw_after s ns).place) × HeldAs (saw_after s ns) (suc lines) t.held b
+TakenTo s lines ns h b (Err r) = HeldAs s lines h b
+
+-- what the next line, with the numbers ns, makes of a text of which h is kept
+pub record TakenAs (s : Saw) (lines : ℕ) (ns : List ℕ) (h : SawHeld) (t : Result Taken Refusal) (b : Lent) : Type 0 where
+  pub row : line_verdict (taken_said t) (suc lines) ≡ numbers_row (suc lines) (saw_admits s) ns
+  pub to : TakenTo s lines ns h b t

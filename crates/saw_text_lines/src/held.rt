@@ -9,9 +9,9 @@ ghost use Rattle.saw_text_lines.specs.SawKept.{lent, Room, PlanHeld, HeldAs, Tak
 
 use job::counters::{BoardSizes, ItemPosition, ItemType, PlateType};
 use job::head::head_of;
+use job::refused::Refusal;
 use job::sizes::MAX_CUTS;
-use listing_call::call::Listed;
-use saw_text_body::model::list_job;
+use saw_text_body::model::{Model, list_job};
 use saw_text_body::plan_lines::{PlanLine, PlanLines, Shown};
 use saw_text_body::price_lines::{PriceLines, after_item_price, after_plate_price};
 use texts_reading::job_lines::{read_first, read_item, read_size};
@@ -19,60 +19,48 @@ use texts_reading::kinds::{item_price_line, plan_line, plate_price_line, prices_
 use texts_reading::text::Place;
 
 // What the listing call says of the job, 1 before its lines are complete; the lines 3; the lines 4, 5 and 6.
-#[derive(Clone, Copy)]
+#[derive(Clone, Copy, Debug, PartialEq, Eq)]
 pub struct SawHeld {
-    pub model: Listed,
+    pub model: Model,
     pub plan: PlanLines,
     pub prices: PriceLines,
 }
 
-// What a line makes of a text: its refusal, or 0 and what comes next; and what is kept.
-#[derive(Clone, Copy)]
+// What an admitted line makes of a text: what comes next, and what is then kept.
+#[derive(Clone, Copy, Debug, PartialEq, Eq)]
 pub struct Taken {
-    pub refusal: u16,
     pub place: Place,
     pub held: SawHeld,
 }
 
 // Line 1: its numbers are the job's first words.
-pub fn take_first(held: SawHeld, numbers: &[u32], job: &mut [u16]) -> Taken
+pub fn take_first(held: SawHeld, numbers: &[u32], job: &mut [u16]) -> Result<Taken, Refusal>
     requires { words_of_head ≤ length job.old }
-    ensures { (s : Saw) (lines : ℕ) (plates cuts counts prices : List ℕ) → s.place ≡ first → HeldAs s lines held (lent job.old plates cuts counts prices) → TakenAs s lines numbers.now result (lent job.new plates cuts counts prices) }
+    ensures { (s : Saw) (lines : ℕ) (plates cuts counts prices : List ℕ) → s.place ≡ first → HeldAs s lines held (lent job.old plates cuts counts prices) → TakenAs s lines numbers.now held result (lent job.new plates cuts counts prices) }
 {
-    let refusal = read_first(numbers, job);
-    Taken {
-        refusal,
-        place: Place::Sizes(PlateType(0)),
-        held,
-    }
+    read_first(numbers, job)?;
+    let place = Place::Sizes(PlateType(0));
+    Ok(Taken { place, held })
 }
 
 // Line 10 of size j: its numbers are the next of the job's words.
-pub fn take_size(held: SawHeld, j: PlateType, numbers: &[u32], job: &mut [u16]) -> Taken
+pub fn take_size(
+    held: SawHeld,
+    j: PlateType,
+    numbers: &[u32],
+    job: &mut [u16],
+) -> Result<Taken, Refusal>
     requires { (j.0 < max_sizes) × (words_before (j.0 + 1) ≤ length job.old) }
-    ensures { (s : Saw) (lines : ℕ) (plates cuts counts prices : List ℕ) → s.place ≡ sizes j.0 → HeldAs s lines held (lent job.old plates cuts counts prices) → TakenAs s lines numbers.now result (lent job.new plates cuts counts prices) }
+    ensures { (s : Saw) (lines : ℕ) (plates cuts counts prices : List ℕ) → s.place ≡ sizes j.0 → HeldAs s lines held (lent job.old plates cuts counts prices) → TakenAs s lines numbers.now held result (lent job.new plates cuts counts prices) }
 {
-    let refusal = read_size(numbers, j, job);
-    if refusal != 0 {
-        return Taken {
-            refusal,
-            place: Place::Sizes(j),
-            held,
-        };
-    }
+    read_size(numbers, j, job)?;
     let head = head_of(job);
     if head.sizes.0 != j.0 + 1 {
-        return Taken {
-            refusal: 0,
-            place: Place::Sizes(PlateType(j.0 + 1)),
-            held,
-        };
+        let place = Place::Sizes(PlateType(j.0 + 1));
+        return Ok(Taken { place, held });
     }
-    Taken {
-        refusal: 0,
-        place: Place::Types(ItemType(1)),
-        held,
-    }
+    let place = Place::Types(ItemType(1));
+    Ok(Taken { place, held })
 }
 
 // Line 2 of type i: its numbers are the next of the job's words; after the last type the job is listed.
@@ -83,44 +71,26 @@ pub fn take_item(
     job: &mut [u16],
     plates: &mut [u16],
     cuts: &mut [u16],
-) -> Taken
+) -> Result<Taken, Refusal>
     requires { (1 ≤ i.0) × ((i.0 ≤ max_types) × (job_size (board_sizes job.old) i.0 ≤ length job.old)) }
-    ensures { (s : Saw) (lines : ℕ) (counts prices : List ℕ) → s.place ≡ types i.0 → Room (lent job.old plates.old cuts.old counts prices) → HeldAs s lines held (lent job.old plates.old cuts.old counts prices) → TakenAs s lines numbers.now result (lent job.new plates.new cuts.new counts prices) }
+    ensures { (s : Saw) (lines : ℕ) (counts prices : List ℕ) → s.place ≡ types i.0 → Room (lent job.old plates.old cuts.old counts prices) → HeldAs s lines held (lent job.old plates.old cuts.old counts prices) → TakenAs s lines numbers.now held result (lent job.new plates.new cuts.new counts prices) }
 {
     let head = head_of(job);
-    let n = head.types;
-    let refusal = read_item(numbers, i, job);
-    if refusal != 0 {
-        return Taken {
-            refusal,
-            place: Place::Types(i),
-            held,
-        };
+    read_item(numbers, i, job)?;
+    if i.0 != head.types.0 {
+        let place = Place::Types(ItemType(i.0 + 1));
+        return Ok(Taken { place, held });
     }
-    if i.0 != n.0 {
-        return Taken {
-            refusal: 0,
-            place: Place::Types(ItemType(i.0 + 1)),
-            held,
-        };
-    }
-    let model = list_job(job, head.sizes, n, plates, cuts);
-    let plan = held.plan;
-    let prices = held.prices;
-    Taken {
-        refusal: 0,
+    let model = list_job(job, head.sizes, head.types, plates, cuts);
+    Ok(Taken {
         place: Place::Body,
-        held: SawHeld {
-            model,
-            plan,
-            prices,
-        },
-    }
+        held: SawHeld { model, ..held },
+    })
 }
 
 // A line 3, by the model: passed over where the job is refused.
 fn count_line(
-    model: Listed,
+    model: Model,
     plan: PlanLines,
     line: u32,
     here: PlanLine,
@@ -133,8 +103,8 @@ fn count_line(
     ensures { (ws : List ℕ) (rs : List Counted) (r : Counted) → ModelKept ws model plates.now cuts.now → body_line ws + length rs ≡ line → LineOf here r → PlanHeld ws model rs plan counts.old → PlanHeld ws model (rs ++ r ∷ []) result counts.new }
 {
     match model {
-        Listed::Refused(_, _) => plan,
-        Listed::Done(_, k) => {
+        Model::Refused(_, _) => plan,
+        Model::Listed(_, k) => {
             if MAX_CUTS < k.0 {
                 return plan;
             }
@@ -169,65 +139,39 @@ pub fn take_plan(
     plates: &[u16],
     cuts: &[u16],
     counts: &mut [u16],
-) -> Taken
+) -> Result<Taken, Refusal>
     requires line_nonzero { (0 < line) × ((plates_size ≤ length plates.now) × ((cuts_size ≤ length cuts.now) × (counts_size ≤ length counts.old))) }
     requires words_of_head_in_bounds { (words_of_head ≤ length job.now) × (types_of job.now ≤ max_types) }
-    ensures { (s : Saw) (lines : ℕ) (buffer prices : List ℕ) → s.place ≡ body → (get_or numbers.now 0 0 ≡ 4 → ⊥) → suc lines ≡ line → job.now ≡ s.job → HeldAs s lines held (lent buffer plates.now cuts.now counts.old prices) → TakenAs s lines numbers.now result (lent buffer plates.now cuts.now counts.new prices) }
+    ensures { (s : Saw) (lines : ℕ) (buffer prices : List ℕ) → s.place ≡ body → (get_or numbers.now 0 0 ≡ 4 → ⊥) → suc lines ≡ line → job.now ≡ s.job → HeldAs s lines held (lent buffer plates.now cuts.now counts.old prices) → TakenAs s lines numbers.now held result (lent buffer plates.now cuts.now counts.new prices) }
 {
-    let refusal = plan_line(numbers, job);
-    if refusal != 0 {
-        return Taken {
-            refusal,
-            place: Place::Body,
-            held,
-        };
-    }
-    let model = held.model;
-    let before = held.plan;
-    let prices = held.prices;
+    plan_line(numbers, job)?;
     let here = plan_numbers(numbers);
-    let plan = count_line(model, before, line, here, plates, cuts, counts);
-    Taken {
-        refusal: 0,
+    let plan = count_line(held.model, held.plan, line, here, plates, cuts, counts);
+    Ok(Taken {
         place: Place::Body,
-        held: SawHeld {
-            model,
-            plan,
-            prices,
-        },
-    }
+        held: SawHeld { plan, ..held },
+    })
 }
 
 // Line 4: D is the first price word.
-pub fn take_prices(held: SawHeld, numbers: &[u32], prices: &mut [u16]) -> Taken
+pub fn take_prices(held: SawHeld, numbers: &[u32], prices: &mut [u16]) -> Result<Taken, Refusal>
     requires { prices_size ≤ length prices.old }
-    ensures { (s : Saw) (lines : ℕ) (job plates cuts counts : List ℕ) → s.place ≡ body → get_or numbers.now 0 0 ≡ 4 → HeldAs s lines held (lent job plates cuts counts prices.old) → TakenAs s lines numbers.now result (lent job plates cuts counts prices.new) }
+    ensures { (s : Saw) (lines : ℕ) (job plates cuts counts : List ℕ) → s.place ≡ body → get_or numbers.now 0 0 ≡ 4 → HeldAs s lines held (lent job plates cuts counts prices.old) → TakenAs s lines numbers.now held result (lent job plates cuts counts prices.new) }
 {
-    let refusal = prices_line(numbers);
-    if refusal != 0 {
-        return Taken {
-            refusal,
-            place: Place::Body,
-            held,
-        };
-    }
+    prices_line(numbers)?;
     prices[0] = numbers[1] as u16;
-    let model = held.model;
-    let plan = held.plan;
     let begun = PriceLines {
         given: true,
         types: ItemType(numbers[2] as u16),
         residuals: numbers[3] as u16,
     };
-    Taken {
-        refusal: 0,
+    Ok(Taken {
         place: Place::ItemPrices(ItemType(1)),
         held: SawHeld {
-            model,
-            plan,
             prices: begun,
+            ..held
         },
-    }
+    })
 }
 
 // Line 5 of type i, of a job of t sizes: its price is the next price word.
@@ -237,26 +181,15 @@ pub fn take_item_price(
     i: ItemType,
     numbers: &[u32],
     prices: &mut [u16],
-) -> Taken
+) -> Result<Taken, Refusal>
     requires { (i.0 ≤ max_types) × (i.0 < length prices.old) }
-    ensures { (s : Saw) (lines : ℕ) (job plates cuts counts : List ℕ) → s.place ≡ item_prices i.0 → board_sizes s.job ≡ t.0 → HeldAs s lines held (lent job plates cuts counts prices.old) → TakenAs s lines numbers.now result (lent job plates cuts counts prices.new) }
+    ensures { (s : Saw) (lines : ℕ) (job plates cuts counts : List ℕ) → s.place ≡ item_prices i.0 → board_sizes s.job ≡ t.0 → HeldAs s lines held (lent job plates cuts counts prices.old) → TakenAs s lines numbers.now held result (lent job plates cuts counts prices.new) }
 {
-    let refusal = item_price_line(numbers, i);
-    if refusal != 0 {
-        return Taken {
-            refusal,
-            place: Place::ItemPrices(i),
-            held,
-        };
-    }
-    let at = i.0 as usize;
-    prices[at] = numbers[2] as u16;
+    item_price_line(numbers, i)?;
+    prices[i.0 as usize] = numbers[2] as u16;
     let lines = held.prices;
-    Taken {
-        refusal: 0,
-        place: after_item_price(t, lines.types, lines.residuals, i),
-        held,
-    }
+    let place = after_item_price(t, lines.types, lines.residuals, i);
+    Ok(Taken { place, held })
 }
 
 // Line 6 of plate type j, of a job of t sizes: its price is the next price word.
@@ -266,24 +199,14 @@ pub fn take_plate_price(
     j: PlateType,
     numbers: &[u32],
     prices: &mut [u16],
-) -> Taken
+) -> Result<Taken, Refusal>
     requires { (t.0 ≤ j.0) × ((j.0 < max_sizes + max_residuals) × (held.prices.types.0 + 1 + (j.0 - t.0) < length prices.old)) }
-    ensures { (s : Saw) (lines : ℕ) (job plates cuts counts : List ℕ) → s.place ≡ plate_prices j.0 → board_sizes s.job ≡ t.0 → HeldAs s lines held (lent job plates cuts counts prices.old) → TakenAs s lines numbers.now result (lent job plates cuts counts prices.new) }
+    ensures { (s : Saw) (lines : ℕ) (job plates cuts counts : List ℕ) → s.place ≡ plate_prices j.0 → board_sizes s.job ≡ t.0 → HeldAs s lines held (lent job plates cuts counts prices.old) → TakenAs s lines numbers.now held result (lent job plates cuts counts prices.new) }
 {
-    let refusal = plate_price_line(numbers, j);
-    if refusal != 0 {
-        return Taken {
-            refusal,
-            place: Place::PlatePrices(j),
-            held,
-        };
-    }
+    plate_price_line(numbers, j)?;
     let lines = held.prices;
     let at = lines.types.0 as usize + 1 + (j.0 - t.0) as usize;
     prices[at] = numbers[2] as u16;
-    Taken {
-        refusal: 0,
-        place: after_plate_price(t, lines.residuals, j),
-        held,
-    }
+    let place = after_plate_price(t, lines.residuals, j);
+    Ok(Taken { place, held })
 }

@@ -7,9 +7,9 @@ use lib.ListN.{length, get_or, take, drop, length-append, length-drop}
 use Rattle.job.specs.declared.counters.CutNumber.{CutNumber}
 use Rattle.job.specs.declared.counters.PlateTypes.{PlateTypes}
 use Rattle.job.specs.Sizes.{job_size}
-use Rattle.listing_call.specs.declared.call.Listed.TheVariants.{Done}
+use Rattle.saw_text_body.specs.declared.model.Model.TheVariants.{Listed}
+use Rattle.std.specs.Prelude.{Some, Ok}
 use Rattle.columns.specs.Widths.{group_bytes, most_numbers}
-use Rattle.columns.specs.declared.line.Complete.TheVariants.{Numbers}
 use Rattle.columns.specs.Line.{CompleteAs}
 use Rattle.columns.proofs.LineLaws.{line-fits, line-numbers}
 use Rattle.texts.specs.Shape.{plan_line, numbers_row}
@@ -39,16 +39,16 @@ pub record Line (part ws plates cuts : List ℕ) (k : CutNumber) (at lines : ℕ
   pub was : List ℕ
   pub numbers : List ℕ
   pub ten : length was ≡ most_numbers
-  pub complete : CompleteAs (drop at part) was numbers (Numbers g)
+  pub complete : CompleteAs (drop at part) was numbers (Some g)
   pub refusal : ℕ
   pub admitted : refusal ≡ 0
   pub judged : (line : ℕ) → line_verdict refusal line ≡ numbers_row line (plan_line ws ∷ []) (take g numbers)
   pub more :
       (m : PlateTypes) (vs : List ℕ) (rs : List Counted)
-      → ModelKept vs (Done m k) plates cuts
+      → ModelKept vs (Listed m k) plates cuts
       → body_line vs + length rs ≡ lines + 1
-      → PlanHeld vs (Done m k) rs plan counts
-      → PlanHeld vs (Done m k) (rs ++ counted_in (take g numbers) ∷ []) plan' counts'
+      → PlanHeld vs (Listed m k) rs plan counts
+      → PlanHeld vs (Listed m k) (rs ++ counted_in (take g numbers) ∷ []) plan' counts'
 
 module _
     (part ws plates cuts : List ℕ) (k : CutNumber) (at lines : ℕ) (plan : PlanLines) (counts : List ℕ) (g : ℕ) (plan' : PlanLines) (counts' : List ℕ)
@@ -74,7 +74,7 @@ module _
     kind = (plan-judged l.refusal ns l.admitted ws l.judged).kind
 
     -- its numbers are taken as the code takes them
-    took : (p : Reader Saw) → SawKept p (in_body f plan lines) buffers → TakenAs p.state p.lines ns (record { refusal = 0; place = Body; held = held' }) (lent job plates cuts counts' prices)
+    took : (p : Reader Saw) → SawKept p (in_body f plan lines) buffers → TakenAs p.state p.lines ns held (Ok (record { place = Body; held = held' })) (lent job plates cuts counts' prices)
     took p kept =
         let in-body : p.state.place ≡ body = sym kept.text.stands in
         plan-taken p.state p.lines l.refusal ws ns job plates cuts counts prices held in-body (λ q. omega (arith, q, kind))
@@ -86,7 +86,7 @@ module _
     line_on : Onward part at (in_body f plan lines) buffers (at + group_bytes * g + 1) (in_body f plan' (lines + 1)) (lent job plates cuts counts' prices)
     line_on =
         line-onward part at g l.numbers (in_body f plan lines) Body held' buffers (lent job plates cuts counts' prices) l.few listed.none-begun
-        (within (in_body f plan lines).text part at l.was l.numbers refl l.few listed.none-begun l.ten (Numbers g) l.complete)
+        (within (in_body f plan lines).text part at l.was l.numbers refl l.few listed.none-begun l.ten (Some g) l.complete)
         (record { job = refl; plates = refl; cuts = refl; counts = l.long; prices = refl }) took
 
 -- no line yet
@@ -112,15 +112,15 @@ ran-more part from ws plates cuts k first before counts₀ at lines plan counts 
     }
 
 -- as many places are left for numbers as there were
-pub numbers-left : (bs was numbers : List ℕ) (g : ℕ) → length was ≡ most_numbers → CompleteAs bs was numbers (Numbers g) → length numbers ≡ most_numbers
+pub numbers-left : (bs was numbers : List ℕ) (g : ℕ) → length was ≡ most_numbers → CompleteAs bs was numbers (Some g) → length numbers ≡ most_numbers
 numbers-left bs was numbers g ten w = rw w.1.2 (simp (length-append, length-drop) (omega (arith, w.0, (line-numbers g bs w.1.0 w.1.1).0)))
 
 -- there are no more numbers than places for them
-pub numbers-ten : (bs was numbers : List ℕ) (g : ℕ) → length was ≡ most_numbers → CompleteAs bs was numbers (Numbers g) → g ≤ length numbers
+pub numbers-ten : (bs was numbers : List ℕ) (g : ℕ) → length was ≡ most_numbers → CompleteAs bs was numbers (Some g) → g ≤ length numbers
 numbers-ten bs was numbers g ten w = omega (arith, numbers-left bs was numbers g ten w, w.0)
 
 -- where the line ends, in the part
-pub line-inside : (part was numbers : List ℕ) (at g : ℕ) → CompleteAs (drop at part) was numbers (Numbers g) → at + group_bytes * g + 1 ≤ length part
+pub line-inside : (part was numbers : List ℕ) (at g : ℕ) → CompleteAs (drop at part) was numbers (Some g) → at + group_bytes * g + 1 ≤ length part
 line-inside part was numbers at g w = omega (arith, line-fits part at g w.1.0 w.1.1)
 
 -- a state in the body is what it is with its own lines 3 and number of lines

@@ -14,9 +14,9 @@ use Rattle.job.proofs.CodeAdmission.{words-not5, admission-not5}
 use Rattle.listing.specs.Holds.{Holds}
 use Rattle.listing.specs.ListCall.{list_verdict, list_answer, plates_end, cuts_end}
 use Rattle.listing.proofs.Limits.{model-not5}
-use Rattle.listing_call.specs.declared.call.Listed.{Listed}
-use Rattle.listing_call.specs.declared.call.Listed.TheVariants.{Done, Refused}
-use Rattle.listing_call.specs.ListSays.{says_of, SizesListed}
+use Rattle.saw_text_body.specs.declared.model.Model.{Model}
+use Rattle.saw_text_body.specs.declared.model.Model.TheVariants.{Listed, Refused}
+use Rattle.saw_text_body.specs.ModelRead.{says_of, SizesListed}
 use Rattle.texts.specs.JobLines.{Place, first, sizes, types, body, item_prices, plate_prices, done, board_sizes}
 use Rattle.texts.specs.SawText.{Counted, PriceLines, Saw}
 use Rattle.texts_reading.proofs.CodeSplits.{held_same}
@@ -32,14 +32,14 @@ use Rattle.saw_text_reader.specs.Parts.{AsLong}
 -- ---- the model
 
 -- an answer of the listing call, from what it says of a job of t sizes
-abbrev listed_from : ℕ → Answer → Listed
+abbrev listed_from : ℕ → Answer → Model
 listed_from t (given []) = Refused 0 0
 listed_from t (given (m ∷ [])) = Refused 0 0
-listed_from t (given (m ∷ k ∷ ws)) = Done (record { 0 = m + t }) (record { 0 = k })
+listed_from t (given (m ∷ k ∷ ws)) = Listed (record { 0 = m + t }) (record { 0 = k })
 listed_from t (refused number place) = Refused number place
 
-listed-from : (job : Job) (a : Listed) → SizesListed job a → listed_from (length job.sizes) (says_of job a) ≡ a
-listed-from job (Done m k) all = let e : m.0 - length job.sizes + length job.sizes ≡ m.0 = omega arith in λ i. Done (record { 0 = e i }) k
+listed-from : (job : Job) (a : Model) → SizesListed job a → listed_from (length job.sizes) (says_of job a) ≡ a
+listed-from job (Listed m k) all = let e : m.0 - length job.sizes + length job.sizes ≡ m.0 = omega arith in λ i. Listed (record { 0 = e i }) k
 listed-from job (Refused number place) all = refl
 
 -- with buffers of full size the listing call does not refuse with 5
@@ -53,7 +53,7 @@ ends_same pass b b' ws n e f l = e ∙ ap (λ (k : ℕ). filled k ws) l ∙ sym 
 ends_same (refuse number place) b b' ws n e f l =
     (e ∙ ends-zeros (refuse number place) refl n b ws) ∙ ap (λ (k : ℕ). replicate k 0) l ∙ sym (f ∙ ends-zeros (refuse number place) refl n b' ws)
 
-module _ (ws : List ℕ) (a a' : Listed) (plates cuts plates' cuts' : List ℕ) (k : ModelKept ws a plates cuts) (k' : ModelKept ws a' plates' cuts') (p : length plates ≡ length plates') (c : length cuts ≡ length cuts') where
+module _ (ws : List ℕ) (a a' : Model) (plates cuts plates' cuts' : List ℕ) (k : ModelKept ws a plates cuts) (k' : ModelKept ws a' plates' cuts') (p : length plates ≡ length plates') (c : length cuts ≡ length cuts') where
   model-same : a ≡ a'
   unfolding list_answer
   model-same =
@@ -94,12 +94,12 @@ no-plan-same : (p p' : PlanLines) → NoPlan p → NoPlan p' → p ≡ p'
 no-plan-same p p' n n' = plan-is p p' (n.unnamed ∙ sym n'.unnamed) (n.misshown ∙ sym n'.misshown) (n.fallen ∙ sym n'.fallen) (n.last ∙ sym n'.last)
 
 plan-same :
-    (ws : List ℕ) (a : Listed) (rs : List Counted) (p p' : PlanLines) (counts counts' : List ℕ)
+    (ws : List ℕ) (a : Model) (rs : List Counted) (p p' : PlanLines) (counts counts' : List ℕ)
     → PlanHeld ws a rs p counts
     → PlanHeld ws a rs p' counts'
     → length counts ≡ length counts'
     → (p ≡ p') × (counts ≡ counts')
-plan-same ws (Done m k) rs p p' counts counts' h h' l =
+plan-same ws (Listed m k) rs p p' counts counts' h h' l =
     (plan-is p p' (first-same 8 _ _ h.unnamed-is h'.unnamed-is) (first-same 20 _ _ h.misshown-is h'.misshown-is) (first-same 9 _ _ h.fallen-is h'.fallen-is) (h.last-is ∙ sym h'.last-is), held_same counts counts' _ h.counts-are h'.counts-are l)
 plan-same ws (Refused number place) rs p p' counts counts' h h' l = (no-plan-same p p' h.0 h'.0, held_same counts counts' [] h.1 h'.1 l)
 

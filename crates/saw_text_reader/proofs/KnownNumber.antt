@@ -7,7 +7,7 @@ use mathlib.Core.List.{List, [], ◌∷◌}
 use lib.ListN.{length, get_or, take, drop, length-take, length-drop}
 use lib.Seq.{drop-cons, get_or-take, get_or-drop}
 use Rattle.columns.specs.Widths.{front_bytes, lead_bytes, group_bytes}
-use Rattle.columns.specs.declared.group.Number.TheVariants.{Value}
+use Rattle.std.specs.Prelude.{Some}
 use Rattle.columns.specs.Group.{mark, lead, group, number_of}
 use Rattle.columns.specs.Words.{Blank}
 use Rattle.columns.proofs.GroupLaws.{number-group}
@@ -54,7 +54,7 @@ columns_of :
     → get_or s (at + 6) 0 ≡ mark (n / 100)
     → get_or s (at + 7) 0 ≡ mark (n / 10)
     → get_or s (at + 8) 0 ≡ 48 + n % 10
-    → number_of (take group_bytes (drop at s)) ≡ Value n
+    → number_of (take group_bytes (drop at s)) ≡ Some n
 unfolding group lead mark
 columns_of s at n h few front fifth thousands hundreds tens last =
     let none : n / 10 / 10 / 10 / 10 ≡ 0 = omega arith in
@@ -65,7 +65,7 @@ columns_of s at n h few front fifth thousands hundreds tens last =
     ap number_of bytes ∙ number-group n (omega arith)
 
 -- as the code compares it
-pub number-known :
+pub number_known :
     (s : List ℕ) (at n : ℕ)
     → at + group_bytes ≤ length s
     → n < four_digits
@@ -75,11 +75,11 @@ pub number-known :
     → get_or s (at + 6) 0 ≡ mark (n / 100)
     → get_or s (at + 7) 0 ≡ mark (n / 10)
     → get_or s (at + 8) 0 ≡ 48 + n % 10
-    → number_of (take group_bytes (drop at s)) ≡ Value n
-number-known s at n h few front = columns_of s at n h few (blank-in s at front_bytes (omega arith) front)
+    → number_of (take group_bytes (drop at s)) ≡ Some n
+number_known s at n h few front = columns_of s at n h few (blank-in s at front_bytes (omega arith) front)
 
 -- the kind of a line 6: eight blanks, and then its digit
-pub kind-six : (s : List ℕ) (at : ℕ) → at + group_bytes ≤ length s → Blank (take lead_bytes (drop at s)) → get_or s (at + lead_bytes) 0 ≡ 54 → number_of (take group_bytes (drop at s)) ≡ Value 6
+pub kind-six : (s : List ℕ) (at : ℕ) → at + group_bytes ≤ length s → Blank (take lead_bytes (drop at s)) → get_or s (at + lead_bytes) 0 ≡ 54 → number_of (take group_bytes (drop at s)) ≡ Some 6
 unfolding mark
 kind-six s at h blank last =
     let b = blank-in s at lead_bytes (omega arith) blank in

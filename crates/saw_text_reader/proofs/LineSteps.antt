@@ -2,12 +2,11 @@
 use Prim.Native.Nat.{ℕ, ◌+◌, ◌-◌, ◌/◌, ◌≤◌, ◌<◌}
 use native.Mathlib.Omega.{arith}
 use mathlib.Core.Path.{◌≡◌, sym, ap, ◌∙◌}
-use mathlib.Core.Bool.{true, false}
 use mathlib.Core.List.{List, [], ◌++◌}
-use mathlib.Core.Option.{some}
+use mathlib.Core.Option.{none, some}
 use lib.ListN.{length, take, drop, length-append, length-take, length-drop}
 use Rattle.columns.specs.Widths.{group_bytes}
-use Rattle.columns.specs.declared.line.Line.{Line}
+use Rattle.std.specs.Prelude.{Some}
 use Rattle.columns.specs.Line.{read_line, line_from}
 use Rattle.texts.specs.Reader.{Reader, max_lines, line_read}
 use Rattle.texts.specs.SawText.{Saw, saw_grammar}
@@ -15,7 +14,7 @@ use Rattle.texts_reading.specs.declared.pending.Pending.{Pending}
 use Rattle.texts_reading.specs.declared.text.TextReader.{TextReader}
 use Rattle.texts_reading.specs.Begun.{Begun}
 use Rattle.texts_reading.specs.Standing.{TextAt}
-use Rattle.texts_reading.proofs.CodeLine.{line-not, line-numbers}
+use Rattle.texts_reading.proofs.CodeLine.{line-numbers}
 use Rattle.texts_reading.proofs.CodeText.{kept-refused, line-malformed, at_ready}
 use Rattle.saw_text_lines.specs.SawKept.{Lent, Room}
 use Rattle.saw_text_reader.specs.declared.saw.SawReader.{SawReader}
@@ -27,14 +26,14 @@ pub malformed-step :
     → f.text.lines ≤ max_lines
     → Room b
     → TextAt t f.text.place f.text.lines 1 []
-    → ((r : Reader Saw) → SawKept r f b → (line_from (read_line (r.pending ++ xs))).good ≡ false)
+    → ((r : Reader Saw) → SawKept r f b → read_line (r.pending ++ xs) ≡ none)
     → Step (λ q. line_read saw_grammar q (read_line (q.pending ++ xs))) f b (record { text = t; held = f.held }) b
 malformed-step f b xs t l room a bad =
     let ready : SawReady (record { text = t; held = f.held }) b = record { text = at_ready t a l; room = room } in
     record {
       ready = ready;
       kept = λ r k.
-          rw (line-not (read_line (r.pending ++ xs)) (bad r k), line-malformed saw_grammar r)
+          rw (bad r k, line-malformed saw_grammar r)
           (record { ready = ready; text = kept-refused saw_grammar (λ (s : Saw). s.place) r f.text k.text 0 a; held = k.held });
     }
 
@@ -47,10 +46,10 @@ pub line_step :
 line_step f f' b b' xs ns step reads = record { ready = step.ready; kept = λ r k. rw (reads r k) (step.kept r k) }
 
 -- the numbers that the code reads, as many as the line's length says
-pub readable : (bs : List ℕ) (line : Line) (groups : ℕ) → line ≡ line_from (read_line bs) → line.good ≡ true → length bs / group_bytes ≡ groups → read_line bs ≡ some (take groups line.numbers)
-readable bs line groups e good n =
-    let w = line-numbers bs (sym (ap (λ (l : Line). l.good) e) ∙ good) in
-    w.1.read ∙ ap some (sym w.1.held ∙ rw (n, e))
+pub readable : (bs numbers : List ℕ) (groups : ℕ) → line_from (read_line bs) ≡ Some numbers → length bs / group_bytes ≡ groups → read_line bs ≡ some (take groups numbers)
+readable bs numbers groups e n =
+    let w = line-numbers bs numbers e in
+    w.1.read ∙ ap some (sym w.1.held ∙ rw n)
 
 -- how long a line is that ends in a part
 pub whole-size : (p : Pending) (bs part : List ℕ) (at end : ℕ) → Begun p bs → at ≤ end → end < length part → length (bs ++ take (end + 1 - at) (drop at part)) ≡ p.length + (end + 1 - at)

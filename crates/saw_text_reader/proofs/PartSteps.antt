@@ -2,7 +2,8 @@
 use Prim.Native.Nat.{ℕ, ◌+◌, ◌-◌, ◌≤◌, ◌<◌, zero-le}
 use mathlib.Core.Path.{◌≡◌, refl, ap, ◌∙◌}
 use mathlib.Core.Bool.{true, false}
-use mathlib.Core.List.{List, ◌++◌}
+use mathlib.Core.List.{List, [], ◌++◌}
+use mathlib.Core.Option.{some}
 use native.Mathlib.Omega.{arith}
 use lib.ListN.{length, take, drop, drop_of_length-le}
 use Rattle.columns.specs.Line.{read_line}
@@ -11,7 +12,7 @@ use Rattle.texts.specs.JobLines as definition
 use Rattle.texts.specs.SawText.{Saw, saw_grammar}
 use Rattle.texts_reading.specs.declared.text.TextReader.{TextReader}
 use Rattle.texts_reading.specs.LineEnd.{LineEnd}
-use Rattle.texts_reading.specs.Standing.{line_ends, Rest}
+use Rattle.texts_reading.specs.Standing.{TextAt, line_ends, Rest as RestOf}
 use Rattle.texts_reading.proofs.CodeText.{whole, rest-kept, rest-same, line-fed}
 use Rattle.saw_text_lines.specs.SawKept.{Lent}
 use Rattle.saw_text_lines.proofs.KeptSound.{room-again}
@@ -19,6 +20,10 @@ use Rattle.saw_text_reader.specs.declared.saw.SawReader.{SawReader}
 use Rattle.saw_text_reader.specs.SawFed.{SawReady, SawKept, Step, Fed}
 use Rattle.saw_text_reader.specs.Parts.{AsLong}
 use Rattle.saw_text_reader.specs.Onward.{ReadOn}
+use Rattle.saw_text_reader.specs.declared.next.Next.{Next}
+use Rattle.saw_text_reader.specs.declared.next.Next.TheVariants.{Numbers, Malformed, Rest}
+use Rattle.saw_text_reader.specs.NextLine.{NextAs, NumbersTo, MalformedTo, RestTo}
+use Rattle.saw_text_reader.proofs.LineSteps.{malformed-step, line_step}
 
 abbrev place : Saw → definition.Place
 place s = s.place
@@ -67,7 +72,7 @@ module _ (part : List ℕ) (f₀ : SawReader) (b₀ : Lent) (f : SawReader) (b :
         at < length part
         → line_ends f.text at end (length part) ≡ false
         → {t' : TextReader}
-        → Rest f.text part at end t'
+        → RestOf f.text part at end t'
         → (r : Reader Saw)
         → SawKept r f₀ b₀
         → SawKept (fed saw_grammar r part) (record { text = t'; held = f.held }) b
@@ -103,6 +108,41 @@ going_on part f₀ b₀ f b at g l on =
           let w = on.onward h.0 h.1 in
           (w.0, w.1, h.2 ∙ w.2);
     }
+
+-- the next line, by what the code answers
+module _ {n : Next} {t : TextReader} {part : List ℕ} (numbers : List ℕ) {at end : ℕ} (next : NextAs t part at numbers n) where
+  pub numbers-next : {k : ℕ} → n ≡ Numbers k end → NumbersTo t part at numbers k end
+  numbers-next e = rw e at next
+
+  pub malformed-next : n ≡ Malformed end → MalformedTo t part at end
+  malformed-next e = rw e at next
+
+  pub rest-next : n ≡ Rest end → RestTo t part at end
+  rest-next e = rw e at next
+
+-- a line of the form is taken
+pub going-numbers :
+    (part : List ℕ) (f₀ : SawReader) (b₀ : Lent) (f : SawReader) (b : Lent) (at : ℕ) {f' : SawReader} {b' : Lent} {numbers : List ℕ} {k end : ℕ}
+    → Going part f₀ b₀ f b at
+    → NumbersTo f.text part at numbers k end
+    → AsLong b' b
+    → Step (λ q. line_read saw_grammar q (some (take k numbers))) f b f' b'
+    → Going part f₀ b₀ f' b' (end + 1)
+going-numbers part f₀ b₀ f b at {f'} {b'} {numbers} {k} {end} g w l step =
+    going-line part f₀ b₀ f b at g end w.end_is w.ends l
+    (line_step f f' b b' (take (end + 1 - at) (drop at part)) (take k numbers) step (λ r kept. w.reads r.pending kept.text.begun))
+
+-- one that is not of the form is refused
+pub going-malformed :
+    (part : List ℕ) (f₀ : SawReader) (b₀ : Lent) (f : SawReader) (b : Lent) (at : ℕ) {t : TextReader} {end : ℕ}
+    → Going part f₀ b₀ f b at
+    → MalformedTo f.text part at end
+    → TextAt t f.text.place f.text.lines 1 []
+    → Going part f₀ b₀ (record { text = t; held = f.held }) b (end + 1)
+going-malformed part f₀ b₀ f b at {t} {end} g w refused =
+    going-line part f₀ b₀ f b at g end w.end_is w.ends
+    (record { job = refl; plates = refl; cuts = refl; counts = refl; prices = refl })
+    (malformed-step f b (take (end + 1 - at) (drop at part)) t g.ready.text.few g.ready.room refused (λ r kept. w.bad r.pending kept.text.begun))
 
 -- a state that is ready is changed only by what it is fed
 pub fed-ready :

@@ -12,9 +12,8 @@ use Rattle.job.specs.declared.counters.BoardSizes.{BoardSizes}
 use Rattle.job.specs.declared.counters.PlateType.{PlateType}
 use Rattle.job.specs.Sizes.{prices_size}
 use Rattle.listing.proofs.CodeHolds.{held_word}
+use Rattle.std.specs.Prelude.{Some, Ok}
 use Rattle.columns.specs.Widths.{group_bytes, most_numbers, line_bytes}
-use Rattle.columns.specs.declared.group.Number.TheVariants.{Value}
-use Rattle.columns.specs.declared.line.Complete.TheVariants.{Numbers}
 use Rattle.columns.specs.Group.{number_of}
 use Rattle.columns.specs.Line.{also, numbers_of, CompleteAs}
 use Rattle.columns.proofs.LineLaws.{line-fits, line-numbers}
@@ -45,17 +44,17 @@ only (x ∷ y ∷ ns) rest e = absurd (omega arith)
 -- the kind, the plate type, and then a line of one number, which is the price
 pub three-numbers :
     (part : List ℕ) (at j : ℕ) (was numbers : List ℕ)
-    → number_of (take group_bytes (drop at part)) ≡ Value 6
-    → number_of (take group_bytes (drop (at + group_bytes) part)) ≡ Value j
-    → CompleteAs (drop (at + 2 * group_bytes) part) was numbers (Numbers 1)
+    → number_of (take group_bytes (drop at part)) ≡ Some 6
+    → number_of (take group_bytes (drop (at + group_bytes) part)) ≡ Some j
+    → CompleteAs (drop (at + 2 * group_bytes) part) was numbers (Some 1)
     → numbers_of 3 (drop at part) ≡ some (6 ∷ j ∷ get_or numbers 0 0 ∷ [])
 unfolding numbers_of
 three-numbers part at j was numbers p q (h, (ns, e, held)) =
     let two : at + group_bytes + group_bytes ≡ at + 2 * group_bytes = omega arith in
     let rest : drop group_bytes (drop (at + group_bytes) part) ≡ drop (at + 2 * group_bytes) part = drop-drop group_bytes (at + group_bytes) part ∙ ap (λ (i : ℕ). drop i part) two in
-    let read : numbers_of 3 (drop at part) ≡ also (Value 6) (also (Value j) (numbers_of 1 (drop (at + 2 * group_bytes) part))) = rw (p, drop-drop group_bytes at part, q, rest) in
+    let read : numbers_of 3 (drop at part) ≡ also (Some 6) (also (Some j) (numbers_of 1 (drop (at + 2 * group_bytes) part))) = rw (p, drop-drop group_bytes at part, q, rest) in
     let price : ns ≡ get_or numbers 0 0 ∷ [] = rw held (only ns (drop 1 was) (line-numbers 1 (drop (at + 2 * group_bytes) part) ns e).0) in
-    read ∙ ap (λ (o : Option (List ℕ)). also (Value 6) (also (Value j) o)) (e ∙ ap some price)
+    read ∙ ap (λ (o : Option (List ℕ)). also (Some 6) (also (Some j) o)) (e ∙ ap some price)
 
 -- the plate type after j
 abbrev following : PlateType → PlateType
@@ -94,7 +93,7 @@ module _
     next = rw (ne_eqb (suc j.0) (t.0 + priced.residuals) (λ e. omega (arith, e, l.more)), add-one)
 
     -- its numbers are taken as the code takes them
-    took : (p : Reader Saw) → SawKept p (in_prices f j lines) (lent job plates cuts counts prices) → TakenAs p.state p.lines ns (record { refusal = 0; place = PlatePrices (following j); held = f.held }) (lent job plates cuts counts prices')
+    took : (p : Reader Saw) → SawKept p (in_prices f j lines) (lent job plates cuts counts prices) → TakenAs p.state p.lines ns f.held (Ok (record { place = PlatePrices (following j); held = f.held })) (lent job plates cuts counts prices')
     took p kept =
         let here : p.state.place ≡ plate_prices j.0 = sym kept.text.stands in
         rw (← by.prices-are)
@@ -105,7 +104,7 @@ module _
     line_on : Onward part at (in_prices f j lines) (lent job plates cuts counts prices) (at + group_bytes * 3 + 1) (in_prices f (following j) (lines + 1)) (lent job plates cuts counts prices')
     line_on =
         line-onward part at 3 (ns ++ drop 3 (replicate most_numbers 0)) (in_prices f j lines) (PlatePrices (following j)) f.held (lent job plates cuts counts prices) (lent job plates cuts counts prices') l.few by.none-begun
-        (within (in_prices f j lines).text part at (replicate most_numbers 0) (ns ++ drop 3 (replicate most_numbers 0)) refl l.few by.none-begun refl (Numbers 3) (omega arith, (ns, l.line.numbers, refl)))
+        (within (in_prices f j lines).text part at (replicate most_numbers 0) (ns ++ drop 3 (replicate most_numbers 0)) refl l.few by.none-begun refl (Some 3) (omega arith, (ns, l.line.numbers, refl)))
         (record { job = refl; plates = refl; cuts = refl; counts = refl; prices = length-set prices (word_of t priced j) price }) took
 
 -- no line yet

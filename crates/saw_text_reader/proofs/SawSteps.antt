@@ -5,6 +5,9 @@ use mathlib.Core.Path.{◌≡◌, refl, ap}
 use mathlib.Core.List.{List, []}
 use mathlib.Core.Option.{some}
 use lib.ListN.{length, length-replicate}
+use Rattle.std.specs.Prelude.{Ok, Err}
+use Rattle.job.specs.declared.refused.Refusal.{Refusal}
+use Rattle.job.specs.Refused.{number_of}
 use Rattle.listing.specs.Holds.{Holds}
 use Rattle.listing.proofs.CodeHolds.{cleared}
 use Rattle.texts.specs.Reader.{Reader, max_lines, line_read}
@@ -12,6 +15,7 @@ use Rattle.texts.specs.SawText.{Saw, saw_grammar, saw_after}
 use Rattle.texts_reading.specs.declared.text.Place.TheVariants.{First}
 use Rattle.texts_reading.specs.declared.text.TextReader.{TextReader}
 use Rattle.texts_reading.specs.Standing.{place_of, TextAt}
+use Rattle.texts_reading.proofs.CodeJobLines.{refusal-number}
 use Rattle.texts_reading.proofs.CodeText.{kept-refused, kept-admitted, line_refused, line-admitted, at_ready}
 use Rattle.saw_text_lines.specs.declared.held.SawHeld.{SawHeld}
 use Rattle.saw_text_lines.specs.declared.held.Taken.{Taken}
@@ -20,34 +24,64 @@ use Rattle.saw_text_lines.proofs.KeptSound.{room-again}
 use Rattle.saw_text_reader.specs.declared.saw.SawReader.{SawReader}
 use Rattle.saw_text_reader.specs.SawFed.{NoneHeld, SawReady, SawKept, Step, zeros, Started}
 
-module _ (r : Reader Saw) (f : SawReader) (b b' : Lent) (ns : List ℕ) (t : Taken) (t' : TextReader) (k : SawKept r f b) (took : TakenAs r.state r.lines ns t b') (ready : SawReady (record { text = t'; held = t.held }) b') where
+module _ (r : Reader Saw) (f : SawReader) (b b' : Lent) (ns : List ℕ) (t' : TextReader) (k : SawKept r f b) where
   -- the numbers of a line are refused
-  pub step-refused : (t.refusal ≡ 0 → ⊥) → TextAt t' f.text.place f.text.lines t.refusal [] → SawKept (line_read saw_grammar r (some ns)) (record { text = t'; held = t.held }) b'
-  step-refused n a = go t.refusal refl
+  pub step-refused :
+      (x : Refusal)
+      → TakenAs r.state r.lines ns f.held (Err x) b'
+      → SawReady (record { text = t'; held = f.held }) b'
+      → TextAt t' f.text.place f.text.lines (number_of x) []
+      → SawKept (line_read saw_grammar r (some ns)) (record { text = t'; held = f.held }) b'
+  step-refused x took ready a = go (number_of x) refl
     where
-      go : (m : ℕ) → t.refusal ≡ m → SawKept (line_read saw_grammar r (some ns)) (record { text = t'; held = t.held }) b'
-      go zero z = absurd (n z)
+      go : (m : ℕ) → number_of x ≡ m → SawKept (line_read saw_grammar r (some ns)) (record { text = t'; held = f.held }) b'
+      go zero z = absurd (refusal-number x z)
       go (suc m) z =
           let e = line_refused saw_grammar r ns refl m (rw z at took.row) in
-          rw e (record { ready = ready; text = kept-refused saw_grammar (λ (s : Saw). s.place) r f.text k.text m (rw z at a); held = took.refused n })
+          rw e
+          (record {
+            ready = ready;
+            text = kept-refused saw_grammar (λ (s : Saw). s.place) r f.text k.text m (rw z at a);
+            held = took.to;
+          })
 
   -- they are admitted
-  pub step-admitted : t.refusal ≡ 0 → TextAt t' t.place (suc f.text.lines) 0 [] → SawKept (line_read saw_grammar r (some ns)) (record { text = t'; held = t.held }) b'
-  step-admitted z a =
-      let e = line-admitted saw_grammar r ns refl (rw z at took.row) in
-      rw e (record { ready = ready; text = kept-admitted saw_grammar (λ (s : Saw). s.place) r f.text k.text (saw_after r.state ns) a (took.next z); held = took.admitted z })
+  pub step-admitted :
+      (t : Taken)
+      → TakenAs r.state r.lines ns f.held (Ok t) b'
+      → SawReady (record { text = t'; held = t.held }) b'
+      → TextAt t' t.place (suc f.text.lines) 0 []
+      → SawKept (line_read saw_grammar r (some ns)) (record { text = t'; held = t.held }) b'
+  step-admitted t took ready a =
+      let e = line-admitted saw_grammar r ns refl took.row in
+      rw e
+      (record {
+        ready = ready;
+        text = kept-admitted saw_grammar (λ (s : Saw). s.place) r f.text k.text (saw_after r.state ns) a took.to.0;
+        held = took.to.1;
+      })
 
 -- the same as steps
-module _ (f : SawReader) (b b' : Lent) (ns : List ℕ) (t : Taken) (t' : TextReader) (took : (r : Reader Saw) → SawKept r f b → TakenAs r.state r.lines ns t b') (room : Room b') where
-  pub refused-step : f.text.lines ≤ max_lines → (t.refusal ≡ 0 → ⊥) → TextAt t' f.text.place f.text.lines t.refusal [] → Step (λ q. line_read saw_grammar q (some ns)) f b (record { text = t'; held = t.held }) b'
-  refused-step l n a =
-      let ready : SawReady (record { text = t'; held = t.held }) b' = record { text = at_ready t' a l; room = room } in
-      record { ready = ready; kept = λ r k. step-refused r f b b' ns t t' k (took r k) ready n a }
+module _ (f : SawReader) (b b' : Lent) (ns : List ℕ) (t' : TextReader) (room : Room b') where
+  pub refused-step :
+      (x : Refusal)
+      → ((r : Reader Saw) → SawKept r f b → TakenAs r.state r.lines ns f.held (Err x) b')
+      → f.text.lines ≤ max_lines
+      → TextAt t' f.text.place f.text.lines (number_of x) []
+      → Step (λ q. line_read saw_grammar q (some ns)) f b (record { text = t'; held = f.held }) b'
+  refused-step x took l a =
+      let ready : SawReady (record { text = t'; held = f.held }) b' = record { text = at_ready t' a l; room = room } in
+      record { ready = ready; kept = λ r k. step-refused r f b b' ns t' k x (took r k) ready a }
 
-  pub admitted-step : f.text.lines < max_lines → t.refusal ≡ 0 → TextAt t' t.place (suc f.text.lines) 0 [] → Step (λ q. line_read saw_grammar q (some ns)) f b (record { text = t'; held = t.held }) b'
-  admitted-step l z a =
+  pub admitted-step :
+      (t : Taken)
+      → ((r : Reader Saw) → SawKept r f b → TakenAs r.state r.lines ns f.held (Ok t) b')
+      → f.text.lines < max_lines
+      → TextAt t' t.place (suc f.text.lines) 0 []
+      → Step (λ q. line_read saw_grammar q (some ns)) f b (record { text = t'; held = t.held }) b'
+  admitted-step t took l a =
       let ready : SawReady (record { text = t'; held = t.held }) b' = record { text = at_ready t' a (omega arith); room = room } in
-      record { ready = ready; kept = λ r k. step-admitted r f b b' ns t t' k (took r k) ready z a }
+      record { ready = ready; kept = λ r k. step-admitted r f b b' ns t' k t (took r k) ready a }
 
 -- nothing is read yet
 zero-length : (ws : List ℕ) → length (zeros ws) ≡ length ws

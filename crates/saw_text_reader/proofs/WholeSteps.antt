@@ -6,6 +6,7 @@ use mathlib.Core.Path.{◌≡◌, refl, ◌∙◌}
 use mathlib.Core.List.{List, [], ◌∷◌}
 use mathlib.Core.Option.{some}
 use lib.ListN.{length, take}
+use Rattle.std.specs.Prelude.{Ok}
 use Rattle.columns.specs.Widths.{group_bytes}
 use Rattle.texts.specs.Reader.{Reader, max_lines, line_read}
 use Rattle.texts.specs.SawText.{Saw, saw_grammar}
@@ -50,13 +51,13 @@ pub line-onward :
     → f.text.pending.length ≡ 0
     → LineWithin f.text part at numbers g
     → AsLong b' b
-    → ((p : Reader Saw) → SawKept p f b → TakenAs p.state p.lines (take g numbers) (record { refusal = 0; place = place; held = h }) b')
+    → ((p : Reader Saw) → SawKept p f b → TakenAs p.state p.lines (take g numbers) f.held (Ok (record { place = place; held = h })) b')
     → Onward part at f b (at + group_bytes * g + 1) (admitted_to f place h) b'
 line-onward part at g numbers f place h b b' few none w long took p kept =
     let ready : SawReady (admitted_to f place h) b' = record { text = record { few = omega arith; short = omega arith }; room = room-again kept.ready.room long.job long.plates long.cuts long.counts long.prices } in
     let end = at + group_bytes * g in (
       line_read saw_grammar p (some (take g numbers)),
-      step-admitted p f b b' (take g numbers) (record { refusal = 0; place = place; held = h }) (admitted_to f place h).text kept (took p kept) ready refl
+      step-admitted p f b b' (take g numbers) (admitted_to f place h).text kept (record { place = place; held = h }) (took p kept) ready
           (record { place_is = refl; lines_are = add-one f.text.lines; refusal_is = refl; begun = begun-empty f.text.pending p.pending none kept.text.begun }),
       rw (w.reads p.pending kept.text.begun) at (line-fed saw_grammar (λ (s : Saw). s.place) p f.text kept.text part at end w.end (omega (arith, none)) (whole f.text at end (length part) w.ends)),
     )

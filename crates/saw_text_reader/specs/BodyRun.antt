@@ -3,7 +3,7 @@ use Rattle.std.specs.Prelude.{ℕ, ◌≤◌, ◌≡◌, List, length, take}
 use Rattle.job.specs.declared.counters.CutNumber.{CutNumber}
 use Rattle.job.specs.declared.counters.PlateTypes.{PlateTypes}
 use Rattle.job.specs.Sizes.{max_sizes, max_types, max_cuts, job_size}
-use Rattle.listing_call.specs.declared.call.Listed.TheVariants.{Done}
+use Rattle.saw_text_body.specs.declared.model.Model.TheVariants.{Listed}
 use Rattle.texts.specs.Reader.{max_lines}
 use Rattle.texts.specs.JobLines.{board_sizes, types_of}
 use Rattle.texts_reading.specs.declared.text.Place.TheVariants.{Body}
@@ -25,7 +25,7 @@ in_body f plan lines =
 pub record ListedWith (f : SawReader) (k : CutNumber) : Type 0 where
   pub none-begun : f.text.pending.length ≡ 0
   pub plates : PlateTypes
-  pub model_is : f.held.model ≡ Done plates k
+  pub model_is : f.held.model ≡ Listed plates k
 
 -- and the text stands in its body, where no line is refused
 pub record InBody (f : SawReader) (k : CutNumber) : Type 0 where

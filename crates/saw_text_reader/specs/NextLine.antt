@@ -1,8 +1,8 @@
 -- Document 01, "Texts": the next line of a text in a part: its numbers, or it is not of the form, or none ends in the part.
 use Rattle.std.specs.Prelude.{ℕ, ◌+◌, ◌-◌, ◌≤◌, ◌≡◌, true, false, List, ◌++◌, length, take, drop}
-use Rattle.std.proofs.Math.Option.{some}
+use Rattle.std.proofs.Math.Option.{none, some}
 use Rattle.columns.specs.Widths.{most_numbers}
-use Rattle.columns.specs.Line.{read_line, line_from}
+use Rattle.columns.specs.Line.{read_line}
 use Rattle.texts.specs.Reader.{longest_line}
 use Rattle.texts_reading.specs.declared.text.TextReader.{TextReader}
 use Rattle.texts_reading.specs.Begun.{Begun}
@@ -26,7 +26,7 @@ pub record NumbersTo (t : TextReader) (part : List ℕ) (at : ℕ) (numbers : Li
 pub record MalformedTo (t : TextReader) (part : List ℕ) (at end : ℕ) : Type 0 where
   pub end_is : LineEnd part at (longest_line - t.pending.length) end
   pub ends : line_ends t at end (length part) ≡ true
-  pub bad : (bs : List ℕ) → Begun t.pending bs → (line_from (read_line (bs ++ take (end + 1 - at) (drop at part)))).good ≡ false
+  pub bad : (bs : List ℕ) → Begun t.pending bs → read_line (bs ++ take (end + 1 - at) (drop at part)) ≡ none
 
 -- no line ends in the part
 pub record RestTo (t : TextReader) (part : List ℕ) (at end : ℕ) : Type 0 where

@@ -1,5 +1,5 @@
 -- Document 01, "Texts": the lines 6 of a saw text that stand whole in a part, one after another: what they make of the state and of the price words.
-use Rattle.std.specs.Prelude.{ℕ, ◌+◌, ◌≤◌, ◌<◌, ◌≡◌, List, [], ◌∷◌, length, drop}
+use Rattle.std.specs.Prelude.{Option, Some, None, ℕ, ◌+◌, ◌≤◌, ◌<◌, ◌≡◌, List, [], ◌∷◌, length, drop}
 use Rattle.std.proofs.Math.Option.{some}
 use Rattle.job.specs.declared.counters.BoardSizes.{BoardSizes}
 use Rattle.job.specs.declared.counters.PlateType.{PlateType}
@@ -11,8 +11,6 @@ use Rattle.texts.specs.JobLines.{board_sizes}
 use Rattle.texts_reading.specs.declared.text.Place.TheVariants.{PlatePrices}
 use Rattle.saw_text_body.specs.declared.price_lines.PriceLines.{PriceLines}
 use Rattle.saw_text_lines.specs.SawKept.{lent}
-use Rattle.saw_text_reader.specs.declared.prices.PriceAt.{PriceAt}
-use Rattle.saw_text_reader.specs.declared.prices.PriceAt.TheVariants.{Price, Nothing}
 use Rattle.saw_text_reader.specs.declared.prices.PriceRun.{PriceRun}
 use Rattle.saw_text_reader.specs.declared.saw.SawReader.{SawReader}
 use Rattle.saw_text_reader.specs.Onward.{Onward}
@@ -27,9 +25,9 @@ pub record PriceLine (part : List ℕ) (at j price : ℕ) : Type 0 where
   pub limit : price ≤ max_price
 
 -- what is said where such a line is found, and that an array of ten is left; where none is, nothing is said
-abbrev pub PriceAs : List ℕ → ℕ → ℕ → List ℕ → PriceAt → Type 0
-PriceAs part at j numbers (Price price) = PriceLine part at j price × (length numbers ≡ most_numbers)
-PriceAs part at j numbers Nothing = Unit {0}
+abbrev pub PriceAs : List ℕ → ℕ → ℕ → List ℕ → Option ℕ → Type 0
+PriceAs part at j numbers (Some price) = PriceLine part at j price × (length numbers ≡ most_numbers)
+PriceAs part at j numbers None = Unit {0}
 
 -- plate type j is one of the residual types of a line 4, of a job of t sizes, and each number is within its limits
 pub record PlateWithin (t : BoardSizes) (priced : PriceLines) (j : PlateType) : Type 0 where

@@ -1,6 +1,6 @@
 -- Document 01, "Texts": the reader of a saw text in parts: what a state and lent buffers keep of the definition's reader, and what a part does to them.
 use Rattle.std.specs.Prelude.{ℕ, ◌≡◌, false, List, length, replicate}
-use Rattle.listing_call.specs.declared.call.Listed.TheVariants.{Refused}
+use Rattle.saw_text_body.specs.declared.model.Model.TheVariants.{Refused}
 use Rattle.texts.specs.Reader.{Reader, started, fed}
 use Rattle.texts.specs.SawText.{Saw, saw_grammar}
 use Rattle.texts_reading.specs.Standing.{TextKept, TextReady}

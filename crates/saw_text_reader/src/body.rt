@@ -1,5 +1,5 @@
 // The lines 3 that stand whole in a part, one after another: only what they change is moved.
-ghost use Rattle.std.specs.Prelude.{◌≡◌, List, ℕ, ◌≤◌, length};
+ghost use Rattle.std.specs.Prelude.{IfSome, ◌≡◌, List, ℕ, ◌≤◌, length};
 ghost use Rattle.job.specs.Sizes.{max_types, max_cuts, words_of_head, longest_job, plates_size, cuts_size, counts_size};
 ghost use Rattle.texts.specs.Reader.{max_lines};
 ghost use Rattle.texts.specs.JobLines.{types_of};
@@ -10,12 +10,12 @@ ghost use Rattle.saw_text_reader.specs.BodyRun.{in_body, InBody, WholeWords, Ran
 
 use crate::saw::SawReader;
 use crate::whole::LinesRead;
-use columns::line::{Complete, complete_line};
+use columns::line::complete_line;
 use columns::widths::{GROUP, MOST_NUMBERS};
 use job::counters::CutNumber;
 use job::head::head_of;
 use job::sizes::{HEAD_WORDS, ITEM_WORDS, MAX_CUTS, MAX_SIZES, MAX_TYPES, SIZE_WORDS};
-use listing_call::call::Listed;
+use saw_text_body::model::Model;
 use saw_text_body::plan_lines::PlanLines;
 use saw_text_lines::held::{SawHeld, plan_numbers};
 use texts::widths::MAX_LINES;
@@ -23,7 +23,7 @@ use texts_reading::kinds::plan_line;
 use texts_reading::text::{Place, TextReader};
 
 // The lines 3 after some more of them, the lines of the text, and where the next begins in the part.
-#[derive(Clone, Copy)]
+#[derive(Clone, Copy, Debug, PartialEq, Eq)]
 pub struct Run {
     pub plan: PlanLines,
     pub lines: u32,
@@ -55,12 +55,12 @@ fn plan_run(
             return Run { plan, lines, at };
         }
         let mut numbers = [0u32; MOST_NUMBERS];
-        let Complete::Numbers(g) = complete_line(part, at, &mut numbers) else {
+        let Some(g) = complete_line(part, at, &mut numbers) else {
             return Run { plan, lines, at };
         };
-        if plan_line(&numbers[..g], job) != 0 {
+        let Ok(()) = plan_line(&numbers[..g], job) else {
             return Run { plan, lines, at };
-        }
+        };
         let here = plan_numbers(&numbers[..g]);
         lines += 1;
         plan = plan.more(lines, here, plates, cuts, k, counts);
@@ -69,48 +69,34 @@ fn plan_run(
     Run { plan, lines, at }
 }
 
-// The cuts of a job; not 0 only where it is listed, lines 3 come next and no line has begun or is refused.
-fn cuts_of(reader: SawReader) -> CutNumber
-    ensures { (result.0 ≡ 0 → ⊥) → InBody reader result }
+// The cuts of a job, where it is listed, lines 3 come next and no line has begun or is refused.
+fn cuts_of(reader: SawReader) -> Option<CutNumber>
+    ensures { IfSome result (λ k. InBody reader k) }
 {
-    let text = reader.text;
-    let held = reader.held;
-    let place = text.place;
-    let Place::Body = place else {
-        return CutNumber(0);
+    let Place::Body = reader.text.place else {
+        return None;
     };
-    if text.refusal != 0 {
-        return CutNumber(0);
-    }
-    let pending = text.pending;
-    if pending.length != 0 {
-        return CutNumber(0);
-    }
-    let model = held.model;
-    let Listed::Done(_, k) = model else {
-        return CutNumber(0);
+    let Model::Listed(_, k) = reader.held.model else {
+        return None;
     };
-    if MAX_CUTS < k.0 {
-        return CutNumber(0);
+    if reader.text.refusal != 0 || reader.text.pending.length != 0 || MAX_CUTS < k.0 {
+        return None;
     }
-    k
+    Some(k)
 }
 
-// The words of a job by its head; not 0 only where that gives no more sizes and types than a job has.
-fn words_of(job: &[u16]) -> usize
+// How many words a job has by its head, where that gives no more sizes and types than a job has.
+fn words_of(job: &[u16]) -> Option<usize>
     requires { words_of_head ≤ length job.now }
-    ensures { (result ≡ 0 → ⊥) → WholeWords job.now result }
+    ensures { IfSome result (λ words. WholeWords job.now words) }
 {
     let head = head_of(job);
     let n = head.types;
     let t = head.sizes;
-    if MAX_TYPES < n.0 {
-        return 0;
+    if MAX_TYPES < n.0 || MAX_SIZES < t.0 {
+        return None;
     }
-    if MAX_SIZES < t.0 {
-        return 0;
-    }
-    HEAD_WORDS + SIZE_WORDS * (t.0 as usize) + ITEM_WORDS * (n.0 as usize)
+    Some(HEAD_WORDS + SIZE_WORDS * (t.0 as usize) + ITEM_WORDS * (n.0 as usize))
 }
 
 impl SawReader {
@@ -118,23 +104,14 @@ impl SawReader {
     fn in_body(self, plan: PlanLines, lines: u32) -> SawReader
         ensures { result ≡ in_body self plan lines }
     {
-        let text = self.text;
-        let held = self.held;
-        let pending = text.pending;
-        let model = held.model;
-        let prices = held.prices;
         SawReader {
             text: TextReader {
                 place: Place::Body,
                 lines,
                 refusal: 0,
-                pending,
+                ..self.text
             },
-            held: SawHeld {
-                model,
-                plan,
-                prices,
-            },
+            held: SawHeld { plan, ..self.held },
         }
     }
 
@@ -152,20 +129,16 @@ impl SawReader {
         requires longest_job_in_bounds { (longest_job ≤ length job.now) × ((plates_size ≤ length plates.now) × ((cuts_size ≤ length cuts.now) × (counts_size ≤ length counts.old))) }
         ensures { (prices : List ℕ) → ReadOn part.now from self (lent job.now plates.now cuts.now counts.old prices) result.at result.reader (lent job.now plates.now cuts.now counts.new prices) }
     {
-        let k = cuts_of(self);
-        let words = words_of(job);
-        if k.0 == 0 || words == 0 {
+        let (Some(k), Some(words)) = (cuts_of(self), words_of(job)) else {
             return LinesRead {
                 reader: self,
                 at: from,
             };
-        }
-        let text = self.text;
-        let held = self.held;
+        };
         let run = plan_run(
-            held.plan,
+            self.held.plan,
             k,
-            text.lines,
+            self.text.lines,
             part,
             from,
             &job[..words],

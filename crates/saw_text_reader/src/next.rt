@@ -4,14 +4,13 @@ ghost use Rattle.columns.specs.Widths.{most_numbers};
 ghost use Rattle.texts_reading.specs.Standing.{TextReady};
 ghost use Rattle.saw_text_reader.specs.NextLine.{NextAs};
 
-use columns::line::Complete;
 use columns::widths::{GROUP, MOST_NUMBERS};
 use texts::widths::LONGEST_LINE;
 use texts_reading::scan::line_end;
 use texts_reading::text::TextReader;
 
 // A line that ends in the part, with how many numbers it has, or not of the form, and the place of its byte 10; or none ends there, and where the search ended.
-#[derive(Clone, Copy)]
+#[derive(Clone, Copy, Debug, PartialEq, Eq)]
 pub enum Next {
     Numbers(usize, usize),
     Malformed(usize),
@@ -30,21 +29,18 @@ pub fn next_line(
     requires numbers_len { length numbers.old ≡ most_numbers }
     ensures { NextAs text part.now at numbers.new result }
 {
-    if let Complete::Numbers(k) = text.line_within(part, at, numbers) {
+    if let Some(k) = text.line_within(part, at, numbers) {
         let end = at + GROUP * k;
         return Next::Numbers(k, end);
     }
-    let pending = text.pending;
-    let begun = pending.length;
+    let begun = text.pending.length;
     let end = line_end(part, at, LONGEST_LINE - begun);
     if !text.line_ends(at, end, part.len()) {
         return Next::Rest(end);
     }
-    let line = pending.line(part, at, end + 1);
-    if !line.good {
+    let Some(found) = text.pending.line(part, at, end + 1) else {
         return Next::Malformed(end);
-    }
-    let found = line.numbers;
+    };
     *numbers = found;
     let groups = (begun + (end + 1 - at)) / GROUP;
     Next::Numbers(groups, end)

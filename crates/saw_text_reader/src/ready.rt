@@ -11,22 +11,11 @@ use texts::widths::{LONGEST_LINE, MAX_LINES};
 pub fn room(job: &[u16], plates: &[u16], cuts: &[u16], counts: &[u16], prices: &[u16]) -> bool
     ensures { (result ≡ true → Room (lent job.now plates.now cuts.now counts.now prices.now)) × (result ≡ false → Room (lent job.now plates.now cuts.now counts.now prices.now) → ⊥) }
 {
-    if job.len() < JOB_SIZE {
-        return false;
-    }
-    if plates.len() < PLATES_SIZE {
-        return false;
-    }
-    if cuts.len() < CUTS_SIZE {
-        return false;
-    }
-    if counts.len() < COUNTS_SIZE {
-        return false;
-    }
-    if prices.len() < PRICES_SIZE {
-        return false;
-    }
-    true
+    JOB_SIZE <= job.len()
+        && PLATES_SIZE <= plates.len()
+        && CUTS_SIZE <= cuts.len()
+        && COUNTS_SIZE <= counts.len()
+        && PRICES_SIZE <= prices.len()
 }
 
 impl SawReader {
@@ -41,14 +30,8 @@ impl SawReader {
     ) -> bool
         ensures { (result ≡ true → SawReady self (lent job.now plates.now cuts.now counts.now prices.now)) × (result ≡ false → SawReady self (lent job.now plates.now cuts.now counts.now prices.now) → ⊥) }
     {
-        let text = self.text;
-        let pending = text.pending;
-        if MAX_LINES < text.lines {
-            return false;
-        }
-        if LONGEST_LINE <= pending.length {
-            return false;
-        }
-        room(job, plates, cuts, counts, prices)
+        self.text.lines <= MAX_LINES
+            && self.text.pending.length < LONGEST_LINE
+            && room(job, plates, cuts, counts, prices)
     }
 }

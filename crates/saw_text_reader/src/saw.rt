@@ -9,8 +9,9 @@ ghost use Rattle.saw_text_reader.specs.SawFed.{NoneHeld, SawReady, Step, Started
 use crate::next::{Next, next_line};
 use columns::widths::MOST_NUMBERS;
 use job::head::head_of;
+use job::refused::Refusal;
 use job::words::clear;
-use listing_call::call::Listed;
+use saw_text_body::model::Model;
 use saw_text_body::plan_lines::PlanLines;
 use saw_text_body::price_lines::no_prices;
 use saw_text_lines::held::SawHeld;
@@ -29,7 +30,7 @@ fn none_held() -> SawHeld
     ensures { NoneHeld result }
 {
     SawHeld {
-        model: Listed::Refused(1, 0),
+        model: Model::Refused(1, 0),
         plan: PlanLines::none(),
         prices: no_prices(),
     }
@@ -71,29 +72,23 @@ impl SawReader {
         requires lines_lt_max_lines { self.text.lines < max_lines }
         ensures { Step (λ q. line_read saw_grammar q (some numbers.now)) self (lent job.old plates.old cuts.old counts.old prices.old) result (lent job.new plates.new cuts.new counts.new prices.new) }
     {
-        let text = self.text;
-        let held = self.held;
-        let place = text.place;
-        let lines = held.prices;
+        let place = self.text.place;
         let head = head_of(job);
-        if !sound(place, head.sizes, lines.types) {
+        if !sound(place, head.sizes, self.held.prices.types) {
             return self;
         }
-        let line = text.lines + 1;
-        let taken = take_numbers(
-            held, place, line, numbers, job, plates, cuts, counts, prices,
-        );
-        let after = taken.held;
-        if taken.refusal != 0 {
-            return SawReader {
-                text: text.refused(taken.refusal),
-                held: after,
-            };
-        }
-        let next = taken.place;
-        SawReader {
-            text: text.admitted(next),
-            held: after,
+        let line = self.text.lines + 1;
+        match take_numbers(
+            self.held, place, line, numbers, job, plates, cuts, counts, prices,
+        ) {
+            Ok(taken) => SawReader {
+                text: self.text.admitted(taken.place),
+                held: taken.held,
+            },
+            Err(refusal) => SawReader {
+                text: self.text.refused(refusal.number()),
+                ..self
+            },
         }
     }
 
@@ -113,11 +108,8 @@ impl SawReader {
         let mut reader = self;
         let mut at: usize = 0;
         while at < part.len() {
-            let text = reader.text;
-            let held = reader.held;
             let mut numbers = [0u32; MOST_NUMBERS];
-            let next = next_line(text, part, at, &mut numbers);
-            match next {
+            match next_line(reader.text, part, at, &mut numbers) {
                 Next::Numbers(k, end) => {
                     let after = reader.numbers(&numbers[..k], job, plates, cuts, counts, prices);
                     let read = after.whole_lines(part, end + 1, job, plates, cuts, counts, prices);
@@ -126,15 +118,15 @@ impl SawReader {
                 }
                 Next::Malformed(end) => {
                     reader = SawReader {
-                        text: text.refused(1),
-                        held,
+                        text: reader.text.refused(Refusal::Form.number()),
+                        ..reader
                     };
                     at = end + 1;
                 }
                 Next::Rest(end) => {
                     return SawReader {
-                        text: text.rest(part, at, end),
-                        held,
+                        text: reader.text.rest(part, at, end),
+                        ..reader
                     };
                 }
             }

@@ -30,9 +30,7 @@ impl SawReader {
         requires saw_ready { SawReady self (lent job.now plates.now cuts.now counts.old prices.old) }
         ensures { ReadOn part.now from self (lent job.now plates.now cuts.now counts.old prices.old) result.at result.reader (lent job.now plates.now cuts.now counts.new prices.new) }
     {
-        let text = self.text;
-        let place = text.place;
-        if let Place::Body = place {
+        if let Place::Body = self.text.place {
             return self.body(part, from, job, plates, cuts, counts);
         }
         self.prices(part, from, job, prices)

@@ -1,7 +1,7 @@
 -- The plan row of a saw text by what is kept of its lines 3.
 use Prim.Native.Nat.{ℕ, zero, suc, ◌≤◌, ◌<◌}
 use native.Mathlib.Omega.{arith}
-use mathlib.Core.Path.{◌≡◌, refl, ap, ◌∙◌, subst}
+use mathlib.Core.Path.{◌≡◌, refl, ap, ◌∙◌}
 use mathlib.Core.List.{List, [], ◌∷◌}
 use lib.ListN.{length}
 use Rattle.job.specs.Verdict.{Verdict, pass, refuse, ◌then◌}
@@ -12,8 +12,10 @@ use Rattle.job.proofs.CodeEnds.{given-pass}
 use Rattle.listing.specs.Listing.{Listing, max_plates}
 use Rattle.plan.specs.Plan.{boards, plan_cost, counts_row, plan_row}
 use Rattle.plan.specs.PlanCall.{boards_and_cost}
-use Rattle.plan_test.specs.declared.plan_row.PlanAnswer.{PlanAnswer}
-use Rattle.plan_test.specs.declared.plan_row.PlanAnswer.TheVariants.{Accepted, Refused}
+use Rattle.std.specs.Prelude.{Result, Ok, Err}
+use Rattle.job.specs.declared.refused.Refused.{Refused}
+use Rattle.job.specs.declared.refused.Refusal.TheVariants.{NoSuchCut, CutOrder, OtherPlate}
+use Rattle.plan_test.specs.declared.opened.Opening.{Opening}
 use Rattle.plan_test.specs.PlanSays.{says_of}
 use Rattle.texts.specs.Widths.{place_limit}
 use Rattle.texts.specs.SawText.{Counted, cuts_named, plates_shown, cuts_rising, plan_counts}
@@ -50,18 +52,18 @@ counts_whole job l first rs {counts = counts} kept h =
 
 -- what is known of an answer, by its case
 pub tested-accepted :
-    {a : PlanAnswer} {b c : ℕ} (l : Listing) (job : Job) (counts : List ℕ)
-    → a ≡ Accepted b c
+    {a : Result Opening Refused} {o : Opening} (l : Listing) (job : Job) (counts : List ℕ)
+    → a ≡ Ok o
     → Tested a l job counts
-    → ((counts_row l counts then plan_row job l counts) ≡ pass) × ((b ≡ boards l counts) × (c ≡ plan_cost job l counts))
-tested-accepted l job counts e t = subst (λ (x : PlanAnswer). Tested x l job counts) e t
+    → ((counts_row l counts then plan_row job l counts) ≡ pass) × ((o.boards ≡ boards l counts) × (o.cost ≡ plan_cost job l counts))
+tested-accepted l job counts e t = rw e at t
 
-pub fits_refused : {a : PlanAnswer} {number place : ℕ} → a ≡ Refused number place → PlaceFits (says_of a) → place < place_limit
-fits_refused e f = subst (λ (x : PlanAnswer). PlaceFits (says_of x)) e f
+pub fits_refused : {a : Result Opening Refused} {r : Refused} → a ≡ Err r → PlaceFits (says_of a) → r.place < place_limit
+fits_refused e f = rw e at f
 
 module _ (l : Listing) (ws counts : List ℕ) (p : PlanLines) where
   -- 8
-  pub told-unnamed : (p.unnamed ≡ 0 → ⊥) → p.unnamed < place_limit → PlanTold l ws counts p (Refused 8 p.unnamed)
+  pub told-unnamed : (p.unnamed ≡ 0 → ⊥) → p.unnamed < place_limit → PlanTold l ws counts p (Err (record { refusal = NoSuchCut; place = p.unnamed }))
   unfolding lines_row
   told-unnamed h s =
       record {
@@ -71,7 +73,7 @@ module _ (l : Listing) (ws counts : List ℕ) (p : PlanLines) where
       }
 
   -- 20
-  pub told-misshown : p.unnamed ≡ 0 → (p.misshown ≡ 0 → ⊥) → p.misshown < place_limit → PlanTold l ws counts p (Refused 20 p.misshown)
+  pub told-misshown : p.unnamed ≡ 0 → (p.misshown ≡ 0 → ⊥) → p.misshown < place_limit → PlanTold l ws counts p (Err (record { refusal = OtherPlate; place = p.misshown }))
   unfolding lines_row
   told-misshown z h s =
       record {
@@ -81,7 +83,7 @@ module _ (l : Listing) (ws counts : List ℕ) (p : PlanLines) where
       }
 
   -- 9
-  pub told-fallen : p.unnamed ≡ 0 → p.misshown ≡ 0 → (p.fallen ≡ 0 → ⊥) → p.fallen < place_limit → PlanTold l ws counts p (Refused 9 p.fallen)
+  pub told-fallen : p.unnamed ≡ 0 → p.misshown ≡ 0 → (p.fallen ≡ 0 → ⊥) → p.fallen < place_limit → PlanTold l ws counts p (Err (record { refusal = CutOrder; place = p.fallen }))
   unfolding lines_row
   told-fallen z y h s =
       record {
@@ -126,18 +128,18 @@ module _ (l : Listing) (ws counts : List ℕ) (p : PlanLines) where
     abbrev results : List ℕ
     results = boards_and_cost (job_of ws) l counts
 
-    tested-by : (a : PlanAnswer) → says_of a ≡ answer rows results → Tested a l (job_of ws) counts
-    tested-by (Accepted b c) e =
+    tested-by : (a : Result Opening Refused) → says_of a ≡ answer rows results → Tested a l (job_of ws) counts
+    tested-by (Ok o) e =
         let q : rows ≡ pass = given-pass rows results e in
-        let v : given (b ∷ c ∷ []) ≡ given results = rw q at e in
-        let x : b ≡ boards l counts = cc in
-        let y : c ≡ plan_cost (job_of ws) l counts = cc in
+        let v : given (o.boards ∷ o.cost ∷ []) ≡ given results = rw q at e in
+        let x : o.boards ≡ boards l counts = cc in
+        let y : o.cost ≡ plan_cost (job_of ws) l counts = cc in
         (q, (x, y))
-    tested-by (Refused number place) e = tt
+    tested-by (Err r) e = tt
 
     -- 10, 11 and 12
     pub told-tested :
-        (a : PlanAnswer)
+        (a : Result Opening Refused)
         → length (job_of ws).items ≤ max_types
         → 1 ≤ l.sizes
         → length l.plates ≤ max_plates

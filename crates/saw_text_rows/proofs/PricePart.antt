@@ -1,5 +1,6 @@
 -- The prices row of a saw text by what is kept of its lines 4, 5 and 6.
 use Prim.Native.Nat.{ℕ, ◌+◌, ◌-◌}
+use native.Mathlib.Decide.{ℕ_discrete}
 use native.Mathlib.Omega.{arith}
 use mathlib.Core.Path.{◌≡◌, refl, sym, ap, ◌∙◌}
 use mathlib.Core.Bool.{Bool, true, false, not, ◌||◌}
@@ -37,16 +38,15 @@ module _ (job : Job) (l : Listing) (ps : PriceLines) (p : CodePrices) (buffer : 
   unfolding residual_types
   residuals-are = omega (arith, sizes, types)
 
-  -- 13: another n
-  pub other-types : (p.types.0 ≡ n → ⊥) → refused 13 0 ≡ answer (price_lines_row job l (some ps)) (results job (some ps))
+  -- 13: another n or another m
+  pub other-numbers : ((p.types.0 ≡ n) × (p.residuals ≡ m - t) → ⊥) → refused 13 0 ≡ answer (price_lines_row job l (some ps)) (results job (some ps))
   unfolding price_lines_row model_sized
-  other-types h = rw (ne_eqb ps.types (length job.items) (λ e. h (g.types ∙ e ∙ items)))
-
-  -- 13: another m
-  pub other-residuals : (p.residuals ≡ m - t → ⊥) → refused 13 0 ≡ answer (price_lines_row job l (some ps)) (results job (some ps))
-  unfolding price_lines_row model_sized
-  other-residuals h =
-      rw (ne_eqb ps.residuals (residual_types l) (λ e. h (g.residuals ∙ e ∙ residuals-are)), or-last (not (eqb ps.types (length job.items))))
+  other-numbers h = go (ℕ_discrete ps.types (length job.items)) (ℕ_discrete ps.residuals (residual_types l))
+    where
+      go : Dec (ps.types ≡ length job.items) → Dec (ps.residuals ≡ residual_types l) → refused 13 0 ≡ answer (price_lines_row job l (some ps)) (results job (some ps))
+      go (no q) d = rw (ne_eqb ps.types (length job.items) q)
+      go (yes q) (no z) = rw (ne_eqb ps.residuals (residual_types l) z, or-last (not (eqb ps.types (length job.items))))
+      go (yes q) (yes z) = absurd (h (g.types ∙ q ∙ items, g.residuals ∙ z ∙ residuals-are))
 
   module _ (te : p.types.0 ≡ n) (r : p.residuals ≡ m - t) where
     -- both are the model's

@@ -1,5 +1,5 @@
 -- Document 01, "Where each number is given": the plan row and the prices row of a saw text, and what the code knows of them.
-use Rattle.std.specs.Prelude.{ℕ, ◌+◌, ◌<◌, ◌≡◌, true, false, List, length}
+use Rattle.std.specs.Prelude.{Result, Ok, Err, ℕ, ◌+◌, ◌<◌, ◌≡◌, true, false, List, length}
 use Rattle.std.proofs.Math.Option.{Option, none, some}
 use Rattle.job.specs.Verdict.{Verdict, pass, ◌then◌}
 use Rattle.job.specs.Buffers.{Answer, given, refused, answer}
@@ -9,8 +9,8 @@ use Rattle.listing.specs.Holds.{Holds}
 use Rattle.plan.specs.Plan.{boards, plan_cost, counts_row, plan_row}
 use Rattle.plan.specs.Prices.{price_words}
 use Rattle.plan.specs.PlanCall.{boards_and_cost}
-use Rattle.plan_test.specs.declared.plan_row.PlanAnswer.{PlanAnswer}
-use Rattle.plan_test.specs.declared.plan_row.PlanAnswer.TheVariants.{Accepted, Refused}
+use Rattle.job.specs.declared.refused.Refused.{Refused}
+use Rattle.plan_test.specs.declared.opened.Opening.{Opening}
 use Rattle.plan_test.specs.PlanSays.{says_of}
 use Rattle.texts.specs.Widths.{place_limit}
 use Rattle.texts.specs.JobLines.{body_line}
@@ -44,12 +44,12 @@ PlaceFits (given results) = Unit {0}
 PlaceFits (refused number place) = place < place_limit
 
 -- what is known of an accepted plan: its counts, as words, pass their rows, open that many boards, and these cost so much (request Six)
-abbrev pub Tested : PlanAnswer → Listing → Job → List ℕ → Type 0
-Tested (Accepted b c) l job counts = ((counts_row l counts then plan_row job l counts) ≡ pass) × ((b ≡ boards l counts) × (c ≡ plan_cost job l counts))
-Tested (Refused number place) l job counts = Unit {0}
+abbrev pub Tested : Result Opening Refused → Listing → Job → List ℕ → Type 0
+Tested (Ok o) l job counts = ((counts_row l counts then plan_row job l counts) ≡ pass) × ((o.boards ≡ boards l counts) × (o.cost ≡ plan_cost job l counts))
+Tested (Err r) l job counts = Unit {0}
 
 -- what the code says of the lines 3 that it keeps, of a job with the words ws
-pub record PlanTold (l : Listing) (ws counts : List ℕ) (p : PlanLines) (a : PlanAnswer) : Type 0 where
+pub record PlanTold (l : Listing) (ws counts : List ℕ) (p : PlanLines) (a : Result Opening Refused) : Type 0 where
   pub says :
       (first : ℕ) (rs : List Counted)
       → PlanKept l first rs p counts

@@ -6,16 +6,9 @@ ghost use Rattle.texts_reading.specs.Standing.{place_of};
 use texts_reading::text::Place;
 
 // Whether a saw text may end where it stands: in its body, or after all of its prices.
+#[tactic(auto, unfolding(texts::specs::SawText::saw_complete))]
 pub fn may_end(place: Place) -> bool
     ensures { (s : Saw) → place_of place ≡ s.place → saw_complete s ≡ result }
 {
-    match place {
-        Place::First => false,
-        Place::Sizes(_) => false,
-        Place::Types(_) => false,
-        Place::Body => true,
-        Place::ItemPrices(_) => false,
-        Place::PlatePrices(_) => false,
-        Place::Done => true,
-    }
+    matches!(place, Place::Body | Place::Done)
 }

@@ -14,7 +14,7 @@ ghost use Rattle.texts_writing.specs.Wrote.{Wrote, summary_line, longest_saw};
 
 use job::counters::CutNumber;
 use texts_writing::output::write_unfolding;
-use unfold_call::call::{Unfolded, unfold_plan};
+use unfold_call::call::unfold_plan;
 use unfold_offcut::Lengths;
 
 // Unfolds an accepted plan, whose boards cost so much, over a listing of k cuts, and writes its lines 7 and line 8; their end is handed back. A saw
@@ -42,7 +42,7 @@ pub fn write_plan(
         second: 1,
     };
     let mut unlisted = [0u16; 1];
-    match unfold_plan(
+    let ran = unfold_plan(
         job,
         counts,
         plates,
@@ -51,10 +51,6 @@ pub fn write_plan(
         lengths,
         placements,
         &mut unlisted,
-    ) {
-        Unfolded::Refused(_, _) => 0,
-        Unfolded::Done(_, pieces, _) => {
-            write_unfolding(out, placements, pieces as usize, cost, sum, d)
-        }
-    }
+    );
+    write_unfolding(out, placements, ran.pieces as usize, cost, sum, d)
 }

@@ -1,5 +1,5 @@
 // The two texts handed over in parts, as the tests call them: a text's parts end at the places `ends`. Whatever these are, the answer is that of the whole
-// text.
+// text. The other words are arrays of full size on the stack, by the rule of no heap and fixed memory.
 #![tactic(auto)]
 
 ghost use Rattle.texts.specs.SawText.{saw_text};

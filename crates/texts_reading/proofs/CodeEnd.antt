@@ -7,13 +7,13 @@ use mathlib.Core.List.{List, [], ◌∷◌}
 use lib.Dec.{eqb}
 use lib.ListN.{length}
 use borrow.Author.Tests.{eq-eqb, ne_eqb}
-use Rattle.job.specs.declared.row.Row.{Row}
-use Rattle.job.specs.declared.row.Row.TheVariants.{Refuses}
+use Rattle.std.specs.Prelude.{Result, Err}
 use Rattle.job.specs.Lists.{non_empty}
 use Rattle.job.specs.Verdict.{pass, refuse}
 use Rattle.texts.specs.Reader.{Grammar, Reader, text_row}
 use Rattle.texts.specs.JobLines as definition
 use Rattle.texts_reading.specs.declared.text.TextReader.{TextReader}
+use Rattle.texts_reading.specs.declared.line_row.LineRefused.{LineRefused}
 use Rattle.texts_reading.specs.Judged.{line_verdict}
 use Rattle.texts_reading.specs.Standing.{TextKept}
 use Rattle.texts_reading.specs.TextEnd.{end_row, LineNamed}
@@ -51,7 +51,7 @@ module _ (t : TextReader) (whole : Bool) where
       end-missing h = rw (passed, eq-eqb t.pending.length 0 ended, h, next)
 
 -- the line that a refusal names
-pub line-named : {row : Row} {number place : ℕ} (lines : ℕ) → row ≡ Refuses number place → LineNamed lines row → place ≡ suc lines
+pub line-named : {row : Result (Unit {0}) LineRefused} {r : LineRefused} (lines : ℕ) → row ≡ Err r → LineNamed lines row → r.place ≡ suc lines
 line-named lines e h = subst (LineNamed lines) e h
 
 -- ---- as the definition's reader says it

@@ -7,17 +7,51 @@ use native.Mathlib.Omega.{arith}
 use lib.ListN.{length, get_or, take, drop, length-drop}
 use lib.Seq.{drop-append_seam}
 use Rattle.job.specs.Sizes.{words_of_head, words_of_size, words_of_item, words_before, job_size, word_of_type}
+use Rattle.std.specs.Prelude.{Result, Ok, Err}
+use Rattle.job.specs.declared.refused.Refusal.{Refusal}
+use Rattle.job.specs.declared.refused.Refusal.TheVariants.{Form, Limits, ItemLarger, Demands, BufferShort, PlatesMany, CutsMany, NoSuchCut, CutOrder, Total, ItemShort, Overdrawn, PricesNumber, CutOverLimit, Turn, Stages, PastBoard, Position, TurnedWithoutLeave, OtherPlate}
+use Rattle.job.specs.Refused.{number_of}
 use Rattle.job.specs.Verdict.{Verdict, pass}
 use Rattle.columns.specs.Group.{put}
 use Rattle.texts.specs.Shape.{Limit, ◌to◌, Shape, job_line, size_line, item_line, numbers_row}
 use Rattle.texts.specs.JobLines.{board_sizes, types_of}
 use Rattle.texts.specs.Admitted.{InLimits, OfShape}
 use Rattle.texts.proofs.ShapeLaws.{row-admitted, shape-groups}
-use Rattle.texts_reading.specs.Judged.{line_verdict}
+use Rattle.texts_reading.specs.Judged.{line_verdict, number_said}
 use Rattle.texts_reading.specs.JobRead.{SameHead, FirstRead, SizeRead, ItemRead}
 use Rattle.texts_reading.proofs.CodeWords.{put-held, put-before, put-here, part-rest}
 
 -- ---- numbers that pass
+
+-- no refusal has the number 0
+pub refusal-number : (r : Refusal) → number_of r ≡ 0 → ⊥
+refusal-number Form e = cc
+refusal-number Limits e = cc
+refusal-number ItemLarger e = cc
+refusal-number Demands e = cc
+refusal-number BufferShort e = cc
+refusal-number PlatesMany e = cc
+refusal-number CutsMany e = cc
+refusal-number NoSuchCut e = cc
+refusal-number CutOrder e = cc
+refusal-number Total e = cc
+refusal-number ItemShort e = cc
+refusal-number Overdrawn e = cc
+refusal-number PricesNumber e = cc
+refusal-number CutOverLimit e = cc
+refusal-number Turn e = cc
+refusal-number Stages e = cc
+refusal-number PastBoard e = cc
+refusal-number Position e = cc
+refusal-number TurnedWithoutLeave e = cc
+refusal-number OtherPlate e = cc
+
+-- what a check that refuses says is not 0
+pub said-refused : {x : Result (Unit {0}) Refusal} {r : Refusal} → x ≡ Err r → number_said x ≡ 0 → ⊥
+said-refused {x} {r} e z = refusal-number r (sym (ap number_said e) ∙ z)
+
+pub said-passed : {x : Result (Unit {0}) Refusal} {u : Unit {0}} → x ≡ Ok u → number_said x ≡ 0
+said-passed e = ap number_said e
 
 -- no refusal is a pass
 pub passed : (line : ℕ) {r : ℕ} {v : Verdict} → r ≡ 0 → line_verdict r line ≡ v → v ≡ pass
@@ -69,9 +103,6 @@ module _ (s : Shape) (ns : List ℕ) (a : ℕ) (e : suc (length s.running) ≡ a
 -- ---- line 1
 
 module _ (ns job : List ℕ) (r : ℕ) (row : (line : ℕ) → line_verdict r line ≡ numbers_row line (job_line ∷ []) ns) where
-  pub first-refused : (r ≡ 0 → ⊥) → FirstRead ns job job r
-  first-refused n = record { row = row; unchanged = λ q. refl; read = λ e. absurd (n e); sizes = λ e. absurd (n e); types = λ e. absurd (n e) }
-
   pub first-shape : r ≡ 0 → OfShape job_line ns
   first-shape e = of-shape 1 job_line ns (passed 1 e (row 1))
 
@@ -102,9 +133,6 @@ put_same job xs at low high p =
 -- ---- line 10
 
 module _ (j : ℕ) (ns job : List ℕ) (r : ℕ) (row : (line : ℕ) → line_verdict r line ≡ numbers_row line (size_line j ∷ []) ns) where
-  pub size-refused : (r ≡ 0 → ⊥) → SizeRead j ns job job r
-  size-refused n = record { row = row; unchanged = λ q. refl; read = λ e. absurd (n e); same = λ e. absurd (n e) }
-
   pub size-shape : r ≡ 0 → OfShape (size_line j) ns
   size-shape e = of-shape 1 (size_line j) ns (passed 1 e (row 1))
 
@@ -123,9 +151,6 @@ module _ (j : ℕ) (ns job : List ℕ) (r : ℕ) (row : (line : ℕ) → line_ve
 -- ---- line 2
 
 module _ (i : ℕ) (ns job : List ℕ) (r : ℕ) (row : (line : ℕ) → line_verdict r line ≡ numbers_row line (item_line i ∷ []) ns) where
-  pub item_refused : (r ≡ 0 → ⊥) → ItemRead i ns job job r
-  item_refused n = record { row = row; unchanged = λ q. refl; read = λ e. absurd (n e); same = λ e. absurd (n e) }
-
   pub item-shape : r ≡ 0 → OfShape (item_line i) ns
   item-shape e = of-shape 1 (item_line i) ns (passed 1 e (row 1))
 

@@ -9,24 +9,19 @@ use lib.Dec.{eqb}
 use lib.ListN.{length, get_or, drop, drop_of_length-le}
 use lib.Seq.{drop-cons}
 use borrow.Author.Tests.{eq-eqb, ne_eqb, le-leb, lt-leb}
+use Rattle.std.specs.Prelude.{nat_eq}
+use Rattle.std.specs.List.{starts_with}
 use Rattle.job.specs.Verdict.{Verdict, pass, refuse, ◌then◌, refuse_if}
 use Rattle.texts.specs.Shape.{begins, formed, each_within, values, numbers_row}
 use Rattle.texts_reading.specs.Judged.{limits_of, shape_of}
 
 -- ---- the kind and the running number
 
-module _ (head ns : List ℕ) (i : ℕ) {b : Bool} (r : b ≡ begins (drop i head) (drop i ns)) where
-  pub begins-next : i < length head → i < length ns → get_or head i 0 ≡ get_or ns i 0 → b ≡ begins (drop (i + 1) head) (drop (i + 1) ns)
-  unfolding begins
-  begins-next p q e = r ∙ rw (drop-cons head i 0 p, drop-cons ns i 0 q, begins, eq-eqb (get_or head i 0) (get_or ns i 0) e, add-one i)
-
-  pub begins-not : i < length head → i < length ns → (get_or head i 0 ≡ get_or ns i 0 → ⊥) → b ≡ false
-  unfolding begins
-  begins-not p q e = r ∙ rw (drop-cons head i 0 p, drop-cons ns i 0 q, begins, ne_eqb (get_or head i 0) (get_or ns i 0) e)
-
-  pub begins-all : length head ≤ i → b ≡ true
-  unfolding begins
-  begins-all p = r ∙ rw (drop_of_length-le head p)
+pub begins-starts : (head ns : List ℕ) → starts_with nat_eq ns head ≡ begins head ns
+unfolding begins
+begins-starts [] ns = refl
+begins-starts (h ∷ head) [] = refl
+begins-starts (h ∷ head) (n ∷ ns) = ap (λ (b : Bool). eqb h n && b) (begins-starts head ns)
 
 -- ---- the limits
 

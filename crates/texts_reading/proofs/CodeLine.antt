@@ -1,10 +1,10 @@
 -- A line that is whole: by its length the number of its numbers; behind the bytes that were pending, or in place.
 use Prim.Native.Nat.{ℕ, ◌+◌, ◌-◌, ◌/◌, ◌≤◌}
 use mathlib.Core.Path.{◌≡◌, refl, sym, ap, ◌∙◌}
-use mathlib.Core.Bool.{true, false}
 use mathlib.Core.List.{List, [], ◌∷◌, ◌++◌}
 use mathlib.Core.Option.{Option, none, some}
 use native.Mathlib.Omega.{arith}
+use Rattle.std.specs.Prelude.{Option as Option·std, Some, None, IfSome}
 use lib.ListN.{length, take, drop, replicate, length-append, length-take, length-drop, length-replicate}
 use lib.Seq.{take_at}
 use borrow.Author.Tests.{eq-eqb, ne_eqb}
@@ -13,7 +13,7 @@ use Rattle.job.proofs.Buffers.{filled-length}
 use Rattle.columns.specs.Widths.{group_bytes, most_numbers, line_bytes}
 use Rattle.columns.specs.Group.{put}
 use Rattle.texts.specs.Reader.{longest_line}
-use Rattle.columns.specs.Line.{numbers_of, read_line, malformed_line, line_from}
+use Rattle.columns.specs.Line.{numbers_of, read_line, line_from}
 use Rattle.columns.proofs.LineLaws.{numbers-take, length-line}
 use Rattle.columns.proofs.LineLaws.{line-numbers as numbers-of-line}
 use Rattle.columns.proofs.ReadLaws.{written_read}
@@ -23,7 +23,7 @@ use Rattle.texts_reading.specs.Begun.{Begun}
 use Rattle.texts_reading.proofs.CodeWords.{put-filled}
 
 module _ (s : List ℕ) (at n : ℕ) (h : at + n ≤ length s) where
-  pub line-unequal : (n ≡ line_bytes (n / group_bytes) → ⊥) → malformed_line ≡ line_from (read_line (take n (drop at s)))
+  pub line-unequal : (n ≡ line_bytes (n / group_bytes) → ⊥) → ◌≡◌ {A = Option·std (List ℕ)} None (line_from (read_line (take n (drop at s))))
   unfolding read_line
   line-unequal d = rw (part_length s at n h, read_line, ne_eqb n (line_bytes (n / group_bytes)) d)
 
@@ -32,11 +32,11 @@ module _ (s : List ℕ) (at n : ℕ) (h : at + n ≤ length s) where
   line-equal e = rw (part_length s at n h, read_line, eq-eqb n (line_bytes (n / group_bytes)) e, part_length s at n h, numbers-take (n / group_bytes) n (drop at s) (omega arith))
 
 -- the numbers and zeros of a line are nine
-pub line-most : (k : ℕ) (bs : List ℕ) → k ≤ most_numbers → length (line_from (numbers_of k bs)).numbers ≡ most_numbers
+pub line-most : (k : ℕ) (bs : List ℕ) → k ≤ most_numbers → IfSome (line_from (numbers_of k bs)) (λ ns. length ns ≡ most_numbers)
 line-most k bs h = go (numbers_of k bs) refl
   where
-    go : (o : Option (List ℕ)) → numbers_of k bs ≡ o → length (line_from o).numbers ≡ most_numbers
-    go none e = refl
+    go : (o : Option (List ℕ)) → numbers_of k bs ≡ o → IfSome (line_from o) (λ ns. length ns ≡ most_numbers)
+    go none e = tt
     go (some ns) e = let n = (numbers-of-line k bs ns e).0 in simp (length-append, length-replicate) (omega arith)
 
 -- ---- behind the bytes that were pending
@@ -71,21 +71,22 @@ begun-size p bs b h = ap length b.bytes ∙ filled-length longest_line bs h
 
 -- ---- the numbers of a line that is of the form
 
-pub line-not : (o : Option (List ℕ)) → (line_from o).good ≡ false → o ≡ none
+pub line-not : (o : Option (List ℕ)) → line_from o ≡ None → o ≡ none
 line-not none e = refl
-line-not (some ns) e = let z : ◌≡◌ {A = ℕ} 0 1 = cc in absurd (omega arith)
+line-not (some ns) e = cc
 
 -- its numbers, and no others, are as many as its length says
 pub record Numbers (bs numbers ns : List ℕ) : Type 0 where
   pub read : read_line bs ≡ some ns
   pub held : take (length bs / group_bytes) numbers ≡ ns
 
-pub line-numbers : (bs : List ℕ) → (line_from (read_line bs)).good ≡ true → (ns : List ℕ) × Numbers bs (line_from (read_line bs)).numbers ns
-line-numbers bs h = go (read_line bs) refl h
+pub line-numbers : (bs numbers : List ℕ) → line_from (read_line bs) ≡ Some numbers → (ns : List ℕ) × Numbers bs numbers ns
+line-numbers bs numbers h = go (read_line bs) refl h
   where
-    go : (o : Option (List ℕ)) → read_line bs ≡ o → (line_from o).good ≡ true → (ns : List ℕ) × Numbers bs (line_from o).numbers ns
-    go none e q = let z : ◌≡◌ {A = ℕ} 0 1 = cc in absurd (omega arith)
+    go : (o : Option (List ℕ)) → read_line bs ≡ o → line_from o ≡ Some numbers → (ns : List ℕ) × Numbers bs numbers ns
+    go none e q = cc
     go (some ns) e q =
+        let z : ns ++ replicate (most_numbers - length ns) 0 ≡ numbers = cc in
         let n : length bs ≡ line_bytes (length ns) = ap length (written_read bs ns e).0 ∙ length-line ns in
         let k : length ns ≡ length bs / group_bytes = omega arith in
-        (ns, record { read = e; held = take_at ns (replicate (most_numbers - length ns) 0) (length bs / group_bytes) k })
+        (ns, record { read = e; held = rw (← z) (take_at ns (replicate (most_numbers - length ns) 0) (length bs / group_bytes) k) })

@@ -8,7 +8,7 @@ use native.Mathlib.Omega.{arith}
 use lib.Dec.{eqb, ltb}
 use lib.ListN.{length, get_or, take, drop, length-append, length-take, length-drop, take-append-drop}
 use lib.Seq.{drop-cons, drop-drop, take_all, take-suc, get_or-take, get_or-drop}
-use borrow.Author.Tests.{eqb-true, eq-eqb, ne_eqb, ltb-true, ltb-false, lt-ltb, le-ltb}
+use borrow.Author.Tests.{eqb-true, eq-eqb, ltb-true, ltb-false, lt-ltb}
 use Rattle.job.specs.Verdict.{Verdict, pass, refuse}
 use Rattle.columns.specs.Line.{read_line}
 use Rattle.columns.proofs.ReadLaws.{Inner}
@@ -26,18 +26,6 @@ use Rattle.texts_reading.specs.Standing.{place_of, TextAt, TextKept, TextReady, 
 -- ---- whether a line ends
 
 module _ (t : TextReader) (at end size : ℕ) where
-  pub ends-refused : (t.refusal ≡ 0 → ⊥) → false ≡ line_ends t at end size
-  unfolding line_ends
-  ends-refused h = rw (ne_eqb t.refusal 0 h)
-
-  pub ends-over : t.refusal ≡ 0 → max_lines ≤ t.lines → false ≡ line_ends t at end size
-  unfolding line_ends
-  ends-over h l = rw (eq-eqb t.refusal 0 h, le-ltb t.lines max_lines l)
-
-  pub ends-long : t.refusal ≡ 0 → t.lines < max_lines → longest_line ≤ end - at + t.pending.length → false ≡ line_ends t at end size
-  unfolding line_ends
-  ends-long h l n = rw (eq-eqb t.refusal 0 h, lt-ltb t.lines max_lines l, le-ltb (end - at + t.pending.length) longest_line n)
-
   pub ends-size : t.refusal ≡ 0 → t.lines < max_lines → end - at + t.pending.length < longest_line → ltb end size ≡ line_ends t at end size
   unfolding line_ends
   ends-size h l n = rw (eq-eqb t.refusal 0 h, lt-ltb t.lines max_lines l, lt-ltb (end - at + t.pending.length) longest_line n)

@@ -21,9 +21,6 @@ module _ (d ns : List ℕ) (at i : ℕ) (h : at + length ns ≤ length d) where
       let f = put-more d at (take i ns) (get_or ns i 0) (omega arith) in
       rw (add-one i, take-suc ns i 0 l) (rw e at f)
 
-  pub put_all : length ns ≤ i → put d at (take i ns) ≡ put d at ns
-  put_all l = rw (take_all i ns l)
-
 -- ---- behind the words that a buffer holds
 
 pub put-filled : (n : ℕ) (ws xs : List ℕ) (at : ℕ) → length ws ≡ at → put (filled n ws) at xs ≡ filled n (ws ++ xs)

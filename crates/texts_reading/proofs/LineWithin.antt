@@ -8,8 +8,7 @@ use lib.ListN.{length, get_or, take, drop, length-append, length-drop}
 use lib.Seq.{get_or-drop, take_at}
 use borrow.Author.Tests.{lt-ltb}
 use Rattle.columns.specs.Widths.{group_bytes, most_numbers, line_bytes}
-use Rattle.columns.specs.declared.line.Complete.{Complete}
-use Rattle.columns.specs.declared.line.Complete.TheVariants.{Numbers, Nothing}
+use Rattle.std.specs.Prelude.{Option, Some, None}
 use Rattle.columns.specs.Line.{numbers_of, read_line, CompleteAs}
 use Rattle.columns.proofs.LineLaws.{line-fits}
 use Rattle.columns.proofs.LineLaws.{line-numbers as numbers-of-line}
@@ -57,8 +56,8 @@ pub within :
     → t.lines < max_lines
     → t.pending.length ≡ 0
     → length was ≡ most_numbers
-    → (r : Complete)
+    → (r : Option ℕ)
     → CompleteAs (drop at part) was numbers r
     → Within t part at numbers r
-within t part at was numbers goes few none nine (Numbers k) (h, line) = line-within part at k line.0 line.1 t goes few none h was numbers nine line.2
-within t part at was numbers goes few none nine Nothing n = tt
+within t part at was numbers goes few none nine (Some k) (h, line) = line-within part at k line.0 line.1 t goes few none h was numbers nine line.2
+within t part at was numbers goes few none nine None n = tt

@@ -12,7 +12,7 @@ pub record SameHead (job job' : List ℕ) : Type 0 where
   pub sizes : board_sizes job' ≡ board_sizes job
   pub types : types_of job' ≡ types_of job
 
--- line 1 with the numbers ns, over a job's words that become others; r is its refusal, or 0
+-- line 1 with the numbers ns, over a job's words that become others; r is the number of its refusal, or 0
 pub record FirstRead (ns job job' : List ℕ) (r : ℕ) : Type 0 where
   pub row : (line : ℕ) → line_verdict r line ≡ numbers_row line (job_line ∷ []) ns
   -- refused, it changes no word

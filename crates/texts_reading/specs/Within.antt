@@ -1,9 +1,7 @@
 -- Document 01, "Texts": a line of the form that begins and ends in a part.
-use Rattle.std.specs.Prelude.{ℕ, ◌+◌, ◌-◌, ◌*◌, ◌≤◌, ◌≡◌, true, List, ◌++◌, length, take, drop}
+use Rattle.std.specs.Prelude.{ℕ, ◌+◌, ◌-◌, ◌*◌, ◌≤◌, ◌≡◌, true, List, ◌++◌, length, take, drop, Option, Some, None}
 use Rattle.std.proofs.Math.Option.{some}
 use Rattle.columns.specs.Widths.{group_bytes, most_numbers}
-use Rattle.columns.specs.declared.line.Complete.{Complete}
-use Rattle.columns.specs.declared.line.Complete.TheVariants.{Numbers, Nothing}
 use Rattle.columns.specs.Line.{read_line}
 use Rattle.texts.specs.Reader.{longest_line}
 use Rattle.texts_reading.specs.declared.text.TextReader.{TextReader}
@@ -23,6 +21,6 @@ pub record LineWithin (t : TextReader) (part : List ℕ) (at : ℕ) (numbers : L
       → read_line (bs ++ take (at + group_bytes * k + 1 - at) (drop at part)) ≡ some (take k numbers)
 
 -- what is said where such a line is found; where none is, nothing is said
-abbrev pub Within : TextReader → List ℕ → ℕ → List ℕ → Complete → Type 0
-Within t part at numbers (Numbers k) = LineWithin t part at numbers k
-Within t part at numbers Nothing = Unit {0}
+abbrev pub Within : TextReader → List ℕ → ℕ → List ℕ → Option ℕ → Type 0
+Within t part at numbers (Some k) = LineWithin t part at numbers k
+Within t part at numbers None = Unit {0}

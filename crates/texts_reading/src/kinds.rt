@@ -1,12 +1,13 @@
-// The kinds of lines: each gives the refusal of a line's numbers, 0 where there is none.
+// The kinds of lines: each judges a line's numbers.
 ghost use Rattle.std.specs.Prelude.{◌≡◌, [], ◌∷◌, ℕ, ◌-◌, ◌≤◌, length};
 ghost use Rattle.job.specs.Sizes.{words_of_head};
 ghost use Rattle.texts.specs.Shape.{job_line, size_line, item_line, plan_line, prices_line, item_price_line, plate_price_line, layout_line, numbers_row};
-ghost use Rattle.texts_reading.specs.Judged.{line_verdict};
+ghost use Rattle.texts_reading.specs.Judged.{line_verdict, number_said};
 
 use crate::judge::judge;
 use crate::turns::judge_turn;
 use job::counters::{ItemType, PlateType};
+use job::refused::Refusal;
 use job::sizes::{
     MAX_BLADE, MAX_COST, MAX_PIECES, MAX_PRICE, MAX_RESIDUALS, MAX_SIDE, MAX_SIZES, MAX_TYPES,
     SIZES, TYPES,
@@ -32,8 +33,8 @@ const RESIDUALS_LIMIT: u32 = MAX_RESIDUALS as u32;
 const COLUMNS_LIMIT: u32 = 999_999_999;
 
 // Kind 1: stages, exact, t, n, b.
-pub fn job_line(numbers: &[u32]) -> u16
-    ensures { (line : ℕ) → line_verdict result line ≡ numbers_row line (job_line ∷ []) numbers.now }
+pub fn job_line(numbers: &[u32]) -> Result<(), Refusal>
+    ensures { (line : ℕ) → line_verdict (number_said result) line ≡ numbers_row line (job_line ∷ []) numbers.now }
 {
     let head = [1u32];
     let low = [2u32, 0, 1, 1, 0];
@@ -42,8 +43,8 @@ pub fn job_line(numbers: &[u32]) -> u16
 }
 
 // Kind 10 of size j: W, H, cost.
-pub fn size_line(numbers: &[u32], j: PlateType) -> u16
-    ensures { (line : ℕ) → line_verdict result line ≡ numbers_row line (size_line j.0 ∷ []) numbers.now }
+pub fn size_line(numbers: &[u32], j: PlateType) -> Result<(), Refusal>
+    ensures { (line : ℕ) → line_verdict (number_said result) line ≡ numbers_row line (size_line j.0 ∷ []) numbers.now }
 {
     let head = [10, j.0 as u32];
     let low = [1u32, 1, 1];
@@ -52,8 +53,8 @@ pub fn size_line(numbers: &[u32], j: PlateType) -> u16
 }
 
 // Kind 2 of type i: width, height, demand, leave.
-pub fn item_line(numbers: &[u32], i: ItemType) -> u16
-    ensures { (line : ℕ) → line_verdict result line ≡ numbers_row line (item_line i.0 ∷ []) numbers.now }
+pub fn item_line(numbers: &[u32], i: ItemType) -> Result<(), Refusal>
+    ensures { (line : ℕ) → line_verdict (number_said result) line ≡ numbers_row line (item_line i.0 ∷ []) numbers.now }
 {
     let head = [2, i.0 as u32];
     let low = [1u32, 1, 1, 0];
@@ -62,9 +63,9 @@ pub fn item_line(numbers: &[u32], i: ItemType) -> u16
 }
 
 // Kind 3 of a job's words: plate, item, count, the plate's width, height and stage, turn. The three that show the plate have no limits of their own.
-pub fn plan_line(numbers: &[u32], job: &[u16]) -> u16
+pub fn plan_line(numbers: &[u32], job: &[u16]) -> Result<(), Refusal>
     requires { words_of_head ≤ length job.now }
-    ensures { (line : ℕ) → line_verdict result line ≡ numbers_row line (plan_line job.now ∷ []) numbers.now }
+    ensures { (line : ℕ) → line_verdict (number_said result) line ≡ numbers_row line (plan_line job.now ∷ []) numbers.now }
 {
     let low = [0u32, 1, 1, 0, 0, 0, 0];
     let high = [
@@ -80,8 +81,8 @@ pub fn plan_line(numbers: &[u32], job: &[u16]) -> u16
 }
 
 // Kind 4: D, n, m.
-pub fn prices_line(numbers: &[u32]) -> u16
-    ensures { (line : ℕ) → line_verdict result line ≡ numbers_row line (prices_line ∷ []) numbers.now }
+pub fn prices_line(numbers: &[u32]) -> Result<(), Refusal>
+    ensures { (line : ℕ) → line_verdict (number_said result) line ≡ numbers_row line (prices_line ∷ []) numbers.now }
 {
     let head = [4u32];
     let low = [1u32, 1, 0];
@@ -90,8 +91,8 @@ pub fn prices_line(numbers: &[u32]) -> u16
 }
 
 // Kind 5 of type i: price.
-pub fn item_price_line(numbers: &[u32], i: ItemType) -> u16
-    ensures { (line : ℕ) → line_verdict result line ≡ numbers_row line (item_price_line i.0 ∷ []) numbers.now }
+pub fn item_price_line(numbers: &[u32], i: ItemType) -> Result<(), Refusal>
+    ensures { (line : ℕ) → line_verdict (number_said result) line ≡ numbers_row line (item_price_line i.0 ∷ []) numbers.now }
 {
     let head = [5, i.0 as u32];
     let low = [0u32];
@@ -100,8 +101,8 @@ pub fn item_price_line(numbers: &[u32], i: ItemType) -> u16
 }
 
 // Kind 6 of plate type j: price.
-pub fn plate_price_line(numbers: &[u32], j: PlateType) -> u16
-    ensures { (line : ℕ) → line_verdict result line ≡ numbers_row line (plate_price_line j.0 ∷ []) numbers.now }
+pub fn plate_price_line(numbers: &[u32], j: PlateType) -> Result<(), Refusal>
+    ensures { (line : ℕ) → line_verdict (number_said result) line ≡ numbers_row line (plate_price_line j.0 ∷ []) numbers.now }
 {
     let head = [6, j.0 as u32];
     let low = [0u32];
@@ -120,9 +121,9 @@ fn last_size(t: u16) -> u32
 }
 
 // Kind 7 of a job's words: board, size, strip, stack, place, type, x, y, turn.
-pub fn layout_line(numbers: &[u32], job: &[u16]) -> u16
+pub fn layout_line(numbers: &[u32], job: &[u16]) -> Result<(), Refusal>
     requires { words_of_head ≤ length job.now }
-    ensures { (line : ℕ) → line_verdict result line ≡ numbers_row line (layout_line job.now ∷ []) numbers.now }
+    ensures { (line : ℕ) → line_verdict (number_said result) line ≡ numbers_row line (layout_line job.now ∷ []) numbers.now }
 {
     let low = [1u32, 0, 1, 1, 1, 1, 0, 0, 0];
     let high = [

@@ -6,13 +6,14 @@ ghost use Rattle.texts_reading.specs.Standing.{TextAt, TextReady, line_ends, Res
 ghost use Rattle.texts_reading.specs.Within.{Within};
 
 use crate::pending::Pending;
-use columns::line::{Complete, complete_line};
+use columns::line::complete_line;
 use columns::widths::MOST_NUMBERS;
 use job::counters::{ItemType, PlateType};
+use job::refused::Refusal;
 use texts::widths::{LONGEST_LINE, MAX_LINES};
 
 // What comes next: line 1, line 10 of a size, line 2 of a type, the body, line 5 of a type, line 6 of a plate type, or nothing more.
-#[derive(Clone, Copy)]
+#[derive(Clone, Copy, Debug, PartialEq, Eq)]
 pub enum Place {
     First,
     Sizes(PlateType),
@@ -23,7 +24,8 @@ pub enum Place {
     Done,
 }
 
-// A text so far: the first line refused, if `refusal` is not 0, is the one after `lines`.
+// A text so far: the first line refused, if `refusal` is not 0, is the one after `lines`. A host may hand back any number there, and `feed` keeps it (clause
+// `state-same`), so it stays a number.
 #[derive(Clone, Copy)]
 pub struct TextReader {
     pub place: Place,
@@ -49,9 +51,8 @@ impl TextReader {
     pub fn refused(self, number: u16) -> TextReader
         ensures { TextAt result self.place self.lines number [] }
     {
-        let place = self.place;
         TextReader {
-            place,
+            place: self.place,
             lines: self.lines,
             refusal: number,
             pending: Pending::none(),
@@ -73,40 +74,31 @@ impl TextReader {
 
     // The line that begins at `at`, where the text goes on and none has begun before, if it is of the form and ends in the part: how many numbers it has,
     // which are written to the first places of a lent array.
-    pub fn line_within(self, part: &[u8], at: usize, numbers: &mut [u32; MOST_NUMBERS]) -> Complete
+    pub fn line_within(
+        self,
+        part: &[u8],
+        at: usize,
+        numbers: &mut [u32; MOST_NUMBERS],
+    ) -> Option<usize>
         ensures { length numbers.old ≡ most_numbers → Within self part.now at numbers.new result }
     {
-        if self.refusal != 0 {
-            return Complete::Nothing;
-        }
-        if self.lines >= MAX_LINES {
-            return Complete::Nothing;
-        }
-        let pending = self.pending;
-        if pending.length != 0 {
-            return Complete::Nothing;
+        if self.refusal != 0 || self.lines >= MAX_LINES || self.pending.length != 0 {
+            return None;
         }
         complete_line(part, at, numbers)
     }
 
     // Whether a line ends at `end` of a part of `size` bytes, where it has begun before the part or at `at`.
+    #[tactic(auto, unfolding(crate::specs::Standing::line_ends))]
     pub fn line_ends(self, at: usize, end: usize, size: usize) -> bool
         requires text_ready { TextReady self }
         requires at_le_end { (at ≤ end) × (end ≤ at + longest_line) }
         ensures { result ≡ line_ends self at end size }
     {
-        if self.refusal != 0 {
-            return false;
-        }
-        if self.lines >= MAX_LINES {
-            return false;
-        }
-        let pending = self.pending;
-        let held = pending.length;
-        if end - at + held >= LONGEST_LINE {
-            return false;
-        }
-        end < size
+        self.refusal == 0
+            && self.lines < MAX_LINES
+            && end - at + self.pending.length < LONGEST_LINE
+            && end < size
     }
 
     // The rest of a part in which no line ends: it is passed over, or kept, or begins line 100,000, or makes the line too long.
@@ -119,19 +111,16 @@ impl TextReader {
             return self;
         }
         if self.lines >= MAX_LINES {
-            return self.refused(1);
+            return self.refused(Refusal::Form.number());
         }
-        let pending = self.pending;
-        let held = pending.length;
-        if end - at + held >= LONGEST_LINE {
-            return self.refused(1);
+        if end - at + self.pending.length >= LONGEST_LINE {
+            return self.refused(Refusal::Form.number());
         }
-        let place = self.place;
         TextReader {
-            place,
+            place: self.place,
             lines: self.lines,
             refusal: 0,
-            pending: pending.more(part, at, end),
+            pending: self.pending.more(part, at, end),
         }
     }
 }

@@ -4,37 +4,38 @@ ghost use Rattle.job.specs.Sizes.{words_of_head};
 ghost use Rattle.job.specs.Verdict.{refuse_if};
 ghost use Rattle.job.specs.Job.{permitted, job_of};
 ghost use Rattle.texts.specs.Shape.{turning, numbers_row};
-ghost use Rattle.texts_reading.specs.Judged.{limits_of, line_verdict};
+ghost use Rattle.texts_reading.specs.Judged.{limits_of, line_verdict, number_said};
 
 use crate::judge::judge;
 use job::counters::ItemType;
 use job::position::turned;
+use job::refused::Refusal;
 use job::sizes::{HEAD_WORDS, ITEM_WORDS, SIZE_WORDS, SIZES};
 use job::words::item_at;
 
-// 19 unless the job permits item type i in this turn, else 0; a type that the job's words have not lies nowhere.
-fn turn_row(job: &[u16], i: ItemType, turn: u32) -> u16
+// 19 unless the job permits item type i in this turn; a type that the job's words have not lies nowhere.
+fn turn_row(job: &[u16], i: ItemType, turn: u32) -> Result<(), Refusal>
     requires { (turn ≤ 1) × (words_of_head ≤ length job.now) }
-    ensures { (line : ℕ) → line_verdict result line ≡ refuse_if (not (permitted (job_of job.now) (2 * i.0 + turn))) 19 line }
+    ensures { (line : ℕ) → line_verdict (number_said result) line ≡ refuse_if (not (permitted (job_of job.now) (2 * i.0 + turn))) 19 line }
 {
     if i.0 == 0 {
-        return 19;
+        return Err(Refusal::TurnedWithoutLeave);
     }
     let sizes = job[SIZES];
     if job.len() < HEAD_WORDS + SIZE_WORDS * (sizes as usize) + ITEM_WORDS * (i.0 as usize) {
-        return 19;
+        return Err(Refusal::TurnedWithoutLeave);
     }
     if turn == 0 {
-        return 0;
+        return Ok(());
     }
     let p = turned(item_at(job, i));
     if p.allowed {
-        return 0;
+        return Ok(());
     }
-    19
+    Err(Refusal::TurnedWithoutLeave)
 }
 
-// The refusal of a line's numbers, 0 where there is none: after the kind the type stands at place i and the turn at place t, from 0, each with its limits.
+// Judges a line's numbers: after the kind the type stands at place i and the turn at place t, from 0, each with its limits.
 pub fn judge_turn(
     numbers: &[u32],
     kind: u32,
@@ -43,15 +44,12 @@ pub fn judge_turn(
     job: &[u16],
     i: usize,
     t: usize,
-) -> u16
+) -> Result<(), Refusal>
     requires high_len { (length high.now ≡ length low.now) × ((i < length low.now) × (t < length low.now)) }
     requires i_bound { (get_or high.now i 0 < 65536) × ((get_or high.now t 0 ≡ 1) × (words_of_head ≤ length job.now)) }
-    ensures { (line : ℕ) → line_verdict result line ≡ numbers_row line (turning kind (limits_of low.now high.now) job.now i t ∷ []) numbers.now }
+    ensures { (line : ℕ) → line_verdict (number_said result) line ≡ numbers_row line (turning kind (limits_of low.now high.now) job.now i t ∷ []) numbers.now }
 {
     let head = [kind];
-    let refusal = judge(numbers, &head, low, high);
-    if refusal != 0 {
-        return refusal;
-    }
+    judge(numbers, &head, low, high)?;
     turn_row(job, ItemType(numbers[i + 1] as u16), numbers[t + 1])
 }

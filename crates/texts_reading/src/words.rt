@@ -7,9 +7,7 @@ pub fn put_words(buffer: &mut [u16], at: usize, numbers: &[u32])
     requires { (at + length numbers.now ≤ length buffer.old) × ((k : ℕ) → k < length numbers.now → get_or numbers.now k 0 < 65536) }
     ensures { buffer.new ≡ put buffer.old at numbers.now }
 {
-    let mut i: usize = 0;
-    while i < numbers.len() {
+    for i in 0..numbers.len() {
         buffer[at + i] = numbers[i] as u16;
-        i += 1;
     }
 }

@@ -52,12 +52,9 @@ pub fn write_counts(
     requires counts_in_bounds { length (count_lines (plate_read plates.now) (cuts_read k.0 cuts.now) counts.now) ≤ length out.old }
     ensures { Wrote out.old 0 (count_lines (plate_read plates.now) (cuts_read k.0 cuts.now) counts.now) result out.new }
 {
-    let end = k.0;
-    let mut at: usize = 0;
-    let mut c: u16 = 0;
-    while c < end {
+    let mut at = 0;
+    for c in 0..k.0 {
         at = put_count(out, at, plates, cuts, CutNumber(c + 1), counts[c as usize]);
-        c += 1;
     }
     at
 }

@@ -40,12 +40,10 @@ pub fn write_placements(out: &mut [u8], placements: &[u16], pieces: usize) -> us
     requires { (placement_line_bytes * pieces ≤ length out.old) × (words_of_placement * pieces ≤ length placements.now) }
     ensures { Wrote out.old 0 (flat_map placement_line (rows_of (take (words_of_placement * pieces) placements.now))) result out.new }
 {
-    let mut at: usize = 0;
-    let mut i: usize = 0;
-    while i < pieces {
+    let mut at = 0;
+    for i in 0..pieces {
         write_placement(out, at, placements, i);
         at += PLACEMENT_LINE;
-        i += 1;
     }
     at
 }

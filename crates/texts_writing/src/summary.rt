@@ -19,22 +19,12 @@ pub fn is_cheapest(cost: u32, sum: u32, d: u16) -> bool
     ((cost - 1) as u64) * (d as u64) < sum as u64
 }
 
-// The word for cheapest.
-fn flag(cheapest: bool) -> u32
-    ensures { result ≡ cond cheapest 1 0 }
-{
-    if cheapest {
-        return 1;
-    }
-    0
-}
-
 // Writes line 8 at a position; its end is handed back.
 pub fn write_result(out: &mut [u8], at: usize, cost: u32, sum: u32, d: u16, cheapest: bool) -> usize
     requires { at + summary_line_bytes ≤ length out.old }
     ensures { Wrote out.old at (line_of (8 ∷ cost ∷ sum ∷ d ∷ cond cheapest 1 0 ∷ [])) result out.new }
 {
-    let line = [8, cost, sum, d as u32, flag(cheapest)];
+    let line = [8, cost, sum, d as u32, u32::from(cheapest)];
     put_line(out, at, &line);
     at + SUMMARY_LINE
 }

@@ -1,6 +1,6 @@
 -- What the code knows of an admitted job once it is listed, and of a plan once it is accepted: the buffers hold the model, and the run of a copy of the
 -- counts is the unfolding of the plan.
-use Prim.Native.Nat.{ℕ, ◌≤◌}
+use Prim.Native.Nat.{ℕ, ◌-◌, ◌≤◌}
 use native.Mathlib.Omega.{arith}
 use mathlib.Core.Path.{◌≡◌, sym, ◌∙◌, ap}
 use mathlib.Core.List.{List, [], ◌∷◌}
@@ -22,6 +22,10 @@ use Rattle.listing.specs.Records.{cut_words}
 use Rattle.listing.specs.Holds.{Holds}
 use Rattle.listing.specs.ListCall.{plates_end, cuts_end}
 use Rattle.listing.proofs.WalkModel.{row-model}
+use Rattle.std.specs.Prelude.{Result, Ok}
+use Rattle.job.specs.declared.refused.Refused.{Refused}
+use Rattle.listing_call.specs.declared.walk.Listed.{Listed}
+use Rattle.listing_call.specs.ListSays.{says_of as listing_says}
 use Rattle.listing_call.proofs.CodeEnding.{listing_results}
 use Rattle.plan.specs.Plan.{counts_row, plan_row, total}
 use Rattle.plan.specs.Feasible.{Feasible, NonePast}
@@ -52,6 +56,14 @@ module _ (ws : List ℕ) (checked : (job_words ws then admission (job_of ws)) �
 
   pub listed-model : model_row (J ws) ≡ pass → Model (J ws) (L ws)
   listed-model row = row-model (J ws) (admitted-sided (J ws) job-admitted) (admitted-stocked (J ws) job-admitted) row
+
+  -- what the listing call answers of a listed job: its plates and cuts are those of the model
+  module _ {answer' : Result Listed Refused} {n : Listed} (e : answer' ≡ Ok n) (says : listing_says (J ws) answer' ≡ answer (model_row (J ws)) (listing_results ws)) where
+    pub listed-given : given ((n.plates.0 - length (J ws).sizes) ∷ n.cuts.0 ∷ []) ≡ answer (model_row (J ws)) (listing_results ws)
+    listed-given = sym (ap (listing_says (J ws)) e) ∙ says
+
+    pub listed-passes : model_row (J ws) ≡ pass
+    listed-passes = given-pass (model_row (J ws)) (listing_results ws) listed-given
 
   -- buffers that the listing has filled
   pub listed-lent :

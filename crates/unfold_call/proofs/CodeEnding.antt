@@ -26,8 +26,10 @@ use Rattle.layouts.specs.Demand3.{J, L, Listed, Unfolds}
 use Rattle.layouts.specs.Promises.{UnfoldPromise}
 use Rattle.layouts.proofs.demand.Demand3.{demand3}
 use Rattle.layouts.proofs.demand.OwnCuts.{own-cuts-of-all}
-use Rattle.unfold_call.specs.declared.call.Unfolded.{Unfolded}
-use Rattle.unfold_call.specs.declared.call.Unfolded.TheVariants.{Done, Refused}
+use Rattle.std.specs.Prelude.{Result, Ok, Err}
+use Rattle.job.specs.declared.refused.Refused.{Refused}
+use Rattle.job.specs.Refused.{number_of}
+use Rattle.unfold_run.specs.declared.run.Ran.{Ran}
 use Rattle.unfold_call.proofs.CodeAccepted.{listed-model}
 use Rattle.unfold_call.specs.UnfoldSays.{says_of, results, OnSuccess, Ended}
 
@@ -139,27 +141,28 @@ module _ (ws : List ℕ) (first second : ℕ) (counts plates cuts placements off
       regrouped a b c d e f g h i = simp then-assoc
 
   -- what the call ensures: its answer, the four buffers, and on success what it promises by demand 3 and request Seven
-  abbrev Called : Unfolded → List ℕ → List ℕ → List ℕ → List ℕ → Type 0
+  abbrev Called : Result Ran Refused → List ℕ → List ℕ → List ℕ → List ℕ → Type 0
   Called r plates' cuts' placements' offcuts' =
       (says_of r ≡ unfold_answer ws first second counts plates cuts placements offcuts)
-      × ((plates' ≡ plates_end verdict ws plates)
-      × ((cuts' ≡ cuts_end verdict ws cuts)
-      × ((placements' ≡ placements_end verdict ws counts placements)
-      × ((offcuts' ≡ offcuts_end verdict ws first second counts offcuts)
-      × OnSuccess r (UnfoldPromise ws first second counts placements' offcuts')))))
+      × (plates' ≡ plates_end verdict ws plates)
+      × (cuts' ≡ cuts_end verdict ws cuts)
+      × (placements' ≡ placements_end verdict ws counts placements)
+      × (offcuts' ≡ offcuts_end verdict ws first second counts offcuts)
+      × OnSuccess r (UnfoldPromise ws first second counts placements' offcuts')
 
   -- where the rows before the model refuse, the call does, and the four buffers end as after that refusal
   pub before-refuses :
-      {plates' cuts' placements' offcuts' : List ℕ} (number place : ℕ)
-      → rows_before ≡ refuse number place
-      → Left number plates plates'
-      → Left number cuts cuts'
-      → Left number placements placements'
-      → Left number offcuts offcuts'
-      → Called (Refused number place) plates' cuts' placements' offcuts'
+      {plates' cuts' placements' offcuts' : List ℕ} (r : Refused)
+      → rows_before ≡ refuse (number_of r.refusal) r.place
+      → Left (number_of r.refusal) plates plates'
+      → Left (number_of r.refusal) cuts cuts'
+      → Left (number_of r.refusal) placements placements'
+      → Left (number_of r.refusal) offcuts offcuts'
+      → Called (Err r) plates' cuts' placements' offcuts'
   unfolding unfold_answer plates_end cuts_end placements_end offcuts_end
-  before-refuses number place e ep ec eq eo =
-      rw (unfold-rows ∙ then-refused rows_before (plan_tail (job_of ws) counts) number place e) (refl, (ep place [], (ec place [], (eq place [], (eo place [], tt)))))
+  before-refuses r e ep ec eq eo =
+      rw (unfold-rows ∙ then-refused rows_before (plan_tail (job_of ws) counts) (number_of r.refusal) r.place e)
+      (refl, ep r.place [], ec r.place [], eq r.place [], eo r.place [], tt)
 
   module _ (e : rows_before ≡ pass) where
     -- where they pass, the job is admitted and the buffers are of full size
@@ -226,20 +229,20 @@ module _ (ws : List ℕ) (first second : ℕ) (counts plates cuts placements off
         }
 
     -- and these rows decide
-    pub before-pass : (r : Unfolded) (plates' cuts' placements' offcuts' : List ℕ) → EndedBy (plan_tail (job_of ws) counts) (says_of r) plates' cuts' placements' offcuts' → Called r plates' cuts' placements' offcuts'
+    pub before-pass : (r : Result Ran Refused) (plates' cuts' placements' offcuts' : List ℕ) → EndedBy (plan_tail (job_of ws) counts) (says_of r) plates' cuts' placements' offcuts' → Called r plates' cuts' placements' offcuts'
     unfolding unfold_answer placements_end offcuts_end
     before-pass r plates' cuts' placements' offcuts' h =
         rw (unfold-rows ∙ then-passed rows_before (plan_tail (job_of ws) counts) e)
-        (h.answered, (h.plates-end, (h.cuts-end, (h.placements-end, (h.offcuts-end, promised r h.answered h.placements-end h.offcuts-end)))))
+        (h.answered, h.plates-end, h.cuts-end, h.placements-end, h.offcuts-end, promised r h.answered h.placements-end h.offcuts-end)
       where
         promised :
-            (r : Unfolded)
+            (r : Result Ran Refused)
             → says_of r ≡ answer (plan_tail (job_of ws) counts) (results ws counts)
             → placements' ≡ placements_end (plan_tail (job_of ws) counts) ws counts placements
             → offcuts' ≡ offcuts_end (plan_tail (job_of ws) counts) ws first second counts offcuts
             → OnSuccess r (UnfoldPromise ws first second counts placements' offcuts')
-        promised (Refused number place) q p o = tt
-        promised (Done boards pieces left) q p o =
+        promised (Err r) q p o = tt
+        promised (Ok r) q p o =
             let v : plan_tail (job_of ws) counts ≡ pass = given-pass (plan_tail (job_of ws) counts) (results ws counts) q in
-            let a : given (boards ∷ pieces ∷ left ∷ []) ≡ given (results ws counts) = rw v at q in
+            let a : given (r.boards ∷ r.pieces ∷ r.offcuts ∷ []) ≡ given (results ws counts) = rw v at q in
             promise-kept v (rw v at p) (rw v at o) (cc) (cc) (cc)

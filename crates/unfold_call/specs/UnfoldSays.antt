@@ -1,21 +1,22 @@
 -- What the unfolding call's answer says, in document 01's results, numbers and places; and how a call ends by its verdict.
-use Rattle.std.specs.Prelude.{ℕ, ◌≡◌, List, [], ◌∷◌, length}
+use Rattle.std.specs.Prelude.{ℕ, ◌≡◌, List, [], ◌∷◌, length, Result, Ok, Err}
 use Rattle.job.specs.Verdict.{Verdict}
 use Rattle.job.specs.Buffers.{Answer, given, refused, answer}
 use Rattle.listing.specs.ListCall.{plates_end, cuts_end}
 use Rattle.layouts.specs.UnfoldCall.{unfolding_of, offcuts_from, placements_end, offcuts_end}
-use Rattle.unfold_call.specs.declared.call.Unfolded.{Unfolded}
-use Rattle.unfold_call.specs.declared.call.Unfolded.TheVariants.{Done, Refused}
+use Rattle.job.specs.declared.refused.Refused.{Refused}
+use Rattle.job.specs.Refused.{number_of}
+use Rattle.unfold_run.specs.declared.run.Ran.{Ran}
 
 -- the boards used, the pieces placed and the offcuts left over; or the refusal's number and its place
-abbrev pub says_of : Unfolded → Answer
-says_of (Done boards pieces offcuts) = given (boards ∷ pieces ∷ offcuts ∷ [])
-says_of (Refused number place) = refused number place
+abbrev pub says_of : Result Ran Refused → Answer
+says_of (Ok r) = given (r.boards ∷ r.pieces ∷ r.offcuts ∷ [])
+says_of (Err r) = refused (number_of r.refusal) r.place
 
 -- what is promised of a call that succeeds
-abbrev pub OnSuccess : Unfolded → (ℕ → ℕ → ℕ → Type 0) → Type 0
-OnSuccess (Done boards pieces offcuts) promise = promise boards pieces offcuts
-OnSuccess (Refused number place) promise = Unit {0}
+abbrev pub OnSuccess : Result Ran Refused → (ℕ → ℕ → ℕ → Type 0) → Type 0
+OnSuccess (Ok r) promise = promise r.boards r.pieces r.offcuts
+OnSuccess (Err r) promise = Unit {0}
 
 -- "unfolding, boards and pieces"; of offcuts it "also gives their number" (request Two)
 abbrev pub results : List ℕ → List ℕ → List ℕ

@@ -1,10 +1,10 @@
 // The unfolding call.
-ghost use Rattle.std.specs.Prelude.{◌≡◌, [], ◌≤◌, length};
+ghost use Rattle.std.specs.Prelude.{◌≡◌, [], ◌≤◌, length, Ok};
 ghost use Rattle.job.specs.Sizes.{plates_size, cuts_size, counts_size, placements_size, offcuts_size};
 ghost use Rattle.job.specs.Verdict.{pass, ◌then◌};
 ghost use Rattle.job.specs.Buffers.{given, sized};
 ghost use Rattle.job.specs.Job.{job_of, job_words, admission};
-ghost use Rattle.job.specs.Row.{row_verdict};
+ghost use Rattle.job.specs.Refused.{row_verdict};
 ghost use Rattle.listing.specs.Holds.{Holds};
 ghost use Rattle.listing.specs.ListCall.{plates_end, cuts_end};
 ghost use Rattle.plan.specs.Plan.{counts_row, plan_row};
@@ -20,26 +20,22 @@ ghost use Rattle.unfold_call.specs.UnfoldSays.{says_of, results, OnSuccess, Ende
 use job::admit::{admit, job_words, within};
 use job::counters::CutNumber;
 use job::head::head_of;
-use job::lent::{end_refused, offcuts_sized};
-use job::row::Row;
+use job::job_read::JobRead;
+use job::lent::offcuts_sized;
+use job::refused::{Refusal, Refused};
 use job::sizes::{COUNTS_SIZE, MAX_SIDE};
 use job::words::clear;
-use listing_call::call::{Listed, list_into};
-use plan_test::plan_row::{PlanAnswer, plan_rows};
+use listing_call::call::list_into;
+use plan_test::listed_job::ListedJob;
+use plan_test::plan_row::plan_rows;
 use unfold_offcut::Lengths;
-use unfold_run::run::run;
+use unfold_run::run::{Ran, run};
 use unfold_waiting::begins::{BEGINS_SIZE, cut_begins};
 use unfold_waiting::counts::copy_counts;
 
-// The boards used, the pieces placed and the offcuts left over; or the number of a refusal and the place that it names.
-#[derive(Clone, Copy)]
-pub enum Unfolded {
-    Done(u16, u16, u16),
-    Refused(u16, usize),
-}
-
 // Unfolds an accepted plan over a listing of k cuts; the counts are spent from a copy, and where the cuts of each plate type begin is written once,
-// before the run. The offcuts are listed where the list is of full size.
+// before the run. The offcuts are listed where the list is of full size. What it gives are the boards used, the pieces placed and the offcuts left over.
+// What it reads stands in its arguments one by one, and not in a struct: what may not change (docs/DECISIONS.md 72 names `unfold_plan`).
 pub fn unfold_plan(
     job: &[u16],
     counts: &[u16],
@@ -49,11 +45,11 @@ pub fn unfold_plan(
     lengths: Lengths,
     placements: &mut [u16],
     offcuts: &mut [u16],
-) -> Unfolded
+) -> Ran
     requires model_lent { ModelLent job.now plates.now cuts.now k.0 }
     requires counts_size_in_bounds { (counts_size ≤ length counts.now) × ((counts_row (L job.now) counts.now then plan_row (J job.now) (L job.now) counts.now) ≡ pass) }
     requires holds { (Holds placements.old []) × ((placements_size ≤ length placements.old) × Holds offcuts.old []) }
-    ensures result_value { says_of result ≡ given (results job.now counts.now) }
+    ensures result_value { says_of (Ok result) ≡ given (results job.now counts.now) }
     ensures holds_2 { Holds placements.new (placement_words (unfolding_of job.now counts.now).placements) }
     ensures holds_3 { offcuts_size ≤ length offcuts.old → Holds offcuts.new (offcut_words lengths.first lengths.second (offcuts_from job.now counts.now)) }
 {
@@ -62,10 +58,9 @@ pub fn unfold_plan(
     let mut begins = [0u16; BEGINS_SIZE];
     cut_begins(cuts, k, &mut begins);
     let head = head_of(job);
-    let r = run(
+    run(
         job, head.blade, head.sizes, plates, cuts, &begins, lengths, &mut left, placements, offcuts,
-    );
-    Unfolded::Done(r.boards, r.pieces, r.offcuts)
+    )
 }
 
 // Lists an admitted job into buffers of full size, tests the plan by its listing, and unfolds it.
@@ -77,42 +72,48 @@ fn unfold_into(
     cuts: &mut [u16],
     placements: &mut [u16],
     offcuts: &mut [u16],
-) -> Unfolded
+) -> Result<Ran, Refused>
     requires job_value { (job_words job.now then admission (job_of job.now)) ≡ pass }
     requires plates_size_in_bounds { (plates_size ≤ length plates.old) × ((cuts_size ≤ length cuts.old) × ((counts_size ≤ length counts.now) × ((placements_size ≤ length placements.old) × (offcuts_size ≤ length offcuts.old)))) }
     ensures { Ended (plan_tail (job_of job.now) counts.now) job.now lengths.first lengths.second counts.now plates.old cuts.old placements.old offcuts.old (says_of result) plates.new cuts.new placements.new offcuts.new }
 {
     clear(placements);
     clear(offcuts);
-    match list_into(job, plates, cuts) {
-        Listed::Refused(number, place) => Unfolded::Refused(number, place),
-        Listed::Done(m, k) => {
-            let head = head_of(job);
-            match plan_rows(job, head.sizes, head.types, cuts, m, k, counts) {
-                PlanAnswer::Refused(number, place) => {
-                    clear(plates);
-                    clear(cuts);
-                    Unfolded::Refused(number, place)
-                }
-                PlanAnswer::Accepted(_, _) => unfold_plan(
-                    job, counts, plates, cuts, k, lengths, placements, offcuts,
-                ),
-            }
+    let listed = list_into(job, plates, cuts)?;
+    let listed_job = ListedJob {
+        job: JobRead::new(job),
+        cuts,
+        plates: listed.plates,
+        last: listed.cuts,
+    };
+    match plan_rows(&listed_job, counts) {
+        Err(row) => {
+            clear(plates);
+            clear(cuts);
+            Err(row)
         }
+        Ok(_) => Ok(unfold_plan(
+            job,
+            counts,
+            plates,
+            cuts,
+            listed.cuts,
+            lengths,
+            placements,
+            offcuts,
+        )),
     }
 }
 
 // The two set lengths are 1 to 10,000; else 2, naming 0.
-fn lengths_row(lengths: Lengths) -> Row
+#[tactic(auto, unfolding(layouts::specs::UnfoldCall::lengths_row, layouts::specs::UnfoldCall::lengths_right))]
+fn lengths_row(lengths: Lengths) -> Result<(), Refused>
     ensures { row_verdict result ≡ lengths_row lengths.first lengths.second }
 {
-    if !within(1, MAX_SIDE, lengths.first) {
-        return Row::Refuses(2, 0);
+    if !within(1, MAX_SIDE, lengths.first) || !within(1, MAX_SIDE, lengths.second) {
+        return Err(Refusal::Limits.at(0));
     }
-    if !within(1, MAX_SIDE, lengths.second) {
-        return Row::Refuses(2, 0);
-    }
-    Row::Passes
+    Ok(())
 }
 
 // The rows before the model: the job's words, the two lengths, the job row, and then the lent buffers.
@@ -124,21 +125,12 @@ fn unfold_checks(
     cuts: &[u16],
     placements: &[u16],
     offcuts: &[u16],
-) -> Row
+) -> Result<(), Refused>
     ensures { row_verdict result ≡ (job_words job.now then lengths_row lengths.first lengths.second then admission (job_of job.now) then sized 1 plates_size plates.now then sized 2 cuts_size cuts.now then sized 3 counts_size counts.now then sized 4 placements_size placements.now then sized 5 offcuts_size offcuts.now) }
 {
-    let words = job_words(job);
-    let Row::Passes = words else {
-        return words;
-    };
-    let set = lengths_row(lengths);
-    let Row::Passes = set else {
-        return set;
-    };
-    let admitted = admit(job);
-    let Row::Passes = admitted else {
-        return admitted;
-    };
+    job_words(job)?;
+    lengths_row(lengths)?;
+    admit(job)?;
     offcuts_sized(plates, cuts, counts, placements, offcuts)
 }
 
@@ -159,7 +151,7 @@ pub fn unfold(
     cuts: &mut [u16],
     placements: &mut [u16],
     offcuts: &mut [u16],
-) -> Unfolded
+) -> Result<Ran, Refused>
     ensures result_value { says_of result ≡ unfold_answer job.now first second counts.now plates.old cuts.old placements.old offcuts.old }
     ensures plates_after { plates.new ≡ plates_end (unfold_verdict job.now first second counts.now plates.old cuts.old placements.old offcuts.old) job.now plates.old }
     ensures cuts_after { cuts.new ≡ cuts_end (unfold_verdict job.now first second counts.now plates.old cuts.old placements.old offcuts.old) job.now cuts.old }
@@ -169,13 +161,13 @@ pub fn unfold(
 {
     let lengths = Lengths { first, second };
     match unfold_checks(job, lengths, counts, plates, cuts, placements, offcuts) {
-        Row::Refuses(number, place) => {
-            end_refused(number, plates);
-            end_refused(number, cuts);
-            end_refused(number, placements);
-            end_refused(number, offcuts);
-            Unfolded::Refused(number, place)
+        Err(refused) => {
+            refused.end(plates);
+            refused.end(cuts);
+            refused.end(placements);
+            refused.end(offcuts);
+            Err(refused)
         }
-        Row::Passes => unfold_into(job, lengths, counts, plates, cuts, placements, offcuts),
+        Ok(()) => unfold_into(job, lengths, counts, plates, cuts, placements, offcuts),
     }
 }

@@ -18,14 +18,14 @@ use listing::words::plate_at;
 use unfold_pick::Piece;
 
 // The two set lengths: an offcut is usable if its width reaches the first and its height the second.
-#[derive(Clone, Copy)]
+#[derive(Clone, Copy, Debug, PartialEq, Eq)]
 pub struct Lengths {
     pub first: u16,
     pub second: u16,
 }
 
 // The board of a piece left over, the size of that board, the piece's lower left corner, and its sides.
-#[derive(Clone, Copy)]
+#[derive(Clone, Copy, Debug, PartialEq, Eq)]
 pub struct Offcut {
     pub board: u16,
     pub size: PlateType,
@@ -39,15 +39,15 @@ pub struct Offcut {
 fn usable(o: Offcut, lengths: Lengths) -> u16
     ensures { result ≡ usable lengths.first lengths.second (offcut_in o) }
 {
-    if lengths.first <= o.width {
-        if lengths.second <= o.height {
-            return 1;
-        }
+    if lengths.first <= o.width && lengths.second <= o.height {
+        1
+    } else {
+        0
     }
-    0
 }
 
 // The offcut of a piece on a board of a size: its sides are those of its plate type.
+#[tactic(auto, unfolding(layouts::specs::Offcuts::offcut, listing::specs::Listing::plate_at))]
 pub fn offcut_of(plates: &[u16], board: u16, size: PlateType, p: Piece) -> Offcut
     requires { RecordIn words_of_plate p.plate.0 plates.now }
     ensures { (job : Job) (l : Listing) → Holds plates.now (plate_words job l.plates) → offcut_in result ≡ offcut l (opened board size.0) (piece_of p) }

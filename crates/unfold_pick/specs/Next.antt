@@ -1,8 +1,10 @@
 -- Document 01, "Unfolding": "always the piece of the highest stage is taken", of three places in which a piece waits or not.
-use Rattle.std.specs.Prelude.{Bool, true, false, List, get_or}
+use Rattle.std.specs.Prelude.{ℕ, Bool, true, false, List, get_or, Option, Some, None}
 use Rattle.unfold_pick.specs.declared.Piece.{Piece}
-use Rattle.unfold_pick.specs.declared.Next.{Next}
-use Rattle.unfold_pick.specs.declared.Next.TheVariants.{Of, Nothing}
+
+-- a piece with its stage, or none
+abbrev pub Next : Type 0
+Next = Option (ℕ × Piece)
 
 -- the piece of this stage if it is here, else another answer
 abbrev pub first_of : Bool → Next → Next → Next
@@ -12,7 +14,7 @@ first_of false a b = b
 -- the piece of the highest stage that is here, with its stage
 abbrev pub next_of : Piece → Piece → Piece → Next
 next_of one two three =
-    first_of three.here (Of 3 three) (first_of two.here (Of 2 two) (first_of one.here (Of 1 one) Nothing))
+    first_of three.here (Some (3, three)) (first_of two.here (Some (2, two)) (first_of one.here (Some (1, one)) None))
 
 -- a place in which no piece waits
 abbrev pub absent : Piece

@@ -6,8 +6,9 @@ ghost use Rattle.unfold_pick.specs.Next.{next_of, next_in};
 
 use job::counters::PlateType;
 
-// The place in which a piece of one stage waits: whether one is here, its plate type, and its lower left corner.
-#[derive(Clone, Copy)]
+// The place in which a piece of one stage waits: whether one is here, its plate type, and its lower left corner. `here` is no Option: docs/DECISIONS.md 25, `pick`
+// over a lent slice of three piece structs.
+#[derive(Clone, Copy, Debug, PartialEq, Eq)]
 pub struct Piece {
     pub here: bool,
     pub plate: PlateType,
@@ -15,31 +16,23 @@ pub struct Piece {
     pub y: u16,
 }
 
-// The piece to be taken, with its stage, or that none waits.
-#[derive(Clone, Copy)]
-pub enum Next {
-    Of(u16, Piece),
-    Nothing,
-}
-
-// Of the pieces of stages 1, 2 and 3, the one of the highest stage.
-fn choose(one: Piece, two: Piece, three: Piece) -> Next
+// Of the pieces of stages 1, 2 and 3, the one of the highest stage, with its stage; none where none waits.
+fn choose(one: Piece, two: Piece, three: Piece) -> Option<(u16, Piece)>
     ensures { result ≡ next_of one two three }
 {
     if three.here {
-        return Next::Of(3, three);
+        Some((3, three))
+    } else if two.here {
+        Some((2, two))
+    } else if one.here {
+        Some((1, one))
+    } else {
+        None
     }
-    if two.here {
-        return Next::Of(2, two);
-    }
-    if one.here {
-        return Next::Of(1, one);
-    }
-    Next::Nothing
 }
 
 // The same of a lent slice, in which the piece of stage s stands at s - 1.
-pub fn pick(ps: &[Piece]) -> Next
+pub fn pick(ps: &[Piece]) -> Option<(u16, Piece)>
     requires { length ps.now ≡ 3 }
     ensures { result ≡ next_in ps.now }
 {
@@ -47,9 +40,8 @@ pub fn pick(ps: &[Piece]) -> Next
 }
 
 // The same of three pieces passed by value.
-pub fn next_of(one: Piece, two: Piece, three: Piece) -> Next
+pub fn next_of(one: Piece, two: Piece, three: Piece) -> Option<(u16, Piece)>
     ensures { result ≡ next_of one two three }
 {
-    let ps = [one, two, three];
-    pick(&ps)
+    pick(&[one, two, three])
 }

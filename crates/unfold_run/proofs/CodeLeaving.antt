@@ -1,5 +1,5 @@
 -- The offcuts of a run, on plain values: each step keeps that those left over and those to come are all.
-use Prim.Native.Nat.{ℕ, suc, ◌+◌, ◌-◌, ◌≤◌, ◌<◌}
+use Prim.Native.Nat.{ℕ, suc, ◌+◌, ◌≤◌, ◌<◌}
 use native.Mathlib.Omega.{arith}
 use mathlib.Core.Path.{◌≡◌, refl, sym, ◌∙◌, ap}
 use mathlib.Core.List.{List, [], ◌∷◌, ◌++◌, append_assoc, append-nil, flat_map}
@@ -25,10 +25,6 @@ module _ (job : Job) (l : Listing) (lengths : Lengths) (os : List Offcut) where
   pub leaving-start : (ns list : List ℕ) (st : State) → st ≡ start_of ns → os ≡ started_offcuts job l ns → Holds list [] → length os ≤ max_offcuts → Leaving job l lengths os max_steps st 0 list
   unfolding offcut_words flat_map
   leaving-start ns list st s e h f = rw s (record { over = []; listed = λ _. h; as_many = refl; to-come = sym e; few-offcuts = f })
-
-  -- one of the steps that are left is the next
-  pub leaving-next : (fuel : ℕ) (st : State) (n : ℕ) (list : List ℕ) → 0 < fuel → Leaving job l lengths os fuel st n list → Leaving job l lengths os (suc (fuel - 1)) st n list
-  leaving-next fuel st n list h g = let e : suc (fuel - 1) ≡ fuel = omega arith in rw e g
 
   -- where no step is left, those left over are all
   module _ (st : State) (n : ℕ) (list : List ℕ) (g : Leaving job l lengths os 0 st n list) where

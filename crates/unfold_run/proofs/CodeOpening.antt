@@ -50,10 +50,6 @@ module _ (l : Listing) (t : ℕ) (r : Remaining) (ns : List ℕ) (o : OpensFrom 
   pub next-none : r.boards ≡ 0 → t ≤ r.size.0 + 1 → next_size t 0 l ns ≡ none
   next-none z last = next-ended l t 0 ns (λ i p. spent-to z i (omega (arith, last)))
 
-  -- else the next size follows
-  pub opens-on : r.boards ≡ 0 → (r' : Remaining) → r'.size.0 ≡ r.size.0 + 1 → r'.size.0 < t → r'.boards ≡ boards_of l r'.size.0 ns → OpensFrom l t r' ns
-  opens-on z r' e h b = record { listed = h; spent-before = λ i p. spent-to z i (omega (arith, e)); left = b }
-
   -- counts that open as many boards of each size
   pub opens-same : (ns' : List ℕ) → ((i : ℕ) → boards_of l i ns ≡ boards_of l i ns') → OpensFrom l t r ns'
   opens-same ns' e =
@@ -61,9 +57,6 @@ module _ (l : Listing) (t : ℕ) (r : Remaining) (ns : List ℕ) (o : OpensFrom 
 
   -- a cut on a plate spends one of its type
   module _ (ns' : List ℕ) (plate : ℕ) (falls : (i : ℕ) → boards_of l i ns ≡ spends i plate + boards_of l i ns') where
-    pub after-room : spends r.size.0 plate ≤ r.boards
-    after-room = omega (arith, o.left, falls r.size.0)
-
     pub opens-after : (boards : ℕ) → boards ≡ r.boards - spends r.size.0 plate → OpensFrom l t (record { size = r.size; boards = boards }) ns'
     opens-after boards b =
         record {

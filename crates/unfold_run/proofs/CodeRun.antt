@@ -16,7 +16,6 @@ use Rattle.layouts.specs.Placement.{Turn, Placement, placement_words}
 use Rattle.layouts.specs.Unfold.{Piece, State, placed, left_over, idle, step, next_size, open_board, Run, placing, run, start_of}
 use Rattle.layouts.proofs.machine.MachineSteps.{step-ends}
 use Rattle.unfold_waiting.specs.Turns.{TurnTo, max_steps}
-use Rattle.unfold_step.specs.Ready.{Ready}
 use Rattle.unfold_step.proofs.Steps.{step-length, run-placed, run-over, run-open}
 use Rattle.unfold_step.proofs.Inside.{Kept, StepKeeps, step_keeps}
 use Rattle.unfold_run.specs.declared.remaining.Remaining.{Remaining}
@@ -48,10 +47,6 @@ module _ (job : Job) (l : Listing) (m : Model job l) (whole : Run) where
   pub going_start : (ns buffer : List ℕ) (left : Remaining) (st : State) → st ≡ start_of ns → whole ≡ started job l ns → Holds buffer [] → length l.cuts ≤ length ns → OpensFrom l (length job.sizes) left ns → length whole.placements ≤ max_pieces → placements_size ≤ length buffer → Going job l whole max_steps st left 0 buffer
   going_start ns buffer left st s e h c b f r = rw s (started-so ns buffer left e h c b f r)
 
-  -- one of the steps that are left is the next
-  pub going_next : (fuel : ℕ) (st : State) (left : Remaining) (pieces : ℕ) (buffer : List ℕ) → 0 < fuel → Going job l whole fuel st left pieces buffer → Going job l whole (suc (fuel - 1)) st left pieces buffer
-  going_next fuel st left pieces buffer h g = let e : suc (fuel - 1) ≡ fuel = omega arith in rw e g
-
   -- where no step is left, what is written is the whole
   module _ (st : State) (left : Remaining) (pieces : ℕ) (buffer : List ℕ) (g : Going job l whole 0 st left pieces buffer) where
     all_done : g.done ≡ whole.placements
@@ -69,16 +64,6 @@ module _ (job : Job) (l : Listing) (m : Model job l) (whole : Run) where
     end-last = g.last
 
   module _ (fuel : ℕ) (st : State) (left : Remaining) (pieces : ℕ) (buffer : List ℕ) (g : Going job l whole (suc fuel) st left pieces buffer) where
-    -- a step can be taken
-    pub going-ready : Ready job l st
-    going-ready =
-        let t = g.turns in
-        record {
-          counted = g.counted;
-          within = g.within;
-          turns = record { board-to = omega arith; strip-to = omega arith; stack-to = omega arith; place-to = omega arith };
-        }
-
     keeps : Sided job → StepKeeps job l m (max_steps - suc fuel) (step job l st)
     keeps sided = step_keeps job l m sided (max_steps - suc fuel) st g.within g.turns
 

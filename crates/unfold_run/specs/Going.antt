@@ -1,5 +1,5 @@
 -- How far a run has come: what is written so far and what is left to do make the whole unfolding, with its offcuts (request Two).
-use Rattle.std.specs.Prelude.{ℕ, suc, ◌-◌, ◌≤◌, ◌≡◌, List, ◌++◌, length}
+use Rattle.std.specs.Prelude.{ℕ, suc, ◌-◌, ◌≤◌, ◌≡◌, List, ◌++◌, length, Option, Some, None}
 use Rattle.job.specs.Sizes.{max_pieces, max_offcuts, placements_size, offcuts_size}
 use Rattle.job.specs.Job.{Job, size_at}
 use Rattle.listing.specs.Listing.{Listing}
@@ -13,8 +13,6 @@ use Rattle.unfold_step.specs.Meaning.{state_of}
 use Rattle.unfold_step.specs.Ready.{Within}
 use Rattle.unfold_run.specs.declared.remaining.Remaining.{Remaining}
 use Rattle.unfold_run.specs.declared.run.Progress.{Progress}
-use Rattle.unfold_run.specs.declared.run.Advance.{Advance}
-use Rattle.unfold_run.specs.declared.run.Advance.TheVariants.{On, Ended}
 use Rattle.unfold_run.specs.declared.run.Ran.{Ran}
 use Rattle.unfold_run.specs.Opening.{OpensFrom}
 
@@ -54,6 +52,10 @@ pub record Leaving (job : Job) (l : Listing) (lengths : Lengths) (os : List Offc
 abbrev pub left_at : Progress → Remaining
 left_at at = record { size = at.size; boards = at.boards }
 
+-- the boards used, the items placed and the pieces left over so far
+abbrev pub ran_at : Progress → Ran
+ran_at at = record { boards = at.state.turn.board; pieces = at.pieces; offcuts = at.offcuts }
+
 module _ (job : Job) (l : Listing) (lengths : Lengths) (whole : Run) (os : List Offcut) where
   -- the same of the code's values, with the counts that are left
   abbrev pub GoingAt : ℕ → Progress → List ℕ → List ℕ → List ℕ → Type 0
@@ -61,9 +63,9 @@ module _ (job : Job) (l : Listing) (lengths : Lengths) (whole : Run) (os : List 
       Going job l whole fuel (state_of at.size.0 at.state ns) (left_at at) at.pieces buffer × Leaving job l lengths os fuel (state_of at.size.0 at.state ns) at.offcuts list
 
   -- after a step: the run goes on, or has ended where it stood
-  abbrev pub Advanced : ℕ → Progress → Advance → List ℕ → List ℕ → List ℕ → Type 0
-  Advanced fuel at (On next) ns buffer list = GoingAt fuel next ns buffer list
-  Advanced fuel at Ended ns buffer list = GoingAt 0 at ns buffer list
+  abbrev pub Advanced : ℕ → Progress → Option Progress → List ℕ → List ℕ → List ℕ → Type 0
+  Advanced fuel at (Some next) ns buffer list = GoingAt fuel next ns buffer list
+  Advanced fuel at None ns buffer list = GoingAt 0 at ns buffer list
 
 -- some steps of some unfolding are left
 pub record GoesOn (job : Job) (l : Listing) (lengths : Lengths) (at : Progress) (ns buffer list : List ℕ) : Type 0 where

@@ -11,7 +11,7 @@ use job::counters::{BoardSizes, PlateType};
 use unfold_waiting::left::boards_left;
 
 // The size whose boards are opened, and how many boards of it are left to be opened.
-#[derive(Clone, Copy)]
+#[derive(Clone, Copy, Debug, PartialEq, Eq)]
 pub struct Remaining {
     pub size: PlateType,
     pub boards: u32,
@@ -23,12 +23,11 @@ impl Remaining {
         requires { spends self.size.0 plate.0 ≤ self.boards }
         ensures { result ≡ self.boards - spends self.size.0 plate.0 }
     {
-        let size = self.size;
-        let boards = self.boards;
-        if plate.0 == size.0 {
-            return boards - 1;
+        if plate == self.size {
+            self.boards - 1
+        } else {
+            self.boards
         }
-        boards
     }
 
     // The lowest size that has boards left; where none has, the last size.
@@ -37,22 +36,17 @@ impl Remaining {
         ensures opens_from { (job : Job) (l : Listing) → Model job l → Begins l.cuts begins.now → OpensFrom l sizes.0 self counts.now → OpensFrom l sizes.0 result counts.now }
         ensures sizes_bound { result.boards ≡ 0 → sizes.0 ≤ result.size.0 + 1 }
     {
-        let t = sizes.0;
-        let mut size = self.size.0;
-        let mut boards = self.boards;
-        while size + 1 < t {
-            if 0 < boards {
-                return Remaining {
-                    size: PlateType(size),
-                    boards,
-                };
+        let mut left = self;
+        for j in self.size.0 + 1..sizes.0 {
+            if 0 < left.boards {
+                return left;
             }
-            size += 1;
-            boards = boards_left(counts, begins, PlateType(size));
+            let size = PlateType(j);
+            left = Remaining {
+                size,
+                boards: boards_left(counts, begins, size),
+            };
         }
-        Remaining {
-            size: PlateType(size),
-            boards,
-        }
+        left
     }
 }

@@ -6,7 +6,7 @@ ghost use Rattle.layouts.specs.Unfold.{Run};
 ghost use Rattle.layouts.specs.Offcuts.{Offcut};
 ghost use Rattle.layouts.specs.Demand3.{J, L};
 ghost use Rattle.unfold_step.specs.Ready.{PartsLent};
-ghost use Rattle.unfold_run.specs.Going.{GoingAt, GoesOn, Advanced, Gives, started, started_offcuts};
+ghost use Rattle.unfold_run.specs.Going.{GoingAt, GoesOn, Advanced, ran_at, Gives, started, started_offcuts};
 
 use crate::remaining::Remaining;
 use job::counters::{BoardSizes, PlateType};
@@ -18,7 +18,7 @@ use unfold_waiting::left::boards_left;
 use unfold_waiting::turn::MAX_STEPS;
 
 // Where a run stands: its state, the size of the board, the boards of that size that are left to be opened, the items placed, and the pieces left over.
-#[derive(Clone, Copy)]
+#[derive(Clone, Copy, Debug, PartialEq, Eq)]
 pub struct Progress {
     pub state: State,
     pub size: PlateType,
@@ -27,15 +27,8 @@ pub struct Progress {
     pub offcuts: u16,
 }
 
-// What a step makes of a run: it goes on, or has ended.
-#[derive(Clone, Copy)]
-pub enum Advance {
-    On(Progress),
-    Ended,
-}
-
 // The boards used, the items placed, and the pieces left over.
-#[derive(Clone, Copy)]
+#[derive(Clone, Copy, Debug, PartialEq, Eq)]
 pub struct Ran {
     pub boards: u16,
     pub pieces: u16,
@@ -43,8 +36,19 @@ pub struct Ran {
 }
 
 impl Progress {
-    // One step: an item is placed, a piece is left over, or the next board is opened, of the lowest size that has boards left; the run ends where nothing
-    // waits and no board is left.
+    // What the run has given so far.
+    fn ran(self) -> Ran
+        ensures { result ≡ ran_at self }
+    {
+        Ran {
+            boards: self.state.turn.board,
+            pieces: self.pieces,
+            offcuts: self.offcuts,
+        }
+    }
+
+    // One step: an item is placed, a piece is left over, or the next board is opened, of the lowest size that has boards left. Where nothing waits and no
+    // board is left the run has ended, and there is no further progress.
     fn advance(
         self,
         job: &[u16],
@@ -57,47 +61,47 @@ impl Progress {
         counts: &mut [u16],
         placements: &mut [u16],
         offcuts: &mut [u16],
-    ) -> Advance
+    ) -> Option<Progress>
         requires parts_lent { PartsLent job.now plates.now cuts.now begins.now }
         requires goes_on { GoesOn (J job.now) (L job.now) lengths self counts.old placements.old offcuts.old }
         requires blade_value { (blade ≡ (J job.now).blade) × (sizes.0 ≡ length (J job.now).sizes) }
         ensures { (whole : Run) (os : List Offcut) (fuel : ℕ) → GoingAt (J job.now) (L job.now) lengths whole os (suc fuel) self counts.old placements.old offcuts.old → Advanced (J job.now) (L job.now) lengths whole os fuel self result counts.new placements.new offcuts.new }
     {
-        let state = self.state;
         let size = self.size;
         let left = Remaining {
             size,
             boards: self.boards,
         };
-        let pieces = self.pieces;
-        let over = self.offcuts;
-        let mut at = self;
-        match state.step(job, blade, plates, cuts, begins, counts) {
-            Step::Placed(item, next) => {
-                put_placement(placements, pieces, placement_of(item, size));
-                let plate = item.plate;
-                at.state = next;
-                at.boards = left.after(plate);
-                at.pieces = pieces + 1;
-                Advance::On(at)
+        match self.state.step(job, blade, plates, cuts, begins, counts) {
+            Step::Placed(item, state) => {
+                put_placement(placements, self.pieces, placement_of(item, size));
+                Some(Progress {
+                    state,
+                    boards: left.after(item.plate),
+                    pieces: self.pieces + 1,
+                    ..self
+                })
             }
-            Step::LeftOver(piece, next) => {
-                let o = offcut_of(plates, state.turn.board, size, piece);
-                list_offcut(offcuts, over, o, lengths);
-                at.state = next;
-                at.offcuts = over + 1;
-                Advance::On(at)
+            Step::LeftOver(piece, state) => {
+                let o = offcut_of(plates, self.state.turn.board, size, piece);
+                list_offcut(offcuts, self.offcuts, o, lengths);
+                Some(Progress {
+                    state,
+                    offcuts: self.offcuts + 1,
+                    ..self
+                })
             }
             Step::Idle => {
                 let open = left.next(sizes, counts, begins);
                 if open.boards == 0 {
-                    return Advance::Ended;
+                    return None;
                 }
-                let other = open.size;
-                at.state = state.open_board(other);
-                at.size = other;
-                at.boards = open.boards;
-                Advance::On(at)
+                Some(Progress {
+                    state: self.state.open_board(open.size),
+                    size: open.size,
+                    boards: open.boards,
+                    ..self
+                })
             }
         }
     }
@@ -105,6 +109,7 @@ impl Progress {
 
 // The whole unfolding of the counts, with the job's blade and its number of sizes; `begins` says where the cuts of each plate type begin. Its offcuts are
 // listed where the list is of full size; their number is given in any case.
+// What it reads stands in its arguments one by one, and not in a struct: what may not change (docs/requests/07-own-cuts.md names `run`).
 pub fn run(
     job: &[u16],
     blade: u16,
@@ -133,23 +138,13 @@ pub fn run(
         pieces: 0,
         offcuts: 0,
     };
-    let mut fuel: u16 = MAX_STEPS;
-    while 0 < fuel {
-        let Advance::On(next) = at.advance(
+    for _step in 0..MAX_STEPS {
+        let Some(next) = at.advance(
             job, blade, sizes, plates, cuts, begins, lengths, counts, placements, offcuts,
         ) else {
-            return Ran {
-                boards: at.state.turn.board,
-                pieces: at.pieces,
-                offcuts: at.offcuts,
-            };
+            return at.ran();
         };
         at = next;
-        fuel -= 1;
     }
-    Ran {
-        boards: at.state.turn.board,
-        pieces: at.pieces,
-        offcuts: at.offcuts,
-    }
+    at.ran()
 }

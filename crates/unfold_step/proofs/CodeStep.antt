@@ -11,9 +11,8 @@ use Rattle.listing.specs.Model.{Model}
 use Rattle.layouts.specs.Unfold.{Waiting, State, Taken, taken, search, spent, highest, done, step}
 use Rattle.layouts.proofs.machine.Search.{found, found-cut}
 use Rattle.unfold_pick.specs.declared.Piece.{Piece as CodePiece}
-use Rattle.unfold_pick.specs.declared.Next.{Next}
-use Rattle.unfold_pick.specs.declared.Next.TheVariants.{Of}
-use Rattle.unfold_pick.specs.Next.{next_of}
+use Rattle.std.specs.Prelude.{Some}
+use Rattle.unfold_pick.specs.Next.{Next, next_of}
 use Rattle.unfold_waiting.specs.declared.waiting.Waiting.{Waiting as CodeWaiting}
 use Rattle.unfold_waiting.specs.Meaning.{piece_of, waiting_of}
 use Rattle.unfold_waiting.specs.Without.{without}
@@ -24,7 +23,7 @@ use Rattle.unfold_step.proofs.Steps.{step_cut}
 use Rattle.unfold_step.proofs.Inside.{taken_in}
 
 -- the piece picked is taken, and the code's other pieces wait on
-pub picked-rest : (w : CodeWaiting) (s : ℕ) (p : CodePiece) {r : Next} {rest : Waiting} → r ≡ next_of w.first w.second w.third → r ≡ Of s p → rest ≡ without s (waiting_of w) → highest (waiting_of w) ≡ some (taken (piece_of p) s rest)
+pub picked-rest : (w : CodeWaiting) (s : ℕ) (p : CodePiece) {r : Next} {rest : Waiting} → r ≡ next_of w.first w.second w.third → r ≡ Some (s, p) → rest ≡ without s (waiting_of w) → highest (waiting_of w) ≡ some (taken (piece_of p) s rest)
 picked-rest w s p n e r = rw r (picked-taken w s p (sym n ∙ e))
 
 -- the state without the piece taken

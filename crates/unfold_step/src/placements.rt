@@ -11,17 +11,15 @@ use placement::Placement;
 pub fn placement_of(p: PlacedItem, size: PlateType) -> Placement
     ensures { (placement_in result ≡ placed_of size.0 p) × (result.turned ≤ 1) }
 {
-    let turn = p.turn;
-    let number = p.item.0;
     Placement {
-        board: turn.board,
+        board: p.turn.board,
         size,
-        strip: turn.strip,
-        stack: turn.stack,
-        place: turn.place,
-        item: ItemType(number / 2),
+        strip: p.turn.strip,
+        stack: p.turn.stack,
+        place: p.turn.place,
+        item: ItemType(p.item.0 / 2),
         x: p.x,
         y: p.y,
-        turned: number % 2,
+        turned: p.item.0 % 2,
     }
 }

@@ -12,20 +12,20 @@ ghost use Rattle.unfold_step.specs.Ready.{JobLent, PartsLent, Cuttable, ReadyOn}
 use job::counters::{CutNumber, ItemPosition, PlateType};
 use job::position::position_at;
 use listing::cut::cut_at;
-use unfold_pick::{Next, Piece, next_of};
-use unfold_waiting::search::{Found, find_cut, spend};
+use unfold_pick::{Piece, next_of};
+use unfold_waiting::search::{find_cut, spend};
 use unfold_waiting::turn::Turn;
 use unfold_waiting::waiting::Waiting;
 
 // The pieces that wait, and where the last item was placed. The counts that are left and the size of the board stand beside it.
-#[derive(Clone, Copy)]
+#[derive(Clone, Copy, Debug, PartialEq, Eq)]
 pub struct State {
     pub waiting: Waiting,
     pub turn: Turn,
 }
 
 // An item that is placed: where it comes in turn, the plate type that it is cut from, its type in its turn, and where it lies.
-#[derive(Clone, Copy)]
+#[derive(Clone, Copy, Debug, PartialEq, Eq)]
 pub struct PlacedItem {
     pub turn: Turn,
     pub plate: PlateType,
@@ -35,7 +35,7 @@ pub struct PlacedItem {
 }
 
 // What a step does: an item is placed, a piece is left over, or nothing waits.
-#[derive(Clone, Copy)]
+#[derive(Clone, Copy, Debug, PartialEq, Eq)]
 pub enum Step {
     Placed(PlacedItem, State),
     LeftOver(Piece, State),
@@ -58,10 +58,9 @@ impl State {
         requires { TurnTo max_steps (turn_of 0 self.turn) }
         ensures { (z : ℕ) (ns : List ℕ) → state_of j.0 result ns ≡ open_board j.0 (state_of z self ns) }
     {
-        let turn = self.turn;
         State {
             waiting: Waiting::board(j),
-            turn: turn.next_board(),
+            turn: self.turn.next_board(),
         }
     }
 
@@ -86,33 +85,29 @@ impl State {
         ensures by_index_2 { (j : ℕ) → boards_of (L job.now) j counts.old ≡ step_spends j result + boards_of (L job.now) j counts.new }
     {
         let waiting = self.waiting;
-        let turn = self.turn;
         spend(counts, c);
         let cut = cut_at(cuts, c);
-        let of = cut.item;
-        let top = cut.top;
-        let right = cut.right;
-        let item = position_at(job, of);
-        let here = turn.next(stage);
-        let beside = waiting.wait(plates, right, p.x + item.width + blade, p.y);
-        let both = beside.wait(plates, top, p.x, p.y + item.height + blade);
-        let plate = cut.plate;
+        let item = position_at(job, cut.item);
+        let turn = self.turn.next(stage);
+        let beside = waiting.wait(plates, cut.right, p.x + item.width + blade, p.y);
+        let both = beside.wait(plates, cut.top, p.x, p.y + item.height + blade);
         Step::Placed(
             PlacedItem {
-                turn: here,
-                plate,
-                item: of,
+                turn,
+                plate: cut.plate,
+                item: cut.item,
                 x: p.x,
                 y: p.y,
             },
             State {
                 waiting: both,
-                turn: here,
+                turn,
             },
         )
     }
 
     // One step, on a board of whichever size: of the pieces that wait the one of the highest stage is cut, or is left over.
+    // What it reads stands in its arguments one by one, and not in a struct: what may not change (docs/DECISIONS.md 25 names `State::step`).
     pub fn step(
         self,
         job: &[u16],
@@ -130,18 +125,14 @@ impl State {
         ensures by_index_3 { (j : ℕ) → boards_of (L job.now) j counts.old ≡ step_spends j result + boards_of (L job.now) j counts.new }
     {
         let waiting = self.waiting;
-        let turn = self.turn;
-        let one = waiting.first;
-        let two = waiting.second;
-        let three = waiting.third;
-        let Next::Of(stage, p) = next_of(one, two, three) else {
+        let Some((stage, p)) = next_of(waiting.first, waiting.second, waiting.third) else {
             return Step::Idle;
         };
         let rest = State {
             waiting: waiting.without(stage),
-            turn,
+            ..self
         };
-        let Found::Cut(c) = find_cut(counts, begins, p.plate) else {
+        let Some(c) = find_cut(counts, begins, p.plate) else {
             return Step::LeftOver(p, rest);
         };
         rest.cut(job, blade, plates, cuts, c, counts, stage, p)

@@ -24,7 +24,9 @@ use Rattle.plan.specs.Plan.{boards_of, total}
 use Rattle.layouts.specs.Unfold.{search}
 use Rattle.layouts.specs.OwnCuts.{begin_of, own_part, first_left, part_search}
 use Rattle.layouts.proofs.machine.OwnCuts.{begin-past, begin-none, own-part}
+use Rattle.std.specs.Prelude.{Option as CodeOption, Some, None}
 use Rattle.unfold_waiting.specs.Begins.{Begins, PartIn}
+use Rattle.unfold_waiting.specs.Meaning.{left_means}
 use Rattle.unfold_waiting.proofs.CodeSearch.{left-shifted, left-none, left-among}
 
 -- of c cuts it is known that they come before the plate types from j on begin
@@ -89,8 +91,8 @@ module _ (bs ns : List ℕ) (j : ℕ) where
   pub part-few : length (part_by bs ns j) ≤ get_or bs (j + 1) 0 - get_or bs j 0
   part-few = simp length-take (omega arith)
 
-  pub number-below : PartIn bs ns j → (i : ℕ) → some i ≡ first_left 0 (part_by bs ns j) → get_or bs j 0 + i + 1 ≤ get_or bs (j + 1) 0
-  number-below p i e = omega (arith, part-few, left-among 0 (part_by bs ns j) i (sym e), p.ordered)
+  pub number-below : PartIn bs ns j → {r : CodeOption ℕ} → left_means r ≡ first_left 0 (part_by bs ns j) → (i : ℕ) → r ≡ Some i → get_or bs j 0 + i + 1 ≤ get_or bs (j + 1) 0
+  number-below p e i f = omega (arith, part-few, left-among 0 (part_by bs ns j) i (sym e ∙ ap left_means f), p.ordered)
 
 -- the part that they bound is the type's own
 module _ (job : Job) (l : Listing) (m : Model job l) (bs ns : List ℕ) (j : ℕ) (p : PartIn bs ns j) (b : Begins l.cuts bs) where
@@ -108,10 +110,11 @@ module _ (job : Job) (l : Listing) (m : Model job l) (bs ns : List ℕ) (j : ℕ
   unfolding part_search
   whole = rw (part-is, here) ((own-part job l m j).same-cut ns)
 
-  pub found_here : (i : ℕ) → some i ≡ first_left 0 (part_by bs ns j) → some (get_or bs j 0 + i + 1) ≡ search j 1 l.cuts ns
-  found_here i e =
-      let f : get_or bs j 0 + i + 1 ≡ suc (get_or bs j 0) + i = omega arith in
-      rw f (sym (left-shifted (suc (get_or bs j 0)) i (part_by bs ns j) (sym e)) ∙ whole)
+  module _ {r : CodeOption ℕ} (e : left_means r ≡ first_left 0 (part_by bs ns j)) where
+    pub found_here : (i : ℕ) → r ≡ Some i → some (get_or bs j 0 + i + 1) ≡ search j 1 l.cuts ns
+    found_here i g =
+        let f : get_or bs j 0 + i + 1 ≡ suc (get_or bs j 0) + i = omega arith in
+        rw f (sym (left-shifted (suc (get_or bs j 0)) i (part_by bs ns j) (sym e ∙ ap left_means g)) ∙ whole)
 
-  pub found_nowhere : none ≡ first_left 0 (part_by bs ns j) → none ≡ search j 1 l.cuts ns
-  found_nowhere e = sym (left-none 0 (suc (get_or bs j 0)) (part_by bs ns j) (sym e)) ∙ whole
+    pub found_nowhere : r ≡ None → none ≡ search j 1 l.cuts ns
+    found_nowhere g = sym (left-none 0 (suc (get_or bs j 0)) (part_by bs ns j) (sym e ∙ ap left_means g)) ∙ whole

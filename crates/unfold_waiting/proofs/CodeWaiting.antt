@@ -7,9 +7,9 @@ use mathlib.Core.Bool.{Bool, true, false, cond}
 use mathlib.Core.Option.{Option, none, some}
 use borrow.Author.Tests.{ne_eqb}
 use Rattle.unfold_pick.specs.declared.Piece.{Piece as CodePiece}
-use Rattle.unfold_pick.specs.declared.Next.{Next}
-use Rattle.unfold_pick.specs.declared.Next.TheVariants.{Of, Nothing}
-use Rattle.unfold_pick.specs.Next.{first_of, next_of}
+use Rattle.std.specs.Prelude.{Some, None}
+use Rattle.std.proofs.lemmas.Option.{same_Some}
+use Rattle.unfold_pick.specs.Next.{Next, first_of, next_of}
 use Rattle.job.specs.Job.{Job}
 use Rattle.listing.specs.declared.plate.Plate.{Plate}
 use Rattle.listing.specs.Listing.{Listing, plate_at}
@@ -27,24 +27,26 @@ abbrev slot : Bool → CodePiece → Option Piece
 slot here p = cond here (some (piece_of p)) none
 
 -- a piece is taken with its stage, and no other
-of_one : {s t : ℕ} {p q : CodePiece} → Of s p ≡ Of t q → (s ≡ t) × (p ≡ q)
-of_one e = (cc, cc)
+of_one : {s t : ℕ} {p q : CodePiece} → ◌≡◌ {A = Next} (Some (s, p)) (Some (t, q)) → (s ≡ t) × (p ≡ q)
+of_one {s} {t} {p} {q} e =
+    let f : ◌≡◌ {A = ℕ × CodePiece} (s, p) (t, q) = same_Some (s, p) (t, q) e in
+    (ap (λ (x : ℕ × CodePiece). x.0) f, ap (λ (x : ℕ × CodePiece). x.1) f)
 
 module _ (one two three : CodePiece) where
   abbrev chosen : Bool → Bool → Bool → Next
-  chosen a b c = first_of c (Of 3 three) (first_of b (Of 2 two) (first_of a (Of 1 one) Nothing))
+  chosen a b c = first_of c (Some (3, three)) (first_of b (Some (2, two)) (first_of a (Some (1, one)) None))
 
   abbrev there : Bool → Bool → Bool → Waiting
   there a b c = waiting (slot a one) (slot b two) (slot c three)
 
-  taken-so : (a b c : Bool) (s : ℕ) (p : CodePiece) → chosen a b c ≡ Of s p → highest (there a b c) ≡ some (taken (piece_of p) s (without s (there a b c)))
+  taken-so : (a b c : Bool) (s : ℕ) (p : CodePiece) → chosen a b c ≡ Some (s, p) → highest (there a b c) ≡ some (taken (piece_of p) s (without s (there a b c)))
   unfolding highest
   taken-so a b true s p e = let (f, g) = of_one e in rw (← f, ← g)
   taken-so a true false s p e = let (f, g) = of_one e in rw (← f, ← g)
   taken-so true false false s p e = let (f, g) = of_one e in rw (← f, ← g)
   taken-so false false false s p e = absurd (let z : ◌≡◌ {A = ℕ} 0 1 = cc in omega arith)
 
-  none_so : (a b c : Bool) → chosen a b c ≡ Nothing → highest (there a b c) ≡ none
+  none_so : (a b c : Bool) → chosen a b c ≡ None → highest (there a b c) ≡ none
   unfolding highest
   none_so a b true e = absurd (let z : ◌≡◌ {A = ℕ} 0 1 = cc in omega arith)
   none_so a true false e = absurd (let z : ◌≡◌ {A = ℕ} 0 1 = cc in omega arith)
@@ -53,11 +55,11 @@ module _ (one two three : CodePiece) where
 
 module _ (w : CodeWaiting) where
   -- the piece picked is the one of the highest stage, and the others wait on
-  pub picked-taken : (s : ℕ) (p : CodePiece) → next_of w.first w.second w.third ≡ Of s p → highest (waiting_of w) ≡ some (taken (piece_of p) s (without s (waiting_of w)))
+  pub picked-taken : (s : ℕ) (p : CodePiece) → next_of w.first w.second w.third ≡ Some (s, p) → highest (waiting_of w) ≡ some (taken (piece_of p) s (without s (waiting_of w)))
   picked-taken s p e = taken-so w.first w.second w.third w.first.here w.second.here w.third.here s p e
 
   -- where none is picked nothing waits
-  pub picked_none : next_of w.first w.second w.third ≡ Nothing → highest (waiting_of w) ≡ none
+  pub picked_none : next_of w.first w.second w.third ≡ None → highest (waiting_of w) ≡ none
   picked_none e = none_so w.first w.second w.third w.first.here w.second.here w.third.here e
 
 module _ (l : Listing) (j x y : ℕ) (w : Waiting) where

@@ -2,5 +2,4 @@
 pub mod CodeSearch
 pub mod CodeLeft
 pub mod CodeBegins
-pub mod CodeTurn
 pub mod CodeWaiting

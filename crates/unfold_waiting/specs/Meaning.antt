@@ -1,13 +1,10 @@
 -- What the structs and enums of this crate mean, in the terms of document 01, "Unfolding".
-use Rattle.std.specs.Prelude.{ℕ, cond}
+use Rattle.std.specs.Prelude.{ℕ, cond, Option as CodeOption, Some, None}
 use Rattle.std.proofs.Math.Option.{Option, none, some}
 use Rattle.layouts.specs.Placement.{opened, Turn, turn}
 use Rattle.layouts.specs.Unfold.{Piece, Waiting, waiting}
 use Rattle.unfold_pick.specs.declared.Piece.{Piece as CodePiece}
-use Rattle.unfold_waiting.specs.declared.search.Left.{Left}
-use Rattle.unfold_waiting.specs.declared.search.Left.TheVariants.{At, Nothing as NoneLeft}
-use Rattle.unfold_waiting.specs.declared.search.Found.{Found}
-use Rattle.unfold_waiting.specs.declared.search.Found.TheVariants.{Cut, Nothing}
+use Rattle.job.specs.declared.counters.CutNumber.{CutNumber}
 use Rattle.unfold_waiting.specs.declared.turn.Turn.{Turn as CodeTurn}
 use Rattle.unfold_waiting.specs.declared.waiting.Waiting.{Waiting as CodeWaiting}
 
@@ -27,11 +24,11 @@ abbrev pub turn_of : ℕ → CodeTurn → Turn
 turn_of z t = turn (opened t.board z) t.strip t.stack t.place
 
 -- the answer of the search in a part (request Seven): the place of the count there, from 0
-abbrev pub left_means : Left → Option ℕ
-left_means (At i) = some i
-left_means NoneLeft = none
+abbrev pub left_means : CodeOption ℕ → Option ℕ
+left_means (Some i) = some i
+left_means None = none
 
 -- the answer of the search
-abbrev pub found_means : Found → Option ℕ
-found_means (Cut k) = some k.0
-found_means Nothing = none
+abbrev pub found_means : CodeOption CutNumber → Option ℕ
+found_means (Some k) = some k.0
+found_means None = none

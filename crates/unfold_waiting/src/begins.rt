@@ -21,12 +21,7 @@ fn is_below(cuts: &[u16], k: CutNumber, c: u16, j: PlateType) -> bool
     requires { words_of_cut * k.0 ≤ length cuts.now }
     ensures { result ≡ (ltb c k.0 && ltb (cut_read cuts.now c).plate j.0) }
 {
-    if k.0 <= c {
-        return false;
-    }
-    let cut = cut_at(cuts, CutNumber(c + 1));
-    let plate = cut.plate;
-    plate.0 < j.0
+    c < k.0 && cut_at(cuts, CutNumber(c + 1)).plate.0 < j.0
 }
 
 // Writes for each plate type how many of the k cuts of a listing are on the types below it: in one pass over the cuts, whose plate types do not fall. A
@@ -36,13 +31,11 @@ pub fn cut_begins(cuts: &[u16], k: CutNumber, begins: &mut [u16])
     ensures { (job : Job) (l : Listing) → Model job l → length l.cuts ≡ k.0 → Holds cuts.now (cut_words l.cuts) → Begins l.cuts begins.new }
 {
     let mut c: u16 = 0;
-    let mut j = 0;
-    while j < begins.len() {
-        if is_below(cuts, k, c, PlateType(j as u16)) {
+    for j in 0..begins.len() {
+        // c goes on where the plate type before ended, and the cuts alone say how far: no range is known, so a `for` is no plainer.
+        while is_below(cuts, k, c, PlateType(j as u16)) {
             c += 1;
-        } else {
-            begins[j] = c;
-            j += 1;
         }
+        begins[j] = c;
     }
 }

@@ -6,9 +6,5 @@ pub fn copy_counts(counts: &[u16], copy: &mut [u16])
     requires { length copy.old ≤ length counts.now }
     ensures { copy.new ≡ take (length copy.old) counts.now }
 {
-    let mut i = 0;
-    while i < copy.len() {
-        copy[i] = counts[i];
-        i += 1;
-    }
+    copy.copy_from_slice(&counts[..copy.len()]);
 }

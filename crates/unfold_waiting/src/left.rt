@@ -8,23 +8,14 @@ ghost use Rattle.unfold_waiting.specs.Begins.{Begins, PartIn};
 
 use job::counters::PlateType;
 
-// A count in 32 bits, in which those of all cuts can be added up.
-fn wide(count: u16) -> u32
-    ensures { (result ≡ count) × (result ≤ 65535) }
-{
-    count as u32
-}
-
-// The counts of a part, added up.
+// The counts of a part, added up in 32 bits, which hold those of all cuts.
 fn sum_of(part: &[u16]) -> u32
     requires { length part.now ≤ 65535 }
     ensures { result ≡ total part.now }
 {
     let mut sum: u32 = 0;
-    let mut i = 0;
-    while i < part.len() {
-        sum += wide(part[i]);
-        i += 1;
+    for &n in part {
+        sum += n as u32;
     }
     sum
 }

@@ -11,46 +11,25 @@ ghost use Rattle.unfold_waiting.specs.Meaning.{left_means, found_means};
 use job::counters::{CutNumber, PlateType};
 
 // The place of the first count of a part that is left, from 0, if one is.
-#[derive(Clone, Copy)]
-pub enum Left {
-    At(usize),
-    Nothing,
-}
-
-// The cut that is found, if there is one.
-#[derive(Clone, Copy)]
-pub enum Found {
-    Cut(CutNumber),
-    Nothing,
-}
-
-// The first count of a part that is left.
-fn first_left(part: &[u16]) -> Left
+fn first_left(part: &[u16]) -> Option<usize>
     ensures { left_means result ≡ first_left 0 part.now }
 {
-    let mut i = 0;
-    while i < part.len() {
-        if part[i] != 0 {
-            return Left::At(i);
-        }
-        i += 1;
-    }
-    Left::Nothing
+    part.iter().position(|&count| 0 < count)
 }
 
 // The lowest-numbered cut on plate type j that has a count left: the part of the counts from where its cuts begin to where those of the next type begin is
 // handed on, and no other count is read.
-pub fn find_cut(counts: &[u16], begins: &[u16], j: PlateType) -> Found
+pub fn find_cut(counts: &[u16], begins: &[u16], j: PlateType) -> Option<CutNumber>
     requires { PartIn begins.now counts.now j.0 }
     ensures { (job : Job) (l : Listing) → Model job l → Begins l.cuts begins.now → found_means result ≡ search j.0 1 l.cuts counts.now }
 {
     let at = j.0 as usize;
     let from = begins[at] as usize;
     let to = begins[at + 1] as usize;
-    let Left::At(i) = first_left(&counts[from..to]) else {
-        return Found::Nothing;
+    let Some(i) = first_left(&counts[from..to]) else {
+        return None;
     };
-    Found::Cut(CutNumber((from + i + 1) as u16))
+    Some(CutNumber((from + i + 1) as u16))
 }
 
 // A cut is done once: its count falls by 1.
@@ -59,5 +38,5 @@ pub fn spend(counts: &mut [u16], k: CutNumber)
     ensures { counts.new ≡ spent counts.old k.0 }
 {
     let at = (k.0 - 1) as usize;
-    counts[at] = counts[at] - 1;
+    counts[at] -= 1;
 }

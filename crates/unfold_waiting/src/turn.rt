@@ -11,7 +11,7 @@ use job::sizes::MAX_PIECES;
 pub const MAX_STEPS: u16 = 4 * MAX_PIECES;
 
 // Board, strip, stack and place of the last item, each from 1. The size of the board stands beside it.
-#[derive(Clone, Copy)]
+#[derive(Clone, Copy, Debug, PartialEq, Eq)]
 pub struct Turn {
     pub board: u16,
     pub strip: u16,
@@ -33,28 +33,26 @@ impl Turn {
     }
 
     // The item of a cut at stage 1 begins a strip, at stage 2 a stack, at stage 3 it takes the next place.
+    #[tactic(auto, unfolding(layouts::specs::Unfold::next_turn))]
     pub fn next(self, stage: u16) -> Turn
         requires { TurnTo max_steps (turn_of 0 self) }
         ensures { (z : ℕ) → turn_of z result ≡ next_turn stage (turn_of z self) }
     {
         match stage {
             1 => Turn {
-                board: self.board,
                 strip: self.strip + 1,
                 stack: 1,
                 place: 1,
+                ..self
             },
             2 => Turn {
-                board: self.board,
-                strip: self.strip,
                 stack: self.stack + 1,
                 place: 1,
+                ..self
             },
             _ => Turn {
-                board: self.board,
-                strip: self.strip,
-                stack: self.stack,
                 place: self.place + 1,
+                ..self
             },
         }
     }

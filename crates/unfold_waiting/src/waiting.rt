@@ -16,7 +16,7 @@ use listing::words::plate_at;
 use unfold_pick::Piece;
 
 // At most three pieces, one of each stage.
-#[derive(Clone, Copy)]
+#[derive(Clone, Copy, Debug, PartialEq, Eq)]
 pub struct Waiting {
     pub first: Piece,
     pub second: Piece,
@@ -67,12 +67,11 @@ impl Waiting {
     pub fn without(self, stage: u16) -> Waiting
         ensures { waiting_of result ≡ without stage (waiting_of self) }
     {
-        let none = absent();
         let mut w = self;
         match stage {
-            3 => w.third = none,
-            2 => w.second = none,
-            _ => w.first = none,
+            3 => w.third = absent(),
+            2 => w.second = absent(),
+            _ => w.first = absent(),
         }
         w
     }
@@ -85,8 +84,7 @@ impl Waiting {
         if j.0 == 0 {
             return self;
         }
-        let plate = plate_at(plates, j);
-        let stage = plate.stage;
+        let stage = plate_at(plates, j).stage;
         let p = Piece {
             here: true,
             plate: j,

@@ -1,35 +1,7 @@
-use Prim.Native.Nat.{ℕ}
-use mathlib.Core.Path.{sym}
-use lib.ListN.{length-replicate}
-use Rattle.job.specs.Sizes.{longest_job, plates_size, cuts_size, counts_size, placements_size}
-use Rattle.answers.proofs.FullSize.{full_size}
+use Rattle.std.proofs.Common.{arith}
 use Rattle.fold_text_call.proofs.ToHost.{fold-answer}
 use Rattle.texts_parts.proofs.parts_fold_text.Goals as goal
 
 -- `parts_fold_text` hands on the answer to the fold text in parts, over buffers of its own.
-pub slice_bounds-fold_in_parts-end : goal.slice_bounds-fold_in_parts-end
-slice_bounds-fold_in_parts-end c = sym {0} (length-replicate {0} {A = ℕ} longest_job 0)
-
-pub slice_bounds-fold_in_parts-end-2 : goal.slice_bounds-fold_in_parts-end-2
-slice_bounds-fold_in_parts-end-2 c = sym {0} (length-replicate {0} {A = ℕ} placements_size 0)
-
-pub slice_bounds-fold_in_parts-end-3 : goal.slice_bounds-fold_in_parts-end-3
-slice_bounds-fold_in_parts-end-3 c = sym {0} (length-replicate {0} {A = ℕ} plates_size 0)
-
-pub slice_bounds-fold_in_parts-end-4 : goal.slice_bounds-fold_in_parts-end-4
-slice_bounds-fold_in_parts-end-4 c = sym {0} (length-replicate {0} {A = ℕ} cuts_size 0)
-
-pub slice_bounds-fold_in_parts-end-5 : goal.slice_bounds-fold_in_parts-end-5
-slice_bounds-fold_in_parts-end-5 c = sym {0} (length-replicate {0} {A = ℕ} counts_size 0)
-
-pub fold_in_parts-requires : goal.fold_in_parts-requires
-fold_in_parts-requires c = tt
-
 pub returns : goal.returns
-returns c = fold-answer
-    c.fold_in_parts.ensures
-    (full_size longest_job)
-    (full_size placements_size)
-    (full_size plates_size)
-    (full_size cuts_size)
-    (full_size counts_size)
+returns c = fold-answer c.fold_in_parts.ensures (omega arith) (omega arith) (omega arith) (omega arith) (omega arith)

@@ -1,41 +1,11 @@
-use Prim.Native.Nat.{ℕ}
-use mathlib.Core.Path.{sym}
-use lib.ListN.{length-replicate}
-use Rattle.job.specs.Sizes.{longest_job, plates_size, cuts_size, counts_size, prices_size, placements_size}
-use Rattle.answers.proofs.FullSize.{full_size}
+use Rattle.std.proofs.Common.{arith}
 use Rattle.saw_text_call.proofs.ToHost.{saw-answer}
 use Rattle.texts_parts.proofs.parts_saw_text.Goals as goal
 
 -- `parts_saw_text` hands on the answer to the saw text in parts, over buffers of its own.
-pub slice_bounds-saw_in_parts-end : goal.slice_bounds-saw_in_parts-end
-slice_bounds-saw_in_parts-end c = sym {0} (length-replicate {0} {A = ℕ} longest_job 0)
-
-pub slice_bounds-saw_in_parts-end-2 : goal.slice_bounds-saw_in_parts-end-2
-slice_bounds-saw_in_parts-end-2 c = sym {0} (length-replicate {0} {A = ℕ} plates_size 0)
-
-pub slice_bounds-saw_in_parts-end-3 : goal.slice_bounds-saw_in_parts-end-3
-slice_bounds-saw_in_parts-end-3 c = sym {0} (length-replicate {0} {A = ℕ} cuts_size 0)
-
-pub slice_bounds-saw_in_parts-end-4 : goal.slice_bounds-saw_in_parts-end-4
-slice_bounds-saw_in_parts-end-4 c = sym {0} (length-replicate {0} {A = ℕ} counts_size 0)
-
-pub slice_bounds-saw_in_parts-end-5 : goal.slice_bounds-saw_in_parts-end-5
-slice_bounds-saw_in_parts-end-5 c = sym {0} (length-replicate {0} {A = ℕ} prices_size 0)
-
-pub slice_bounds-saw_in_parts-end-6 : goal.slice_bounds-saw_in_parts-end-6
-slice_bounds-saw_in_parts-end-6 c = sym {0} (length-replicate {0} {A = ℕ} placements_size 0)
-
-pub saw_in_parts-requires : goal.saw_in_parts-requires
-saw_in_parts-requires c = tt
-
 pub returns : goal.returns
-returns c = saw-answer
+returns c =
+    saw-answer
     c.saw_in_parts.ensures
-    (record {
-      for-job = full_size longest_job;
-      for-plates = full_size plates_size;
-      for-cuts = full_size cuts_size;
-      for-counts = full_size counts_size;
-      for-prices = full_size prices_size;
-    })
-    (full_size placements_size)
+    (record { for-job = omega arith; for-plates = omega arith; for-cuts = omega arith; for-counts = omega arith; for-prices = omega arith })
+    (omega arith)

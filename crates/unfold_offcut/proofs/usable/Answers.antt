@@ -1,4 +1,5 @@
 use mathlib.Core.Path.{◌≡◌}
+use mathlib.Core.Logic.{inl, inr}
 use mathlib.Core.Bool.{true, false}
 use Prim.Native.Nat.{ℕ}
 use borrow.Author.Tests.{le-leb, lt-leb}
@@ -27,12 +28,10 @@ returns-then-lengths-o-2 c =
     let a = c.args in
     both a.lengths.first a.lengths.second (offcut_in a.o) (le-leb _ _ c.if-lengths-o.true) (le-leb _ _ c.if-lengths-o-2.true)
 
-pub returns-else-lengths-o-2 : goal.returns-else-lengths-o-2
-returns-else-lengths-o-2 c =
-    let a = c.args in
-    one a.lengths.first a.lengths.second (offcut_in a.o) (le-leb _ _ c.if-lengths-o.true) (lt-leb _ _ c.if-lengths-o-2.false)
-
 pub returns-else-lengths-o : goal.returns-else-lengths-o
 returns-else-lengths-o c =
     let a = c.args in
-    neither a.lengths.first a.lengths.second (offcut_in a.o) (lt-leb _ _ c.if-lengths-o.false)
+    elim c.else-lengths-o.either [
+      | inl h ↦ one a.lengths.first a.lengths.second (offcut_in a.o) (le-leb _ _ h.0) (lt-leb _ _ h.1)
+      | inr h ↦ neither a.lengths.first a.lengths.second (offcut_in a.o) (lt-leb _ _ h)
+    ]

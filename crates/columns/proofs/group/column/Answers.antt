@@ -10,10 +10,8 @@ pub returns-then-b-eq32 : goal.returns-then-b-eq32
 returns-then-b-eq32 c = column-none _ _ (λ n l p q. ⊎_elim (λ w. omega arith) (λ w. omega arith) (mark-cases n))
 
 pub returns-then-b-lt48 : goal.returns-then-b-lt48
-returns-then-b-lt48 c = column-none _ _ (λ n l p q. ⊎_elim (λ w. omega arith) (λ w. omega arith) (mark-cases n))
-
-pub returns-then-b-gt57 : goal.returns-then-b-gt57
-returns-then-b-gt57 c = column-none _ _ (λ n l p q. ⊎_elim (λ w. omega arith) (λ w. omega arith) (mark-cases n))
+returns-then-b-lt48 c =
+    column-none _ _ (λ n l p q. ⊎_elim (λ w. omega arith) (λ w. omega arith) (mark-cases n))
 
 pub returns-then-w-eq0 : goal.returns-then-w-eq0
 returns-then-w-eq0 c = column-none _ _ (λ n l p q. ⊎_elim (λ w. omega arith) (λ w. omega arith) (mark-cases n))

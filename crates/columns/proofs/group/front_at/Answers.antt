@@ -1,5 +1,4 @@
 use native.Mathlib.Omega.{arith}
-use mathlib.Core.Path.{◌≡◌}
 use Rattle.columns.specs.Widths.{front_bytes}
 use Rattle.columns.proofs.GroupLaws.{columns-none, columns-step}
 use Rattle.columns.proofs.WordLaws.{columns-blank, part_length}
@@ -11,16 +10,10 @@ returns-then-front_blank c =
     columns-blank _ front_bytes (part_length a.s.now a.at front_bytes (omega arith)) (c.front_blank.ensures c.if-front_blank.true)
 
 pub loop-i-init : goal.loop-i-init
-loop-i-init c = (omega arith, columns-none)
+loop-i-init c = columns-none
 
 pub loop-i-preserved : goal.loop-i-preserved
 loop-i-preserved c =
     let l = c.loop-i in
     let a = c.args in
-    (omega arith, columns-step a.s.now a.at l.i _ _ (omega arith) l.invariant.1 c.column-v.ensures)
-
-pub returns : goal.returns
-returns c =
-    let l = c.loop-i in
-    let e : l.i ≡ front_bytes = omega arith in
-    rw e at l.invariant.1
+    columns-step a.s.now a.at l.i _ _ (omega arith) l.invariant c.column-v.ensures

@@ -10,14 +10,8 @@ use Rattle.columns.proofs.group.number_at.Goals as goal
 pub returns-then-s-at : goal.returns-then-s-at
 returns-then-s-at c = sym (number_short c.args.s.now c.args.at (omega arith))
 
-pub returns-then-s-at-lt-GROUP : goal.returns-then-s-at-lt-GROUP
-returns-then-s-at-lt-GROUP c = sym (number_short c.args.s.now c.args.at (omega arith))
-
 pub returns-then-b-lt48 : goal.returns-then-b-lt48
 returns-then-b-lt48 c = sym (number-last c.args.s.now c.args.at (λ n e. omega arith))
-
-pub returns-then-b-gt57 : goal.returns-then-b-gt57
-returns-then-b-gt57 c = sym (number-last c.args.s.now c.args.at (λ n e. omega arith))
 
 pub returns-then-blank_at : goal.returns-then-blank_at
 returns-then-blank_at c =

@@ -13,12 +13,9 @@ fold_into-requires c =
     let layouts = c.args.layouts.now in
     let p = c.requires.job_value in record { lines_lent = lent-lines ws layouts p.0 p.1.0 p.1.1; mode_value = (c.head_of-head.ensures.of-mode, staged ws layouts p.0 p.1.0 p.1.1); cuts_lent = c.requires.cuts_lent }
 
-pub count_boards-requires : goal.count_boards-requires
-count_boards-requires c =
+pub invariant_of-lines : goal.invariant_of-lines
+invariant_of-lines c =
     let ws = c.args.job.now in
     let layouts = c.args.layouts.now in
     let p = c.requires.job_value in
-    (lent-lines ws layouts p.0 p.1.0 p.1.1).lines-lent
-
-pub returns : goal.returns
-returns c = record { number_value = c.count_boards.ensures; counts_after = c.fold_into.ensures }
+    record { lent = (lent-lines ws layouts p.0 p.1.0 p.1.1).lines-lent }

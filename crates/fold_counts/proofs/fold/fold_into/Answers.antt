@@ -8,16 +8,13 @@ use Rattle.listing.specs.Listing.{listing_of}
 use Rattle.fold_counts.proofs.CodeFold.{none-counted, fold-begin, fold-rule, fold-counting, fold_step, fold_end}
 use Rattle.fold_counts.proofs.fold.fold_into.Goals as goal
 
-pub size_named-board-requires : goal.size_named-board-requires
-size_named-board-requires c = c.requires.lines_lent.lines-lent.whole
-
 pub loop-a-init : goal.loop-a-init
 loop-a-init c =
     let a = c.args in
     (search rules, refl, fold-begin (job_of a.job.now) (listing_of (job_of a.job.now)) a.layouts.now a.k.0 (none-counted (length a.counts.now) a.k.0 c.clear.ensures (omega (arith, c.requires.cuts_lent.1, c.clear.auto.buffer))) c.requires.mode_value.1 c.size_named-board.ensures)
 
-pub fold_strip-r-requires : goal.fold_strip-r-requires
-fold_strip-r-requires c =
+pub fold_strip-strip-requires : goal.fold_strip-strip-requires
+fold_strip-strip-requires c =
     let a = c.args in
     let i = c.loop-a in
     let job = job_of a.job.now in
@@ -25,22 +22,13 @@ fold_strip-r-requires c =
     let words = c.requires.lines_lent.lines-lent.whole in
     let few = c.requires.lines_lent.lines-lent.few in record { lines_lent = (c.requires.lines_lent, c.loop-a-test.true); cuts_lent = c.requires.cuts_lent.0; counting = fold-counting job l a.layouts.now a.k.0 a.lines words (omega (arith, i.invariant.0)) (omega (arith, i.invariant.1, c.requires.cuts_lent.1, c.clear.auto.buffer)) i.invariant.2; three_value = (c.three-three.ensures ∙ ap three_stages c.requires.mode_value.0, fold-rule job l a.layouts.now a.k.0 a.lines words c.loop-a-test.true i.invariant.2) }
 
-pub strip_plate-board-requires : goal.strip_plate-board-requires
-strip_plate-board-requires c = (c.requires.lines_lent.lines-lent.whole, c.fold_strip-r.ensures.end_value.1.1.0)
-
-pub loop-a-smaller : goal.loop-a-smaller
-loop-a-smaller c = omega (arith, c.fold_strip-r.ensures.end_value.1.0, c.loop-a-test.true)
-
 pub loop-a-preserved : goal.loop-a-preserved
 loop-a-preserved c =
     let a = c.args in
     let i = c.loop-a in
     let job = job_of a.job.now in
-    let f = c.fold_strip-r in
+    let f = c.fold_strip-strip in
     (f.ensures.end_value.1.1.0, f.auto.counts ∙ i.invariant.1, fold_step job (listing_of job) a.layouts.now a.k.0 a.lines c.requires.lines_lent.lines-lent.whole f.result.end _ _ f.result.board.0 c.loop-a-test.true i.invariant.2 f.ensures.end_value.0 f.ensures.by_index f.ensures.end_value.1.1.1 c.strip_plate-board.ensures)
-
-pub shape_of-counts : goal.shape_of-counts
-shape_of-counts c = c.loop-a.invariant.1 ∙ c.clear.auto.buffer
 
 pub returns : goal.returns
 returns c =

@@ -11,10 +11,10 @@ use Rattle.layouts_strips.specs.First.{strip_of}
 use Rattle.fold_counts.proofs.strip.front_item.Given as goal
 
 -- `front_item` passes the stacks that are not full.
-abbrev pub invariant-loop-lines : goal.invariant-loop-lines
-invariant-loop-lines l = (l.p < l.lines)
-    × (any (full_stack (job_of l.job) l.height) (strip_of (drop l.p (rows_of l.layouts))) ≡ true)
-    × (first_of (full_stack (job_of l.job) l.height) (strip_of (drop l.a (rows_of l.layouts))) ≡ first_of (full_stack (job_of l.job) l.height) (strip_of (drop l.p (rows_of l.layouts))))
+abbrev pub invariant-loop-m : goal.invariant-loop-m
+invariant-loop-m l = (l.p < l.lines.number)
+    × (any (full_stack (job_of l.lines.job.now) l.height) (strip_of (drop l.p (rows_of l.lines.layouts.now))) ≡ true)
+    × (first_of (full_stack (job_of l.lines.job.now) l.height) (strip_of (drop l.a (rows_of l.lines.layouts.now))) ≡ first_of (full_stack (job_of l.lines.job.now) l.height) (strip_of (drop l.p (rows_of l.lines.layouts.now))))
 
-abbrev pub decreases-loop-lines : goal.decreases-loop-lines
-decreases-loop-lines l = l.lines - l.p
+abbrev pub decreases-loop-m : goal.decreases-loop-m
+decreases-loop-m l = l.lines.number - l.p

@@ -14,7 +14,8 @@ returns-then-has_room c =
     let a = c.args in
     let b = lent a.out.now a.job.now a.layouts.now a.plates.now a.cuts.now a.counts.now in
     let room = room-told b c.has_room.ensures c.if-has_room.true in
-    called a.text.now b _ _ c.read_in_parts-reader.result c.read_in_parts-reader.auto.job c.read_in_parts-reader.auto.layouts c.read_in_parts-reader.ensures room c.finish.ensures.finished
+    let read = c.read_in_parts-reader in
+    called a.text.now b _ _ read.result read.auto.job read.auto.layouts read.ensures room c.finish.ensures.finished
 
 pub returns : goal.returns
 returns c = not-called _ _ c.has_room.ensures c.if-has_room.false

@@ -1,8 +1,6 @@
 use Prim.Native.Nat.{◌*◌}
 use native.Mathlib.Omega.{arith}
-use mathlib.Core.Path.{sym}
 use lib.ListN.{take}
-use lib.Seq.{length-take-le}
 use Rattle.job.specs.Job.{job_of}
 use Rattle.layouts.specs.Lines.{rows_of}
 use Rattle.layouts.specs.LayoutsRow.{layouts_row}
@@ -11,23 +9,14 @@ use Rattle.fold_text_ending.proofs.JobPart.{lines-kept, lines-many, by-words}
 use Rattle.job.specs.Sizes.{words_of_placement}
 use Rattle.fold_text_ending.proofs.ending.answer_listed.Goals as goal
 
-pub refuse-requires : goal.refuse-requires
-refuse-requires c = c.requires.counts_size_in_bounds.1
-
 -- `answer_listed` answers 10, or by the words of the lines.
 pub returns-then-rows-gt-MOST_ROWS : goal.returns-then-rows-gt-MOST_ROWS
 returns-then-rows-gt-MOST_ROWS c ls size lines held =
     let a = c.args in
     let ws = a.job.now in
     c.refuse.ensures (layouts_row (body_line ws) (job_of ws) (rows_of ls)) ws ls
-    (lines-many ws ls a.layouts.now a.rows size (body_line ws) (job_of ws) lines c.if-rows-gt-MOST_ROWS.true)
+    (rw c.number.ensures (lines-many ws ls a.layouts.now a.rows size (body_line ws) (job_of ws) lines c.if-rows-gt-MOST_ROWS.true))
     (omega arith)
-
-pub slice_bounds-answer_rows-end : goal.slice_bounds-answer_rows-end
-slice_bounds-answer_rows-end c = sym (length-take-le (words_of_placement * c.args.rows) c.args.layouts.now (omega (arith, c.requires.placements_size_in_bounds)))
-
-pub answer_rows-requires : goal.answer_rows-requires
-answer_rows-requires c = record { listed_lent = c.requires.listed_lent; counts_size_in_bounds = c.requires.counts_size_in_bounds }
 
 pub returns : goal.returns
 returns c ls size lines held =

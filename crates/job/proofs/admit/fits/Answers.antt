@@ -1,7 +1,5 @@
 use mathlib.Core.Path.{◌≡◌, refl}
 use mathlib.Core.Bool.{Bool}
-use native.Mathlib.Omega.{arith}
-use borrow.Author.Rules.{rules}
 use Rattle.job.specs.declared.item.Position.{Position}
 use Rattle.job.specs.declared.size.Size.{Size}
 use Rattle.job.specs.Job.{job_of, no_size, size_at, fits_in, fits}
@@ -15,24 +13,15 @@ tested p e i t = cc
 
 pub loop-j-init : goal.loop-j-init
 unfolding fits
-loop-j-init c = (search rules, refl)
-
-pub size_at-size-requires : goal.size_at-size-requires
-size_at-size-requires c = (c.loop-j-test.true, c.requires)
+loop-j-init c = refl
 
 pub returns-then-fits_in : goal.returns-then-fits_in
 unfolding size_at
-returns-then-fits_in c = any_found (job_of c.args.job.now).sizes no_size (fits_in c.args.position) c.loop-j.j c.loop-j.invariant.1 (rw (sizes-length _ c.requires) c.loop-j-test.true) (tested c.args.position c.fits_in.ensures c.size_at-size.ensures c.if-fits_in.true)
-
-pub overflow_add-j : goal.overflow_add-j
-overflow_add-j c = omega (arith, c.loop-j-test.true, c.type_inv.job 2)
+returns-then-fits_in c = any_found (job_of c.args.job.now).sizes no_size (fits_in c.args.position) c.loop-j.j c.loop-j.invariant (rw (sizes-length _ c.requires) c.loop-j-test.true) (tested c.args.position c.fits_in.ensures c.size_at-size.ensures c.if-fits_in.true)
 
 pub loop-j-preserved : goal.loop-j-preserved
 unfolding size_at
-loop-j-preserved c = (
-  search rules,
-  any_next (job_of c.args.job.now).sizes no_size (fits_in c.args.position) c.loop-j.j c.loop-j.invariant.1 (rw (sizes-length _ c.requires) c.loop-j-test.true) (tested c.args.position c.fits_in.ensures c.size_at-size.ensures c.if-fits_in.false),
-)
+loop-j-preserved c = any_next (job_of c.args.job.now).sizes no_size (fits_in c.args.position) c.loop-j.j c.loop-j.invariant (rw (sizes-length _ c.requires) c.loop-j-test.true) (tested c.args.position c.fits_in.ensures c.size_at-size.ensures c.if-fits_in.false)
 
 pub returns : goal.returns
-returns c = any-end (job_of c.args.job.now).sizes no_size (fits_in c.args.position) c.loop-j.j c.loop-j.invariant.1 (rw (sizes-length _ c.requires) c.loop-j-test.false)
+returns c = any-end (job_of c.args.job.now).sizes no_size (fits_in c.args.position) c.loop-j.j c.loop-j.invariant (rw (sizes-length _ c.requires) c.loop-j-test.false)

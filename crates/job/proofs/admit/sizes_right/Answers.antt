@@ -1,7 +1,5 @@
-use mathlib.Core.Path.{◌≡◌, refl}
+use mathlib.Core.Path.{◌≡◌}
 use mathlib.Core.Bool.{Bool}
-use native.Mathlib.Omega.{arith}
-use borrow.Author.Rules.{rules}
 use borrow.Author.Tests.{not-true, not-false}
 use Rattle.job.specs.declared.size.Size.{Size}
 use Rattle.job.specs.Job.{job_of, no_size, size_at, size_right}
@@ -13,25 +11,13 @@ use Rattle.job.proofs.admit.sizes_right.Goals as goal
 tested : {r t : Bool} {z z' : Size} → r ≡ size_right z → z ≡ z' → r ≡ t → size_right z' ≡ t
 tested e i t = cc
 
-pub loop-j-init : goal.loop-j-init
-loop-j-init c = (search rules, refl)
-
-pub size_at-size-requires : goal.size_at-size-requires
-size_at-size-requires c = (c.loop-j-test.true, c.requires)
-
 pub returns-then-not-size_right : goal.returns-then-not-size_right
 unfolding size_at
-returns-then-not-size_right c = all-failed (job_of c.args.job.now).sizes no_size size_right c.loop-j.j c.loop-j.invariant.1 (rw (sizes-length _ c.requires) c.loop-j-test.true) (tested c.size_right.ensures c.size_at-size.ensures (not-true _ c.if-not-size_right.true-raw))
-
-pub overflow_add-j : goal.overflow_add-j
-overflow_add-j c = omega (arith, c.loop-j-test.true, c.type_inv.job 2)
+returns-then-not-size_right c = all-failed (job_of c.args.job.now).sizes no_size size_right c.loop-j.j c.loop-j.invariant (rw (sizes-length _ c.requires) c.loop-j-test.true) (tested c.size_right.ensures c.size_at-size.ensures (not-true _ c.if-not-size_right.true-raw))
 
 pub loop-j-preserved : goal.loop-j-preserved
 unfolding size_at
-loop-j-preserved c = (
-  search rules,
-  all-next (job_of c.args.job.now).sizes no_size size_right c.loop-j.j c.loop-j.invariant.1 (rw (sizes-length _ c.requires) c.loop-j-test.true) (tested c.size_right.ensures c.size_at-size.ensures (not-false _ c.if-not-size_right.false-raw)),
-)
+loop-j-preserved c = all-next (job_of c.args.job.now).sizes no_size size_right c.loop-j.j c.loop-j.invariant (rw (sizes-length _ c.requires) c.loop-j-test.true) (tested c.size_right.ensures c.size_at-size.ensures (not-false _ c.if-not-size_right.false-raw))
 
 pub returns : goal.returns
-returns c = all_end (job_of c.args.job.now).sizes no_size size_right c.loop-j.j c.loop-j.invariant.1 (rw (sizes-length _ c.requires) c.loop-j-test.false)
+returns c = all_end (job_of c.args.job.now).sizes no_size size_right c.loop-j.j c.loop-j.invariant (rw (sizes-length _ c.requires) c.loop-j-test.false)

@@ -1,5 +1,4 @@
 use mathlib.Core.Path.{◌≡◌}
-use Prim.Native.Nat.{◌-◌, ◌≤◌}
 use lib.ListN.{drop}
 use Rattle.job.specs.Lists.{all}
 use Rattle.job.specs.Job.{job_of, size_right}
@@ -7,7 +6,4 @@ use Rattle.job.proofs.admit.sizes_right.Given as goal
 
 -- `sizes_right` looks at the sizes in rising number: what is left to test from size j on is the whole test.
 abbrev pub invariant-loop-j : goal.invariant-loop-j
-invariant-loop-j l = (l.j ≤ l.sizes) × (all size_right (job_of l.job).sizes ≡ all size_right (drop l.j (job_of l.job).sizes))
-
-abbrev pub decreases-loop-j : goal.decreases-loop-j
-decreases-loop-j l = l.sizes - l.j
+invariant-loop-j l = all size_right (job_of l.job).sizes ≡ all size_right (drop l.j (job_of l.job).sizes)

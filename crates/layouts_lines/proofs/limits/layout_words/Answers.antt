@@ -1,18 +1,20 @@
-use mathlib.Core.Path.{◌≡◌, ap}
+use mathlib.Core.Path.{◌≡◌, sym, ap, ◌∙◌}
 use mathlib.Core.List.{List}
 use Prim.Native.Nat.{ℕ, ◌/◌}
 use native.Mathlib.Omega.{arith}
 use lib.ListN.{length, get_or}
+use Rattle.std.proofs.lemmas.Result.{err_from_is_err_and}
 use Rattle.job.specs.declared.head.Head.{Head}
 use Rattle.job.specs.Sizes.{words_of_placement}
 use Rattle.job.specs.Verdict.{pass}
-use Rattle.job.specs.Row.{row_verdict}
+use Rattle.job.specs.Refused.{row_verdict}
 use Rattle.job.specs.Head.{HeadOf}
 use Rattle.job.specs.Job.{job_of, job_words}
 use Rattle.job.proofs.CodeAdmission.{passed_length}
+use Rattle.job.proofs.CodeEnds.{then-on}
+use Rattle.job.proofs.Verdicts.{then-refused}
 use Rattle.job.proofs.CodeItems.{items-length}
 use Rattle.job.proofs.SizeWords.{sizes-length}
-use Rattle.layouts_lines.proofs.CodeChecks.{row-stops, row-goes-on}
 use Rattle.layouts_lines.proofs.CodeLimits.{whole-lines, cut_short, by-limits, limits-typed}
 use Rattle.layouts_lines.proofs.limits.layout_words.Goals as goal
 
@@ -29,26 +31,27 @@ pub head_of-head-requires : goal.head_of-head-requires
 head_of-head-requires c = omega (arith, passed_length _ c.requires)
 
 pub returns-then-layouts-ne0 : goal.returns-then-layouts-ne0
-returns-then-layouts-ne0 c = cut_short (job_of c.args.job.now) c.args.layouts.now c.if-layouts-ne0.true
-
-pub lines_right-limits-requires : goal.lines_right-limits-requires
-lines_right-limits-requires c = whole-lines c.args.layouts.now c.if-layouts-ne0.false
-
-pub returns-in_default : goal.returns-in_default
-returns-in_default c =
-    let job = c.args.job.now in
-    by-limits (job_of job) c.args.layouts.now c.if-layouts-ne0.false
-    (row-stops (c.lines_right-limits.ensures (job_of job) (sizes job c.requires c.head_of-head.ensures) (types job c.requires c.head_of-head.ensures)) _ c.in_default.is)
+returns-then-layouts-ne0 c = rw c.at.ensures (cut_short (job_of c.args.job.now) c.args.layouts.now c.if-layouts-ne0.true)
 
 pub permitted_row-requires : goal.permitted_row-requires
 permitted_row-requires c =
     let job = c.args.job.now in
     let layouts = c.args.layouts.now in
     let whole = whole-lines layouts c.if-layouts-ne0.false in
-    let says = c.lines_right-limits.ensures (job_of job) (sizes job c.requires c.head_of-head.ensures) (types job c.requires c.head_of-head.ensures) in record { job_value = c.requires; layouts_len = (whole, limits-typed (job_of job) layouts (length layouts / words_of_placement) says (ap row_verdict c.in-Passes.is) whole) }
+    let says = c.lines_right.ensures (job_of job) (sizes job c.requires c.head_of-head.ensures) (types job c.requires c.head_of-head.ensures) in record { job_value = c.requires; layouts_len = (whole, limits-typed (job_of job) layouts (length layouts / words_of_placement) says (ap row_verdict c.in_ok-lines_right.was) whole) }
+
+pub returns-in_err-lines_right : goal.returns-in_err-lines_right
+returns-in_err-lines_right c =
+    let job = c.args.job.now in
+    let says = c.lines_right.ensures (job_of job) (sizes job c.requires c.head_of-head.ensures) (types job c.requires c.head_of-head.ensures) in
+    let p = err_from_is_err_and c.from_residual.result c.from_residual.ensures.1 in
+    rw (p.1, p.2)
+    (by-limits (job_of job) c.args.layouts.now c.if-layouts-ne0.false
+    (sym (then-refused _ _ _ _ (sym says ∙ ap row_verdict c.in_err-lines_right.was))))
 
 pub returns : goal.returns
 returns c =
     let job = c.args.job.now in
+    let says = c.lines_right.ensures (job_of job) (sizes job c.requires c.head_of-head.ensures) (types job c.requires c.head_of-head.ensures) in
     by-limits (job_of job) c.args.layouts.now c.if-layouts-ne0.false
-    (row-goes-on (c.lines_right-limits.ensures (job_of job) (sizes job c.requires c.head_of-head.ensures) (types job c.requires c.head_of-head.ensures)) c.in-Passes.is c.permitted_row.ensures)
+    (then-on (sym says ∙ ap row_verdict c.in_ok-lines_right.was) c.permitted_row.ensures)

@@ -1,5 +1,5 @@
 use mathlib.Core.Path.{◌≡◌}
-use Prim.Native.Nat.{ℕ, ◌-◌, ◌≤◌, ◌<◌}
+use Prim.Native.Nat.{ℕ, ◌<◌}
 use lib.ListN.{length, get_or}
 use Rattle.job.specs.Job.{job_of, size_at}
 use Rattle.listing.specs.Plate.{board}
@@ -8,7 +8,4 @@ use Rattle.listing_call.proofs.sizes.put_leasts.Given as goal
 
 -- `put_leasts` writes the least sides of the sizes in rising number.
 abbrev pub invariant-loop-j : goal.invariant-loop-j
-invariant-loop-j l = (l.j ≤ l.t) × ((length l.leasts ≡ length l.initial.leasts) × ((i : ℕ) → i < l.j → get_or l.leasts i 0 ≡ least_of (job_of l.job) (board (size_at (job_of l.job) i))))
-
-abbrev pub decreases-loop-j : goal.decreases-loop-j
-decreases-loop-j l = l.t - l.j
+invariant-loop-j l = (length l.leasts ≡ length l.initial.leasts) × ((i : ℕ) → i < l.j → get_or l.leasts i 0 ≡ least_of (job_of l.job.words.now) (board (size_at (job_of l.job.words.now) i)))

@@ -1,8 +1,7 @@
-use mathlib.Core.Path.{◌≡◌, refl, sym, ap, subst, ◌∙◌}
+use mathlib.Core.Path.{◌≡◌, sym, ap, subst, ◌∙◌}
 use Prim.Native.Nat.{ℕ, ◌≤◌}
 use native.Mathlib.Omega.{arith}
 use mathlib.Core.List.{List}
-use borrow.Author.Rules.{rules}
 use lib.ListN.{length, get_or}
 use Rattle.job.specs.Sizes.{words_before}
 use Rattle.job.specs.declared.size.Size.{Size}
@@ -18,19 +17,6 @@ use Rattle.listing_call.proofs.sizes.put_sizes.Goals as goal
 number : (ws : List ℕ) {t : ℕ} → t ≡ get_or ws 2 0 → words_before (get_or ws 2 0) ≤ length ws → length (job_of ws).sizes ≡ t
 number ws e h = sizes-length ws h ∙ sym e
 
-pub loop-j-init : goal.loop-j-init
-loop-j-init c = (search rules, (c.requires.holds, refl))
-
-pub size_at-size-requires : goal.size_at-size-requires
-size_at-size-requires c =
-    let p = c.requires.sizes_value in
-    (omega (arith, c.loop-j-test.true, p.0), p.1.0)
-
-pub put_plate-requires : goal.put_plate-requires
-put_plate-requires c =
-    let l = c.loop-j.invariant in
-    omega (arith, c.loop-j-test.true, l.1.1, c.requires.sizes_value.1.1)
-
 pub loop-j-preserved : goal.loop-j-preserved
 loop-j-preserved c =
     let l = c.loop-j in
@@ -40,14 +26,12 @@ loop-j-preserved c =
     let job = job_of c.args.job.now in
     let n = number c.args.job.now c.requires.sizes_value.0 c.requires.sizes_value.1.0 in
     let cost = ap (λ (z : Size). z.cost) (sym z.ensures) in
-    (search rules, (first_next job l.j (rw n t) z.ensures (x.ensures job (first_sizes job l.j) (first-length job l.j (omega (arith, n, t))) cost l.invariant.1.0), x.auto.plates ∙ l.invariant.1.1))
-
-pub shape_of-plates : goal.shape_of-plates
-shape_of-plates c = c.loop-j.invariant.1.1
+    let held = x.ensures job (first_sizes job l.j) (first-length job l.j (omega (arith, n, t))) cost l.invariant.0 in
+    (first_next job l.j (rw n t) z.ensures (rw (← c.board.ensures) held), x.auto.plates ∙ l.invariant.1)
 
 pub returns : goal.returns
 returns c =
     let l = c.loop-j in
     let job = job_of c.args.job.now in
     let n = number c.args.job.now c.requires.sizes_value.0 c.requires.sizes_value.1.0 in
-    subst (λ (ps : List Plate). Holds l.plates (plate_words job ps)) (first-all job l.j (rw n c.loop-j-test.false)) l.invariant.1.0
+    subst (λ (ps : List Plate). Holds l.plates (plate_words job ps)) (first-all job l.j (rw n c.loop-j-test.false)) l.invariant.0

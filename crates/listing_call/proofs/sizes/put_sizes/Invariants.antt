@@ -1,5 +1,4 @@
 use mathlib.Core.Path.{◌≡◌}
-use Prim.Native.Nat.{◌-◌, ◌≤◌}
 use lib.ListN.{length}
 use Rattle.job.specs.Job.{job_of}
 use Rattle.listing.specs.Records.{plate_words}
@@ -9,7 +8,4 @@ use Rattle.listing_call.proofs.sizes.put_sizes.Given as goal
 
 -- `put_sizes` writes the sizes in rising number: after j of them the buffer holds the first j.
 abbrev pub invariant-loop-j : goal.invariant-loop-j
-invariant-loop-j l = (l.j ≤ l.t) × (Holds l.plates (plate_words (job_of l.job) (first_sizes (job_of l.job) l.j)) × (length l.plates ≡ length l.initial.plates))
-
-abbrev pub decreases-loop-j : goal.decreases-loop-j
-decreases-loop-j l = l.t - l.j
+invariant-loop-j l = Holds l.plates (plate_words (job_of l.job) (first_sizes (job_of l.job) l.j)) × (length l.plates ≡ length l.initial.plates)

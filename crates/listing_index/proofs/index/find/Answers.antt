@@ -21,12 +21,6 @@ returns-then-same c =
     let x = c.loop-k-test.true in
     let e : plate_read c.args.plates.now (l.k - 1) ≡ c.args.p = sym c.plate_at-q.ensures ∙ sym (same-equal c.args.p _ (sym c.same.ensures ∙ c.if-same.true)) in record { by_index = λ t job ps n h ix. at-found t ps c.args.index.now c.args.p ix l.k (l.k - 1) (omega (arith, x)) (l.invariant.1 t job ps n h ix) (sym (held-plate job ps h (l.k - 1)) ∙ e); result_le_m = omega (arith, l.invariant.0) }
 
-pub loop-k-smaller : goal.loop-k-smaller
-loop-k-smaller c =
-    let l = c.loop-k in
-    let x = c.loop-k-test.true in
-    omega (arith, c.requires.0.nexts (l.k - 1) (omega (arith, l.invariant.0)), x)
-
 pub loop-k-preserved : goal.loop-k-preserved
 loop-k-preserved c =
     let l = c.loop-k in

@@ -1,11 +1,6 @@
 use native.Mathlib.Omega.{arith}
-use borrow.Author.Rules.{rules}
-use lib.ListN.{length-set}
 use Rattle.listing_index.proofs.Growing.{index-grown}
 use Rattle.listing_index.proofs.index.put.Goals as goal
-
-pub bounds-index-b-2 : goal.bounds-index-b-2
-bounds-index-b-2 c = simp length-set (search rules)
 
 -- `put` stores the number before m in its bucket, and m as the greatest.
 pub returns : goal.returns

@@ -1,5 +1,5 @@
 use mathlib.Core.Path.{◌≡◌}
-use Prim.Native.Nat.{ℕ, ◌+◌, ◌-◌, ◌≤◌}
+use Prim.Native.Nat.{ℕ, ◌-◌}
 use lib.ListN.{drop}
 use Rattle.job.specs.Job.{Job, job_of, positions}
 use Rattle.listing.specs.declared.plate.Plate.{Plate}
@@ -12,7 +12,4 @@ abbrev pub Lowers : Job → Plate → ℕ → ℕ → Type 0
 Lowers job p least q = least_from (asks job.mode p) (λ item. along p.stage item.width item.height) least (drop (q - 1) (positions job)) ≡ least_of job p
 
 abbrev pub invariant-loop-q : goal.invariant-loop-q
-invariant-loop-q l = (2 ≤ l.q) × ((l.q ≤ l.last + 1) × Lowers (job_of l.job) l.p l.least l.q)
-
-abbrev pub decreases-loop-q : goal.decreases-loop-q
-decreases-loop-q l = l.last + 1 - l.q
+invariant-loop-q l = Lowers (job_of l.job.words.now) l.p l.least l.q

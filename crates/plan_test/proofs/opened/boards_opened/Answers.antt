@@ -11,7 +11,7 @@ use Rattle.plan_test.proofs.opened.boards_opened.Goals as goal
 
 pub loop-j-init : goal.loop-j-init
 unfolding sum_below
-loop-j-init c = (search rules, (search rules, (search rules, (refl, refl))))
+loop-j-init c = (search rules, (search rules, (refl, refl)))
 
 pub loop-j-preserved : goal.loop-j-preserved
 loop-j-preserved c =
@@ -21,12 +21,12 @@ loop-j-preserved c =
     let on = c.args.on.now in
     let job = job_of c.args.job.now in
     let cost = ap (λ (z : Size). z.cost * get_or on l.j 0) c.size_at-size.ensures in (
-      search rules,
+      omega (arith, l.invariant.0, c.requires.by_index l.j t),
       (
-        omega (arith, l.invariant.1.0, c.requires.by_index l.j t),
+        omega (arith, l.invariant.1.0, x.ensures.1),
         (
-          omega (arith, l.invariant.1.1.0, x.ensures.1),
-          (omega (arith, l.invariant.1.1.1.0, below_next (λ i. get_or on i 0) l.j), omega (arith, l.invariant.1.1.1.1, x.ensures.0, cost, below_next (λ i. (size_at job i).cost * get_or on i 0) l.j)),
+          omega (arith, l.invariant.1.1.0, below_next (λ i. get_or on i 0) l.j),
+          omega (arith, l.invariant.1.1.1, x.ensures.0, cost, below_next (λ i. (size_at job i).cost * get_or on i 0) l.j),
         ),
       ),
     )

@@ -6,7 +6,7 @@ use Rattle.plan_test.proofs.plan_row.past_cuts.Goals as goal
 pub returns-then-counts-c-ne0 : goal.returns-then-counts-c-ne0
 returns-then-counts-c-ne0 c =
     let l = c.loop-c in
-    lowest-found c.args.counts.now 0 8 _ (l.c + 1) l.c l.invariant c.loop-c-test.true (rw (ne_eqb _ _ c.if-counts-c-ne0.true))
+    rw c.at.ensures (lowest-found c.args.counts.now 0 8 _ (l.c + 1) l.c l.invariant c.loop-c-test.true (rw (ne_eqb _ _ c.if-counts-c-ne0.true)))
 
 pub loop-c-preserved : goal.loop-c-preserved
 loop-c-preserved c =

@@ -1,6 +1,6 @@
 use Rattle.job.specs.Job.{type_of}
 use Rattle.listing.specs.CutRead.{cut_in}
-use Rattle.plan_test.proofs.CodeSums.{fit-other, sums-one, sums-two}
+use Rattle.plan_test.proofs.CodeSums.{sums-one, sums-two}
 use Rattle.plan_test.proofs.sums.add_cut.Goals as goal
 
 -- `add_cut` adds the count to three or four words: right and top may be one type, 0 among them.
@@ -8,10 +8,6 @@ use Rattle.plan_test.proofs.sums.add_cut.Goals as goal
 pub add_at-requires : goal.add_at-requires
 unfolding type_of
 add_at-requires c = c.requires.fit
-
-pub add_at-requires-then-right-top : goal.add_at-requires-then-right-top
-add_at-requires-then-right-top c =
-    fit-other c.args.cut.top.0 c.args.cut.right.0 c.args.n c.add_at-3.ensures c.requires.fit_3.1 c.if-right-top.true
 
 pub returns-then-right-top : goal.returns-then-right-top
 unfolding type_of

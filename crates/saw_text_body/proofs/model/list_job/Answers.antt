@@ -9,12 +9,13 @@ use Rattle.saw_text_body.proofs.model.list_job.Goals as goal
 pub slice_bounds-list-end : goal.slice_bounds-list-end
 slice_bounds-list-end c = sym (length-take-le (job_size c.args.t.0 c.args.n.0) c.args.job.now c.requires)
 
-pub returns : goal.returns
-returns c ws size held =
-    let a = c.args in
-    let listed = c.list in
-    model-kept ws _ a.plates.now a.cuts.now _ _ listed.auto.plates listed.auto.cuts
-    (rw (held-take (job_size a.t.0 a.n.0) size held) at listed.ensures.sizes_listed)
-    (rw (held-take (job_size a.t.0 a.n.0) size held) at listed.ensures.result_value)
-    (rw (held-take (job_size a.t.0 a.n.0) size held) at listed.ensures.plates_after)
-    (rw (held-take (job_size a.t.0 a.n.0) size held) at listed.ensures.cuts_after)
+pub returns-in-Ok : goal.returns-in-Ok
+returns-in-Ok c ws size held =
+    let said = rw (c.in-Ok.is, held-take (job_size c.args.t.0 c.args.n.0) size held) at c.list.ensures in
+    model-kept ws _ _ _ _ _ c.list.auto.plates c.list.auto.cuts said.sizes_listed said.result_value said.plates_after said.cuts_after
+
+pub returns-in-Err : goal.returns-in-Err
+returns-in-Err c ws size held =
+    let said = rw (c.in-Err.is, held-take (job_size c.args.t.0 c.args.n.0) size held) at c.list.ensures in
+    rw c.number.ensures
+    (model-kept ws _ _ _ _ _ c.list.auto.plates c.list.auto.cuts said.sizes_listed said.result_value said.plates_after said.cuts_after)

@@ -9,6 +9,6 @@ returns-in_default c = record { result_value = λ l e r. sym (ap cut_found c.in_
 
 pub returns : goal.returns
 returns c =
-    let found = c.in-At.is in
+    let found = c.in-Some.is in
     let search = c.find_cut_near in
     let among : Among c.args.k.0 search.result = search.ensures.among in record { result_value = λ l e r. sym (ap cut_found found) ∙ search.ensures.result_value l e r; result_le_k = (rw found at among).1 }

@@ -1,4 +1,5 @@
 use mathlib.Core.Path.{refl}
+use Rattle.saw_text_reader.specs.Parts.{AsLong}
 use Rattle.saw_text_call.proofs.TextParts.{room-kept, answered}
 use Rattle.saw_text_call.proofs.call.saw_in_parts.Goals as goal
 
@@ -9,34 +10,15 @@ read_parts-parts-requires c = (c.has_room.ensures.0 c.if-has_room.true).lent
 pub finish_listed-requires : goal.finish_listed-requires
 finish_listed-requires c room = (c.args.text.now, c.read_parts-parts.ensures)
 
-pub shape_of-out-then-has_room : goal.shape_of-out-then-has_room
-shape_of-out-then-has_room c = c.finish_listed.auto.out
-
-pub shape_of-job-then-has_room : goal.shape_of-job-then-has_room
-shape_of-job-then-has_room c = c.read_parts-parts.auto.job
-
-pub shape_of-plates-then-has_room : goal.shape_of-plates-then-has_room
-shape_of-plates-then-has_room c = c.read_parts-parts.auto.plates
-
-pub shape_of-cuts-then-has_room : goal.shape_of-cuts-then-has_room
-shape_of-cuts-then-has_room c = c.read_parts-parts.auto.cuts
-
-pub shape_of-counts-then-has_room : goal.shape_of-counts-then-has_room
-shape_of-counts-then-has_room c = c.read_parts-parts.auto.counts
-
-pub shape_of-prices-then-has_room : goal.shape_of-prices-then-has_room
-shape_of-prices-then-has_room c = c.read_parts-parts.auto.prices
-
-pub shape_of-placements-then-has_room : goal.shape_of-placements-then-has_room
-shape_of-placements-then-has_room c = c.finish_listed.auto.placements
-
 pub returns-then-has_room : goal.returns-then-has_room
 returns-then-has_room c =
-    let x = c.read_parts-parts in
+    let text = c.args.text.now in
+    let read = c.read_parts-parts in
+    let long = read.auto in
+    let as-long : AsLong _ _ = record { job = long.job; plates = long.plates; cuts = long.cuts; counts = long.counts; prices = long.prices } in
+    let finished = c.finish_listed.ensures.finished in
     record {
-      answered = λ room.
-          answered c.args.text.now (record { job = c.read_parts-parts.auto.job; plates = c.read_parts-parts.auto.plates; cuts = c.read_parts-parts.auto.cuts; counts = c.read_parts-parts.auto.counts; prices = c.read_parts-parts.auto.prices }) x.ensures
-          (c.finish_listed.ensures.finished (room-kept room x.ensures.ready.room) c.args.text.now x.ensures);
+      answered = λ room. answered text as-long read.ensures (finished (room-kept room read.ensures.ready.room) text read.ensures);
       unchanged = λ none. absurd (none (c.has_room.ensures.0 c.if-has_room.true));
     }
 

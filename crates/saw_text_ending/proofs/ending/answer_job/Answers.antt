@@ -21,7 +21,7 @@ pub answer_listed-requires : goal.answer_listed-requires
 answer_listed-requires c =
     let a = c.args in
     let b = lent a.job.now a.plates.now a.cuts.now a.counts.now a.prices.now in
-    let head = c.head_of-head.ensures in record { listed_lent = rw (head.of-sizes, head.of_types) (job-listed c.requires.whole_kept.0 a.held b c.requires.room c.requires.whole_kept.1 c.in-Done.is); ready = c.requires.ready }
+    let head = c.head_of-head.ensures in record { listed_lent = rw (head.of-sizes, head.of_types) (job-listed c.requires.whole_kept.0 a.held b c.requires.room c.requires.whole_kept.1 c.in-Listed.is); ready = c.requires.ready }
 
 pub returns-in-Refused : goal.returns-in-Refused
 returns-in-Refused c q w =
@@ -29,9 +29,9 @@ returns-in-Refused c q w =
     let b = lent a.job.now a.plates.now a.cuts.now a.counts.now a.prices.now in
     refused-answer q (job-refused q a.held b c.requires.room w c.in-Refused.is) (c.refuse.ensures (place-fits q a.held b c.requires.room w c.in-Refused.is)) c.requires.ready.cleared refl
 
-pub returns-in-Done : goal.returns-in-Done
-returns-in-Done c q w =
+pub returns-in-Listed : goal.returns-in-Listed
+returns-in-Listed c q w =
     let a = c.args in
     let b = lent a.job.now a.plates.now a.cuts.now a.counts.now a.prices.now in
     let head = c.head_of-head.ensures in
-    job-passed q a.held b c.requires.room w c.in-Done.is _ _ _ _ _ (rw (head.of-sizes, head.of_types) at c.answer_listed.ensures)
+    job-passed q a.held b c.requires.room w c.in-Listed.is _ _ _ _ _ (rw (head.of-sizes, head.of_types) at c.answer_listed.ensures)

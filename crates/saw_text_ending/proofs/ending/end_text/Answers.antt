@@ -3,7 +3,7 @@ use mathlib.Core.Path.{refl, sym, ap, ◌∙◌}
 use lib.ListN.{length}
 use Rattle.job.proofs.Verdicts.{then-passed, then-refused}
 use Rattle.listing.proofs.CodeHolds.{cleared}
-use Rattle.job.specs.Row.{row_verdict}
+use Rattle.texts_reading.specs.TextEnd.{text_verdict}
 use Rattle.texts.specs.Reader.{text_row}
 use Rattle.texts.specs.SawText.{saw_grammar, saw_rows}
 use Rattle.texts_reading.proofs.CodeEnd.{line-named}
@@ -18,7 +18,7 @@ answer_job-requires c =
     let ends = c.requires.text_ends.1 in
     let x = c.clear in record {
       room = ends.room;
-      whole_kept = (r.state, ends.whole (sym (row-says r c.args.text _ ends.stands c.may_end.ensures c.text_row.ensures.result_value) ∙ ap row_verdict c.in-Passes.is));
+      whole_kept = (r.state, ends.whole (sym (row-says r c.args.text _ ends.stands c.may_end.ensures c.text_row.ensures.result_value) ∙ ap text_verdict c.in-Ok.is));
       ready = record {
         for-counts = ends.room.for-counts;
         for-prices = ends.room.for-prices;
@@ -28,23 +28,23 @@ answer_job-requires c =
       };
     }
 
-pub returns-in-Refuses : goal.returns-in-Refuses
-returns-in-Refuses c r ends =
+pub returns-in-Err : goal.returns-in-Err
+returns-in-Err c r ends =
     let a = c.args in
     let x = c.clear in
     let row = c.text_row in
-    let is = c.in-Refuses.is in
+    let is = c.in-Err.is in
     answered-again r.state x.auto.buffer
-    (sym (then-refused (text_row saw_grammar r) (saw_rows r.state) _ _ (sym (row-says r a.text _ ends.stands c.may_end.ensures row.ensures.result_value) ∙ ap row_verdict is)))
+    (sym (then-refused (text_row saw_grammar r) (saw_rows r.state) _ _ (sym (row-says r a.text _ ends.stands c.may_end.ensures row.ensures.result_value) ∙ ap text_verdict is)))
     (refused-answer r.state refl
     (c.refuse.ensures (omega (arith, line-named a.text.lines is row.ensures.line_named, ends.stands.lines, ends.few)))
     (cleared (length a.placements.now) x.ensures)
     refl)
 
-pub returns-in-Passes : goal.returns-in-Passes
-returns-in-Passes c r ends =
+pub returns-in-Ok : goal.returns-in-Ok
+returns-in-Ok c r ends =
     let x = c.clear in
-    let passed = sym (row-says r _ _ ends.stands c.may_end.ensures c.text_row.ensures.result_value) ∙ ap row_verdict c.in-Passes.is in
+    let passed = sym (row-says r _ _ ends.stands c.may_end.ensures c.text_row.ensures.result_value) ∙ ap text_verdict c.in-Ok.is in
     answered-again r.state x.auto.buffer
     (sym (then-passed (text_row saw_grammar r) (saw_rows r.state) passed))
     (c.answer_job.ensures r.state (ends.whole passed))

@@ -6,6 +6,7 @@ use borrow.Author.Tests.{eqb-true, eqb-false}
 use Rattle.job.specs.Sizes.{job_size}
 use Rattle.saw_text_lines.specs.SawKept.{lent}
 use Rattle.saw_text_lines.proofs.TakeLaws.{body-few, body-words, part-head}
+use Rattle.saw_text_lines.proofs.numbers.take_body.Goals.{then-n-gt-MAX_TYPES-via-then-n-gt-MAX_TYPES, then-n-gt-MAX_TYPES-via-else-n-gt-MAX_TYPES+then-t-gt-MAX_SIZES}
 use Rattle.saw_text_lines.proofs.numbers.take_body.Goals as goal
 
 -- `take_body` goes by the kind; a line 3 is judged by the job's words, the first of their buffer.
@@ -20,25 +21,22 @@ returns-then-n-gt-MAX_TYPES c s lines e here kept =
     let a = c.args in
     let head = c.head_of-head in
     let few = body-few s lines a.held (lent a.job.now a.plates.now a.cuts.now a.counts.now a.prices.now) head.result.sizes.0 head.result.types.0 head.ensures.of-sizes head.ensures.of_types e kept in
-    absurd (omega (arith, c.if-n-gt-MAX_TYPES.true, few.1))
-
-pub returns-then-t-gt-MAX_SIZES : goal.returns-then-t-gt-MAX_SIZES
-returns-then-t-gt-MAX_SIZES c s lines e here kept =
-    let a = c.args in
-    let head = c.head_of-head in
-    let few = body-few s lines a.held (lent a.job.now a.plates.now a.cuts.now a.counts.now a.prices.now) head.result.sizes.0 head.result.types.0 head.ensures.of-sizes head.ensures.of_types e kept in
-    absurd (omega (arith, c.if-t-gt-MAX_SIZES.true, few.0))
+    let no : ⊥ = elim c.then-n-gt-MAX_TYPES.branch [
+      | then-n-gt-MAX_TYPES-via-then-n-gt-MAX_TYPES w ↦ omega (arith, w.if-n-gt-MAX_TYPES.true, few.1)
+      | then-n-gt-MAX_TYPES-via-else-n-gt-MAX_TYPES+then-t-gt-MAX_SIZES w ↦ omega (arith, w.if-t-gt-MAX_SIZES.true, few.0)
+    ] in
+    absurd no
 
 pub slice_bounds-take_plan-end : goal.slice_bounds-take_plan-end
 slice_bounds-take_plan-end c =
     let head = c.head_of-head in
-    sym (length-take-le (job_size head.result.sizes.0 head.result.types.0) c.args.job.now (omega (arith, c.if-n-gt-MAX_TYPES.false, c.if-t-gt-MAX_SIZES.false, c.requires.1.for-job)))
+    sym (length-take-le (job_size head.result.sizes.0 head.result.types.0) c.args.job.now (omega (arith, c.requires.1.for-job)))
 
 pub take_plan-requires : goal.take_plan-requires
 take_plan-requires c =
     let head = c.head_of-head in
     let room = c.requires.1 in
-    let part = part-head head.result.sizes.0 head.result.types.0 c.args.job.now (omega (arith, c.if-n-gt-MAX_TYPES.false, c.if-t-gt-MAX_SIZES.false, room.for-job)) in record { line_nonzero = (c.requires.0, (room.for-plates, (room.for-cuts, room.for-counts))); words_of_head_in_bounds = (part.0, omega (arith, part.1, head.ensures.of_types, c.if-n-gt-MAX_TYPES.false)) }
+    let part = part-head head.result.sizes.0 head.result.types.0 c.args.job.now (omega (arith, room.for-job)) in record { line_nonzero = (c.requires.0, (room.for-plates, (room.for-cuts, room.for-counts))); words_of_head_in_bounds = (part.0, omega (arith, part.1, head.ensures.of_types)) }
 
 pub returns : goal.returns
 returns c s lines e here kept =

@@ -2,6 +2,7 @@ use native.Mathlib.Omega.{arith}
 use mathlib.Core.Path.{◌≡◌, refl}
 use lib.ListN.{length}
 use Rattle.columns.specs.Widths.{most_numbers}
+use Rattle.texts.specs.Reader.{max_lines}
 use Rattle.saw_text_reader.specs.PriceRun.{PriceLine}
 use Rattle.saw_text_reader.proofs.PriceSteps.{ran-none, ran-more}
 use Rattle.saw_text_reader.proofs.prices.price_run.Goals as goal
@@ -33,13 +34,13 @@ bounds-prices-word c =
 
 pub loop-lines-preserved : goal.loop-lines-preserved
 loop-lines-preserved c =
-    let line : PriceLine c.args.part.now c.loop-lines.at c.loop-lines.plate.0 c.in-Price.price × (length c.price_at.new.numbers ≡ most_numbers) = rw c.in-Price.is at c.price_at.ensures in
+    let line : PriceLine c.args.part.now c.loop-lines.at c.loop-lines.plate.0 c.in-Some.price × (length c.price_at.new.numbers ≡ most_numbers) = rw c.in-Some.is at c.price_at.ensures in
     let a = c.args in
     let l = c.loop-lines in
     let ran = l.invariant.0 in
     let found = line in (
       ran-more a.part.now a.from a.t a.priced a.first a.before a.prices.now l.at l.lines l.plate l.prices _ (omega (arith, c.requires.plate_within.1, ran.long)) ran
-          (record { few = c.loop-lines-test.true; plate = ran.next; more = omega (arith, c.if-t-priced.false); line = found.0 }),
+          (record { few = omega arith; plate = ran.next; more = omega (arith, c.if-t-priced.false); line = found.0 }),
       found.1,
     )
 
@@ -47,4 +48,4 @@ pub shape_of-prices : goal.shape_of-prices
 shape_of-prices c = c.loop-lines.invariant.0.long
 
 pub returns : goal.returns
-returns c = c.loop-lines.invariant.0
+returns c = let last : c.loop-lines.lines ≡ max_lines = omega arith in rw (← last) c.loop-lines.invariant.0

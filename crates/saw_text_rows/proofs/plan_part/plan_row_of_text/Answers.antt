@@ -7,24 +7,24 @@ use Rattle.saw_text_rows.proofs.plan_part.plan_row_of_text.Goals as goal
 pub returns-then-plan-ne0 : goal.returns-then-plan-ne0
 returns-then-plan-ne0 c l z e f =
     let a = c.args in
-    told-unnamed l a.job.now a.counts.now a.plan c.if-plan-ne0.true (omega arith)
+    rw c.at.ensures (told-unnamed l a.listed.now.job.words.now a.counts.now a.plan c.if-plan-ne0.true (omega arith))
 
 pub returns-then-plan-ne0-2 : goal.returns-then-plan-ne0-2
 returns-then-plan-ne0-2 c l z e f =
     let a = c.args in
-    told-misshown l a.job.now a.counts.now a.plan c.if-plan-ne0.false c.if-plan-ne0-2.true (omega arith)
+    rw c.at-then-plan-ne0-2.ensures (told-misshown l a.listed.now.job.words.now a.counts.now a.plan c.if-plan-ne0.false c.if-plan-ne0-2.true (omega arith))
 
 pub returns-then-plan-ne0-3 : goal.returns-then-plan-ne0-3
 returns-then-plan-ne0-3 c l z e f =
     let a = c.args in
-    told-fallen l a.job.now a.counts.now a.plan c.if-plan-ne0.false c.if-plan-ne0-2.false c.if-plan-ne0-3.true (omega arith)
+    rw c.at-then-plan-ne0-3.ensures (told-fallen l a.listed.now.job.words.now a.counts.now a.plan c.if-plan-ne0.false c.if-plan-ne0-2.false c.if-plan-ne0-3.true (omega arith))
 
 pub returns : goal.returns
 returns c l z e f =
     let a = c.args in
-    let lent = c.requires.lent in
-    told-tested l a.job.now a.counts.now a.plan c.if-plan-ne0.false c.if-plan-ne0-2.false c.if-plan-ne0-3.false c.plan_rows.result
+    let lent = a.listed.now.lent in
+    told-tested l a.listed.now.job.words.now a.counts.now a.plan c.if-plan-ne0.false c.if-plan-ne0-2.false c.if-plan-ne0-3.false c.plan_rows.result
     (omega (arith, lent-items lent, lent.few-items))
-    (omega (arith, z, c.requires.le_t.0))
+    (omega (arith, z, a.listed.now.job.read.some_size))
     (omega (arith, e, lent.few-plates))
     (c.plan_rows.ensures l z e f)

@@ -8,26 +8,11 @@ use Rattle.texts_reading.proofs.turns.turn_row.Goals as goal
 pub returns-then-i-eq0 : goal.returns-then-i-eq0
 returns-then-i-eq0 c line = type-zero c.args.job.now c.args.i.0 c.args.turn c.requires.0 line c.if-i-eq0.true
 
-pub overflow_cast-sizes : goal.overflow_cast-sizes
-overflow_cast-sizes c = omega (arith, c.type_inv.job 2)
-
-pub overflow_mul-sizes : goal.overflow_mul-sizes
-overflow_mul-sizes c = omega (arith, c.type_inv.job 2)
-
-pub overflow_add-sizes : goal.overflow_add-sizes
-overflow_add-sizes c = omega (arith, c.type_inv.job 2)
-
-pub overflow_add-sizes-2 : goal.overflow_add-sizes-2
-overflow_add-sizes-2 c = omega (arith, c.type_inv.job 2)
-
 pub returns-then-job-sizes : goal.returns-then-job-sizes
 returns-then-job-sizes c line = type-past c.args.job.now c.args.i.0 c.args.turn c.requires.0 line c.if-i-eq0.false c.if-job-sizes.true
 
 pub returns-then-turn-eq0 : goal.returns-then-turn-eq0
 returns-then-turn-eq0 c line = turn-none c.args.job.now c.args.i.0 c.args.turn c.requires.0 (omega (arith, c.if-i-eq0.false)) c.if-job-sizes.false line c.if-turn-eq0.true
-
-pub item_at-requires : goal.item_at-requires
-item_at-requires c = (omega (arith, c.if-i-eq0.false), c.if-job-sizes.false)
 
 pub returns-then-p : goal.returns-then-p
 returns-then-p c line =

@@ -1,9 +1,7 @@
 use Prim.Native.Nat.{◌-◌}
-use native.Mathlib.Omega.{arith}
-use mathlib.Core.Path.{refl, ap}
+use mathlib.Core.Path.{refl}
 use lib.ListN.{length}
 use Rattle.job.specs.Job.{type_of, turn_of}
-use Rattle.listing.specs.Listing.{Cut}
 use Rattle.listing.specs.Holds.{plate_read}
 use Rattle.listing.specs.CutRead.{cut_in, cut_read}
 use Rattle.texts_writing.proofs.WroteLaws.{wrote_none}
@@ -15,9 +13,6 @@ pub returns-then-n-eq0 : goal.returns-then-n-eq0
 returns-then-n-eq0 c =
     let a = c.args in
     rw (line-absent (plate_read a.plates.now) (cut_read a.cuts.now (a.c.0 - 1)) a.n c.if-n-eq0.true) (wrote_none _ _)
-
-pub plate_at-p-requires : goal.plate_at-p-requires
-plate_at-p-requires c = omega (arith, ap (λ (x : Cut). x.plate) c.cut_at-cut.ensures, c.requires.record_in)
 
 pub put_line-requires : goal.put_line-requires
 put_line-requires c = line-room (plate_read c.args.plates.now) c.args.at (length c.args.out.now) (cut_read c.args.cuts.now (c.args.c.0 - 1)) c.args.n c.if-n-eq0.false c.requires.n_in_bounds

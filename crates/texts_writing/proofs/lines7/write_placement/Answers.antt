@@ -5,9 +5,6 @@ use Rattle.layouts.specs.Lines.{Line}
 use Rattle.texts.specs.SawText.{placement_row, placement_line}
 use Rattle.texts_writing.proofs.lines7.write_placement.Goals as goal
 
-pub put_line-requires : goal.put_line-requires
-put_line-requires c = c.requires.0
-
 -- `write_placement` writes the line of the placement that is read, the kind first.
 pub returns : goal.returns
 unfolding placement_row placement_line type_of turn_of

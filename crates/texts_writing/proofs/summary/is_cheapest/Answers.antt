@@ -1,5 +1,5 @@
-use Prim.Native.Nat.{◌-◌, ◌*◌, ◌≤◌}
-use native.Mathlib.Nat.{zero-mul, mul-le-mul}
+use Prim.Native.Nat.{◌-◌}
+use native.Mathlib.Nat.{zero-mul}
 use native.Mathlib.Omega.{arith}
 use mathlib.Core.Path.{◌≡◌, refl}
 use Rattle.plan.specs.Prices.{is_cheapest}
@@ -12,12 +12,6 @@ returns-then-cost-eq0 c =
     let a = c.args in
     let z : a.cost - 1 ≡ 0 = omega arith in
     rw (z, zero-mul)
-
-pub overflow_mul-result : goal.overflow_mul-result
-overflow_mul-result c =
-    let a = c.args in
-    let h : (a.cost - 1) * a.d ≤ 4294967295 * 65535 = mul-le-mul {n₂ = 4294967295} {m₂ = 65535} (omega arith) (omega arith) in
-    record { fits = omega (arith, h) }
 
 pub returns : goal.returns
 unfolding is_cheapest

@@ -1,18 +1,48 @@
 use mathlib.Core.Path.{sym, ap, ◌∙◌}
-use Rattle.job.specs.Row.{row_verdict}
+use Rattle.job.specs.Refused.{row_verdict}
 use Rattle.unfold_call.proofs.CodeEnding.{before-refuses, before-passed, before-pass}
-use Rattle.job.proofs.Parts.{parts2, parts6}
 use Rattle.unfold_call.proofs.call.unfold.Goals as goal
 
 -- `unfold` checks the job, the two lengths and the lent buffers, and then lists, tests and unfolds.
 pub unfold_into-requires : goal.unfold_into-requires
 unfold_into-requires c =
-    let a = c.args in parts2 (λ the_job_value the_plates_size_in_bounds. record { job_value = the_job_value; plates_size_in_bounds = the_plates_size_in_bounds }) (before-passed a.job.now a.first a.second a.counts.now a.plates.now a.cuts.now a.placements.now a.offcuts.now (sym c.unfold_checks.ensures ∙ ap row_verdict c.in-Passes.is))
+    let a = c.args in
+    let passed = sym c.unfold_checks.ensures ∙ ap row_verdict c.in-Ok.is in
+    let ns = a.counts.now in
+    let r = before-passed a.job.now a.first a.second ns a.plates.now a.cuts.now a.placements.now a.offcuts.now passed in
+    record { job_value = r.0; plates_size_in_bounds = r.1 }
 
-pub returns-in-Refuses : goal.returns-in-Refuses
-returns-in-Refuses c =
-    let a = c.args in parts6 (λ the_result_value the_plates_after the_cuts_after the_placements_after the_offcuts_after the_on_success. record { result_value = the_result_value; plates_after = the_plates_after; cuts_after = the_cuts_after; placements_after = the_placements_after; offcuts_after = the_offcuts_after; on_success = the_on_success }) (before-refuses a.job.now a.first a.second a.counts.now a.plates.now a.cuts.now a.placements.now a.offcuts.now _ _ (sym c.unfold_checks.ensures ∙ ap row_verdict c.in-Refuses.is) c.end_refused.ensures c.end_refused-in-Refuses.ensures c.end_refused-in-Refuses-2.ensures c.end_refused-in-Refuses-3.ensures)
+pub returns-in-Err : goal.returns-in-Err
+returns-in-Err c =
+    let a = c.args in
+    let refused = sym c.unfold_checks.ensures ∙ ap row_verdict c.in-Err.is in
+    let ns = a.counts.now in
+    let at = before-refuses a.job.now a.first a.second ns a.plates.now a.cuts.now a.placements.now a.offcuts.now in
+    let ends = at c.in-Err.refused refused in
+    let r = ends c.end.ensures c.end-in-Err.ensures c.end-in-Err-2.ensures c.end-in-Err-3.ensures in
+    record {
+      result_value = r.0;
+      plates_after = r.1;
+      cuts_after = r.2;
+      placements_after = r.3;
+      offcuts_after = r.4;
+      on_success = r.5;
+    }
 
-pub returns-in-Passes : goal.returns-in-Passes
-returns-in-Passes c =
-    let a = c.args in parts6 (λ the_result_value the_plates_after the_cuts_after the_placements_after the_offcuts_after the_on_success. record { result_value = the_result_value; plates_after = the_plates_after; cuts_after = the_cuts_after; placements_after = the_placements_after; offcuts_after = the_offcuts_after; on_success = the_on_success }) (before-pass a.job.now a.first a.second a.counts.now a.plates.now a.cuts.now a.placements.now a.offcuts.now (sym c.unfold_checks.ensures ∙ ap row_verdict c.in-Passes.is) c.unfold_into.result _ _ _ _ c.unfold_into.ensures)
+pub returns-in-Ok : goal.returns-in-Ok
+returns-in-Ok c =
+    let a = c.args in
+    let x = c.unfold_into in
+    let passed = sym c.unfold_checks.ensures ∙ ap row_verdict c.in-Ok.is in
+    let ns = a.counts.now in
+    let os = a.offcuts.now in
+    let pass = before-pass a.job.now a.first a.second ns a.plates.now a.cuts.now a.placements.now os passed in
+    let r = pass x.result _ _ _ _ x.ensures in
+    record {
+      result_value = r.0;
+      plates_after = r.1;
+      cuts_after = r.2;
+      placements_after = r.3;
+      offcuts_after = r.4;
+      on_success = r.5;
+    }

@@ -1,91 +1,93 @@
 use mathlib.Core.Path.{refl, sym}
-use Prim.Native.Nat.{◌+◌, ◌-◌, ◌≤◌}
 use native.Mathlib.Omega.{arith}
-use lib.ListN.{length, take, drop}
 use lib.Seq.{length-take-le}
 use Rattle.texts_reading.proofs.CodeText.{whole}
 use Rattle.saw_text_lines.specs.SawKept.{lent}
-use Rattle.saw_text_reader.specs.NextLine.{NumbersTo, MalformedTo, RestTo}
-use Rattle.saw_text_reader.proofs.LineSteps.{malformed-step, line_step}
-use Rattle.saw_text_reader.proofs.PartSteps.{Going, going_start, going_end, going-line, going_on, going-rest, fed-ready}
+use Rattle.saw_text_reader.proofs.PartSteps.{going_start, going_end, going_on, going-rest, going-numbers, going-malformed, numbers-next, malformed-next, rest-next, fed-ready}
 use Rattle.saw_text_reader.proofs.saw.SawReader.feed_ready.Goals as goal
 
 pub loop-at-init : goal.loop-at-init
 loop-at-init c = going_start _ _ _ c.requires
 
-pub next_line-next-requires : goal.next_line-next-requires
-next_line-next-requires c =
-    let l = c.loop-at in record { text_ready = l.invariant.ready.text; at_in_bounds = l.invariant.within; numbers_len = refl }
+pub next_line-requires : goal.next_line-requires
+next_line-requires c =
+    let l = c.loop-at in
+    record { text_ready = l.invariant.ready.text; at_in_bounds = l.invariant.within; numbers_len = refl }
 
+-- ---- a line of the form
 pub slice_bounds-numbers-end : goal.slice_bounds-numbers-end
 slice_bounds-numbers-end c =
-    let line : NumbersTo c.loop-at.reader.text c.args.part.now c.loop-at.at c.next_line-next.new.numbers c.in-Numbers.k c.in-Numbers.end = rw c.in-Numbers.is at c.next_line-next.ensures in
-    omega (arith, line.few, line.size)
+    let w = numbers-next _ c.next_line.ensures c.in-Numbers.is in
+    omega (arith, w.few, w.size)
 
 pub slice_bounds-numbers-end-in-Numbers : goal.slice_bounds-numbers-end-in-Numbers
 slice_bounds-numbers-end-in-Numbers c =
-    let line : NumbersTo c.loop-at.reader.text c.args.part.now c.loop-at.at c.next_line-next.new.numbers c.in-Numbers.k c.in-Numbers.end = rw c.in-Numbers.is at c.next_line-next.ensures in
-    let w = line in sym (length-take-le _ _ (omega (arith, w.few, w.size)))
+    let w = numbers-next _ c.next_line.ensures c.in-Numbers.is in
+    sym (length-take-le _ _ (omega (arith, w.few, w.size)))
 
 pub numbers-after-requires : goal.numbers-after-requires
 numbers-after-requires c =
-    let line : NumbersTo c.loop-at.reader.text c.args.part.now c.loop-at.at c.next_line-next.new.numbers c.in-Numbers.k c.in-Numbers.end = rw c.in-Numbers.is at c.next_line-next.ensures in
-    let l = c.loop-at in record { saw_ready = l.invariant.ready; lines_lt_max_lines = (whole l.reader.text l.at c.in-Numbers.end (length c.args.part.now) line.ends).few }
+    let w = numbers-next _ c.next_line.ensures c.in-Numbers.is in
+    let l = c.loop-at in
+    record { saw_ready = l.invariant.ready; lines_lt_max_lines = (whole l.reader.text l.at _ _ w.ends).few }
 
 pub overflow_add-end : goal.overflow_add-end
 overflow_add-end c =
-    let line : NumbersTo c.loop-at.reader.text c.args.part.now c.loop-at.at c.next_line-next.new.numbers c.in-Numbers.k c.in-Numbers.end = rw c.in-Numbers.is at c.next_line-next.ensures in
-    let line-inside : c.in-Numbers.end + 1 ≤ length c.args.part.now = let l = c.loop-at in omega (arith, (whole l.reader.text l.at c.in-Numbers.end (length c.args.part.now) line.ends).inside) in
-    omega (arith, c.well_formed.1.0.0, line-inside)
+    let w = numbers-next _ c.next_line.ensures c.in-Numbers.is in
+    omega (arith, c.well_formed.1.0.0, (whole c.loop-at.reader.text c.loop-at.at _ _ w.ends).inside)
 
 pub whole_lines-read-requires : goal.whole_lines-read-requires
 whole_lines-read-requires c =
-    let line : NumbersTo c.loop-at.reader.text c.args.part.now c.loop-at.at c.next_line-next.new.numbers c.in-Numbers.k c.in-Numbers.end = rw c.in-Numbers.is at c.next_line-next.ensures in
-    let lined : Going c.args.part.now c.args.self (lent c.args.job.now c.args.plates.now c.args.cuts.now c.args.counts.now c.args.prices.now) c.numbers-after.result (lent c.numbers-after.new.job c.numbers-after.new.plates c.numbers-after.new.cuts c.numbers-after.new.counts c.numbers-after.new.prices) (c.in-Numbers.end + 1) = let a = c.args in let l = c.loop-at in let x = c.numbers-after in let w = line in let end = c.in-Numbers.end in let b = lent l.job l.plates l.cuts l.counts l.prices in going-line a.part.now a.self (lent a.job.now a.plates.now a.cuts.now a.counts.now a.prices.now) l.reader b l.at l.invariant end w.end_is w.ends (record { job = c.numbers-after.auto.job; plates = c.numbers-after.auto.plates; cuts = c.numbers-after.auto.cuts; counts = c.numbers-after.auto.counts; prices = c.numbers-after.auto.prices }) (line_step l.reader _ b _ (take (end + 1 - l.at) (drop l.at a.part.now)) (take c.in-Numbers.k c.next_line-next.new.numbers) x.ensures (λ r kept. w.reads r.pending kept.text.begun)) in
-    let g = lined in record { from_in_bounds = g.within; saw_ready = g.ready }
+    let w = numbers-next _ c.next_line.ensures c.in-Numbers.is in
+    let long = c.numbers-after.auto in
+    let l = c.loop-at in
+    let g = going-numbers _ _ _ l.reader (lent l.job l.plates l.cuts l.counts l.prices) l.at l.invariant w
+    (record { job = long.job; plates = long.plates; cuts = long.cuts; counts = long.counts; prices = long.prices })
+    c.numbers-after.ensures in
+    record { from_in_bounds = g.within; saw_ready = g.ready }
 
 pub loop-at-smaller-in-Numbers : goal.loop-at-smaller-in-Numbers
 loop-at-smaller-in-Numbers c =
-    let line : NumbersTo c.loop-at.reader.text c.args.part.now c.loop-at.at c.next_line-next.new.numbers c.in-Numbers.k c.in-Numbers.end = rw c.in-Numbers.is at c.next_line-next.ensures in
-    let line-inside : c.in-Numbers.end + 1 ≤ length c.args.part.now = let l = c.loop-at in omega (arith, (whole l.reader.text l.at c.in-Numbers.end (length c.args.part.now) line.ends).inside) in
+    let w = numbers-next _ c.next_line.ensures c.in-Numbers.is in
+    let inside = (whole c.loop-at.reader.text c.loop-at.at _ _ w.ends).inside in
     let on = c.whole_lines-read.ensures in
-    omega (arith, line-inside, line.end_is.from, on.on, on.within)
+    omega (arith, inside, w.end_is.from, on.on, on.within)
 
 pub loop-at-preserved-in-Numbers : goal.loop-at-preserved-in-Numbers
 loop-at-preserved-in-Numbers c =
-    let line : NumbersTo c.loop-at.reader.text c.args.part.now c.loop-at.at c.next_line-next.new.numbers c.in-Numbers.k c.in-Numbers.end = rw c.in-Numbers.is at c.next_line-next.ensures in
-    let lined : Going c.args.part.now c.args.self (lent c.args.job.now c.args.plates.now c.args.cuts.now c.args.counts.now c.args.prices.now) c.numbers-after.result (lent c.numbers-after.new.job c.numbers-after.new.plates c.numbers-after.new.cuts c.numbers-after.new.counts c.numbers-after.new.prices) (c.in-Numbers.end + 1) = let a = c.args in let l = c.loop-at in let x = c.numbers-after in let w = line in let end = c.in-Numbers.end in let b = lent l.job l.plates l.cuts l.counts l.prices in going-line a.part.now a.self (lent a.job.now a.plates.now a.cuts.now a.counts.now a.prices.now) l.reader b l.at l.invariant end w.end_is w.ends (record { job = c.numbers-after.auto.job; plates = c.numbers-after.auto.plates; cuts = c.numbers-after.auto.cuts; counts = c.numbers-after.auto.counts; prices = c.numbers-after.auto.prices }) (line_step l.reader _ b _ (take (end + 1 - l.at) (drop l.at a.part.now)) (take c.in-Numbers.k c.next_line-next.new.numbers) x.ensures (λ r kept. w.reads r.pending kept.text.begun)) in
-    let whole = c.whole_lines-read in
-    going_on _ _ _ _ _ _ lined (record { job = refl; plates = refl; cuts = refl; counts = c.whole_lines-read.auto.counts; prices = c.whole_lines-read.auto.prices }) whole.ensures
+    let w = numbers-next _ c.next_line.ensures c.in-Numbers.is in
+    let long = c.numbers-after.auto in
+    let l = c.loop-at in
+    let g = going-numbers _ _ _ l.reader (lent l.job l.plates l.cuts l.counts l.prices) l.at l.invariant w
+    (record { job = long.job; plates = long.plates; cuts = long.cuts; counts = long.counts; prices = long.prices })
+    c.numbers-after.ensures in
+    let read = c.whole_lines-read in
+    going_on _ _ _ _ _ _ g
+    (record { job = refl; plates = refl; cuts = refl; counts = read.auto.counts; prices = read.auto.prices })
+    read.ensures
 
+-- ---- a line that is not of the form
 pub overflow_add-at : goal.overflow_add-at
 overflow_add-at c =
-    let malformed : MalformedTo c.loop-at.reader.text c.args.part.now c.loop-at.at c.in-Malformed.end = rw c.in-Malformed.is at c.next_line-next.ensures in
-    let malformed-inside : c.in-Malformed.end + 1 ≤ length c.args.part.now = let l = c.loop-at in omega (arith, (whole l.reader.text l.at c.in-Malformed.end (length c.args.part.now) malformed.ends).inside) in
-    omega (arith, c.well_formed.1.0.0, malformed-inside)
+    let w = malformed-next _ c.next_line.ensures c.in-Malformed.is in
+    omega (arith, c.well_formed.1.0.0, (whole c.loop-at.reader.text c.loop-at.at _ _ w.ends).inside)
 
 pub loop-at-smaller : goal.loop-at-smaller
 loop-at-smaller c =
-    let malformed : MalformedTo c.loop-at.reader.text c.args.part.now c.loop-at.at c.in-Malformed.end = rw c.in-Malformed.is at c.next_line-next.ensures in
-    let malformed-inside : c.in-Malformed.end + 1 ≤ length c.args.part.now = let l = c.loop-at in omega (arith, (whole l.reader.text l.at c.in-Malformed.end (length c.args.part.now) malformed.ends).inside) in
-    omega (arith, malformed-inside, malformed.end_is.from)
+    let w = malformed-next _ c.next_line.ensures c.in-Malformed.is in
+    omega (arith, (whole c.loop-at.reader.text c.loop-at.at _ _ w.ends).inside, w.end_is.from)
 
 pub loop-at-preserved : goal.loop-at-preserved
 loop-at-preserved c =
-    let malformed : MalformedTo c.loop-at.reader.text c.args.part.now c.loop-at.at c.in-Malformed.end = rw c.in-Malformed.is at c.next_line-next.ensures in
-    let a = c.args in
+    let w = malformed-next _ c.next_line.ensures c.in-Malformed.is in
     let l = c.loop-at in
-    let w = malformed in
-    let end = c.in-Malformed.end in
-    let b = lent l.job l.plates l.cuts l.counts l.prices in
-    going-line a.part.now a.self (lent a.job.now a.plates.now a.cuts.now a.counts.now a.prices.now) l.reader b l.at l.invariant end w.end_is w.ends
-    (record { job = refl; plates = refl; cuts = refl; counts = refl; prices = refl })
-    (malformed-step l.reader b (take (end + 1 - l.at) (drop l.at a.part.now)) c.refused.result l.invariant.ready.text.few l.invariant.ready.room c.refused.ensures (λ r kept. w.bad r.pending kept.text.begun))
+    going-malformed _ _ _ l.reader (lent l.job l.plates l.cuts l.counts l.prices) l.at l.invariant w (rw c.number.ensures at c.refused.ensures)
 
+-- ---- no line ends in the part
 pub rest-requires : goal.rest-requires
 rest-requires c =
-    let rest : RestTo c.loop-at.reader.text c.args.part.now c.loop-at.at c.in-Rest.end = rw c.in-Rest.is at c.next_line-next.ensures in
-    let e = rest.end_is in record { text_ready = c.loop-at.invariant.ready.text; at_le_end = (e.from, (omega (arith, e.near), e.inside)) }
+    let e = (rest-next _ c.next_line.ensures c.in-Rest.is).end_is in
+    record { text_ready = c.loop-at.invariant.ready.text; at_le_end = (e.from, (omega (arith, e.near), e.inside)) }
 
 pub shape_of-job-in-Rest : goal.shape_of-job-in-Rest
 shape_of-job-in-Rest c = c.loop-at.invariant.long.job
@@ -104,13 +106,12 @@ shape_of-prices-in-Rest c = c.loop-at.invariant.long.prices
 
 pub returns-in-Rest : goal.returns-in-Rest
 returns-in-Rest c =
-    let rest : RestTo c.loop-at.reader.text c.args.part.now c.loop-at.at c.in-Rest.end = rw c.in-Rest.is at c.next_line-next.ensures in
-    let a = c.args in
+    let w = rest-next _ c.next_line.ensures c.in-Rest.is in
     let l = c.loop-at in
-    let w = rest in
     fed-ready c.requires
-    (going-rest a.part.now a.self (lent a.job.now a.plates.now a.cuts.now a.counts.now a.prices.now) l.reader (lent l.job l.plates l.cuts l.counts l.prices) l.at l.invariant c.in-Rest.end w.end_is c.loop-at-test.true w.ends c.rest.ensures)
+    (going-rest _ _ _ l.reader (lent l.job l.plates l.cuts l.counts l.prices) l.at l.invariant _ w.end_is c.loop-at-test.true w.ends c.rest.ensures)
 
+-- ---- the part is over
 pub shape_of-job : goal.shape_of-job
 shape_of-job c = c.loop-at.invariant.long.job
 
@@ -128,7 +129,5 @@ shape_of-prices c = c.loop-at.invariant.long.prices
 
 pub returns : goal.returns
 returns c =
-    let a = c.args in
     let l = c.loop-at in
-    fed-ready c.requires
-    (going_end a.part.now a.self (lent a.job.now a.plates.now a.cuts.now a.counts.now a.prices.now) l.reader (lent l.job l.plates l.cuts l.counts l.prices) l.at l.invariant c.loop-at-test.false)
+    fed-ready c.requires (going_end _ _ _ l.reader (lent l.job l.plates l.cuts l.counts l.prices) l.at l.invariant c.loop-at-test.false)

@@ -17,24 +17,30 @@ returns-then-not-sound c = record {
   kept = λ r k. absurd (not-both (kept-sound c.args.self.text.place r.state r.lines c.args.self.held _ k.text.stands k.held) (rw c.head_of-head.ensures.of-sizes at (sym c.sound.ensures ∙ not-true _ c.if-not-sound.true-raw)));
 }
 
-pub take_numbers-taken-requires : goal.take_numbers-taken-requires
-take_numbers-taken-requires c = record { room = c.requires.saw_ready.room; line_nonzero = (omega arith, rw (← c.head_of-head.ensures.of-sizes) (sym c.sound.ensures ∙ not-false _ c.if-not-sound.false-raw)) }
+pub take_numbers-requires : goal.take_numbers-requires
+take_numbers-requires c = record { room = c.requires.saw_ready.room; line_nonzero = (omega arith, rw (← c.head_of-head.ensures.of-sizes) (sym c.sound.ensures ∙ not-false _ c.if-not-sound.false-raw)) }
 
-pub returns-then-taken-ne0 : goal.returns-then-taken-ne0
-returns-then-taken-ne0 c =
+pub returns-in-Err : goal.returns-in-Err
+returns-in-Err c =
     let a = c.args in
-    let took = c.take_numbers-taken in
-    refused-step a.self (lent a.job.now a.plates.now a.cuts.now a.counts.now a.prices.now) _ a.numbers.now took.result c.refused.result
-    (λ r k. took.ensures r.state r.lines k.text.stands (omega (arith, k.text.lines)) k.held)
-    (room-again c.requires.saw_ready.room c.take_numbers-taken.auto.job c.take_numbers-taken.auto.plates c.take_numbers-taken.auto.cuts c.take_numbers-taken.auto.counts c.take_numbers-taken.auto.prices) c.requires.saw_ready.text.few c.if-taken-ne0.true c.refused.ensures
+    let took = c.take_numbers in
+    refused-step a.self (lent a.job.now a.plates.now a.cuts.now a.counts.now a.prices.now) _ a.numbers.now c.refused.result
+    (room-again c.requires.saw_ready.room took.auto.job took.auto.plates took.auto.cuts took.auto.counts took.auto.prices)
+    c.in-Err.refusal
+    (λ r k. rw c.in-Err.is at (took.ensures r.state r.lines k.text.stands (omega (arith, k.text.lines)) k.held))
+    c.requires.saw_ready.text.few
+    (rw c.number.ensures at c.refused.ensures)
 
 pub admitted-requires : goal.admitted-requires
 admitted-requires c = c.requires.lines_lt_max_lines
 
-pub returns : goal.returns
-returns c =
+pub returns-in-Ok : goal.returns-in-Ok
+returns-in-Ok c =
     let a = c.args in
-    let took = c.take_numbers-taken in
-    admitted-step a.self (lent a.job.now a.plates.now a.cuts.now a.counts.now a.prices.now) _ a.numbers.now took.result c.admitted.result
-    (λ r k. took.ensures r.state r.lines k.text.stands (omega (arith, k.text.lines)) k.held)
-    (room-again c.requires.saw_ready.room c.take_numbers-taken.auto.job c.take_numbers-taken.auto.plates c.take_numbers-taken.auto.cuts c.take_numbers-taken.auto.counts c.take_numbers-taken.auto.prices) c.requires.lines_lt_max_lines (omega arith) c.admitted.ensures
+    let took = c.take_numbers in
+    admitted-step a.self (lent a.job.now a.plates.now a.cuts.now a.counts.now a.prices.now) _ a.numbers.now c.admitted.result
+    (room-again c.requires.saw_ready.room took.auto.job took.auto.plates took.auto.cuts took.auto.counts took.auto.prices)
+    c.in-Ok.taken
+    (λ r k. rw c.in-Ok.is at (took.ensures r.state r.lines k.text.stands (omega (arith, k.text.lines)) k.held))
+    c.requires.lines_lt_max_lines
+    c.admitted.ensures

@@ -4,21 +4,9 @@ use Prim.Native.Nat.{ℕ, ◌-◌, ◌≤◌}
 use native.Mathlib.Omega.{arith}
 use lib.ListN.{length, take, drop}
 use Rattle.columns.specs.Line.{read_line, line_from}
-use Rattle.texts_reading.proofs.CodeLine.{begun-none, begun-line, begun-size}
+use Rattle.texts_reading.proofs.CodeLine.{begun-line, begun-size}
 use Rattle.texts.specs.Reader.{longest_line}
 use Rattle.texts_reading.proofs.pending.Pending.line.Goals as goal
-
--- `line` reads the line in place, or behind the bytes that were pending.
-pub line_of-requires : goal.line_of-requires
-line_of-requires c = omega arith
-
-pub returns-then-self-eq0 : goal.returns-then-self-eq0
-returns-then-self-eq0 c =
-    let s = c.args.part.now in
-    (c.line_of.ensures.0, λ bs b. c.line_of.ensures.1 (omega arith) ∙ ap (λ (l : List ℕ). line_from (read_line l)) (begun-none c.args.self s c.args.at c.args.end c.requires.0 c.requires.1.0 bs b c.if-self-eq0.true))
-
-pub line_of-requires-2 : goal.line_of-requires-2
-line_of-requires-2 c = omega (arith, c.more-whole.ensures.0)
 
 pub returns : goal.returns
 returns c =

@@ -1,4 +1,5 @@
 use mathlib.Core.Path.{sym, ap, ◌∙◌}
+use Prim.Native.Nat.{ℕ}
 use native.Mathlib.Omega.{arith}
 use Rattle.layouts.specs.Unfold.{taken, Step}
 use Rattle.layouts.specs.Demand3.{J, L}
@@ -14,21 +15,36 @@ use Rattle.unfold_step.proofs.state.State.step.Goals as goal
 pub returns-in_default : goal.returns-in_default
 returns-in_default c =
     let a = c.args in
-    let none = picked_none a.self.waiting (sym c.next_of.ensures ∙ c.in_default.is) in record { by_index = λ z. sym (step-idle (J a.job.now) (L a.job.now) (state_of z a.self a.counts.now) none); by_index_2 = λ z. ap (λ (s : Step). counts_after s a.counts.now) (sym (step-idle (J a.job.now) (L a.job.now) (state_of z a.self a.counts.now) none)); by_index_3 = λ j. omega arith }
+    let none = picked_none a.self.waiting (sym c.next_of.ensures ∙ c.in_default.is) in
+    let ends = λ (z : ℕ). sym (step-idle (J a.job.now) (L a.job.now) (state_of z a.self a.counts.now) none) in
+    record {
+      by_index = λ z. ends z;
+      by_index_2 = λ z. ap (λ (s : Step). counts_after s a.counts.now) (ends z);
+      by_index_3 = λ j. omega arith;
+    }
 
 pub find_cut-requires : goal.find_cut-requires
 find_cut-requires c =
     let a = c.args in
     let ready = c.requires.ready_on in
-    let took = picked-rest a.self.waiting c.in-Of.stage c.in-Of.p c.next_of.ensures c.in-Of.is c.without.ensures in
-    part-there _ _ _ _ c.requires.parts_lent a.counts.now ready.ready.counted _ (taken-listed _ _ c.requires.parts_lent.lent.model (state_of ready.size a.self a.counts.now) _ took ready.ready)
+    let took = picked-rest a.self.waiting _ c.in-Some.p c.next_of.ensures c.in-Some.is c.without.ensures in
+    let st = state_of ready.size a.self a.counts.now in
+    let listed = taken-listed _ _ c.requires.parts_lent.lent.model st _ took ready.ready in
+    part-there _ _ _ _ c.requires.parts_lent a.counts.now ready.ready.counted _ listed
 
 pub returns-in_default-find_cut : goal.returns-in_default-find_cut
 returns-in_default-find_cut c =
     let a = c.args in
     let lent = c.requires.parts_lent.lent in
-    let took = picked-rest a.self.waiting _ c.in-Of.p c.next_of.ensures c.in-Of.is c.without.ensures in
-    let none = sym (c.find_cut.ensures _ (L a.job.now) lent.model c.requires.parts_lent.begins-are) ∙ ap found_means c.in_default-find_cut.is in record { by_index = λ z. sym (step-over (J a.job.now) (L a.job.now) (state_of z a.self a.counts.now) _ took none); by_index_2 = λ z. ap (λ (s : Step). counts_after s a.counts.now) (sym (step-over (J a.job.now) (L a.job.now) (state_of z a.self a.counts.now) _ took none)); by_index_3 = λ j. omega arith }
+    let took = picked-rest a.self.waiting _ c.in-Some.p c.next_of.ensures c.in-Some.is c.without.ensures in
+    let search = c.find_cut.ensures _ (L a.job.now) lent.model c.requires.parts_lent.begins-are in
+    let none = sym search ∙ ap found_means c.in_default-find_cut.is in
+    let over = λ (z : ℕ). sym (step-over (J a.job.now) (L a.job.now) (state_of z a.self a.counts.now) _ took none) in
+    record {
+      by_index = λ z. over z;
+      by_index_2 = λ z. ap (λ (s : Step). counts_after s a.counts.now) (over z);
+      by_index_3 = λ j. omega arith;
+    }
 
 pub cut-requires : goal.cut-requires
 cut-requires c =
@@ -38,14 +54,32 @@ cut-requires c =
     let l = L a.job.now in
     let ready = c.requires.ready_on in
     let st = state_of ready.size a.self a.counts.now in
-    let took = picked-rest a.self.waiting c.in-Of.stage c.in-Of.p c.next_of.ensures c.in-Of.is c.without.ensures in
-    let t = taken (piece_of c.in-Of.p) c.in-Of.stage (waiting_of c.without.result) in record { job_lent = lent; ready_on = record { size = ready.size; ready = rest-ready job l lent.model st t took ready.ready }; cuttable = found-cuttable job l lent.model st t took _ (sym (c.find_cut.ensures _ l lent.model c.requires.parts_lent.begins-are) ∙ ap found_means c.in-Cut.is) ready.ready; blade_value = c.requires.blade_value }
+    let took = picked-rest a.self.waiting _ c.in-Some.p c.next_of.ensures c.in-Some.is c.without.ensures in
+    let t = taken (piece_of c.in-Some.p) c.in-Some.stage (waiting_of c.without.result) in
+    let search = c.find_cut.ensures _ l lent.model c.requires.parts_lent.begins-are in
+    let found = sym search ∙ ap found_means c.in-Some-find_cut.is in
+    record {
+      job_lent = lent;
+      ready_on = record { size = ready.size; ready = rest-ready job l lent.model st t took ready.ready };
+      cuttable = found-cuttable job l lent.model st t took _ found ready.ready;
+      blade_value = c.requires.blade_value;
+    }
 
 pub returns : goal.returns
 returns c =
     let a = c.args in
     let lent = c.requires.parts_lent.lent in
     let l = L a.job.now in
-    let took = picked-rest a.self.waiting c.in-Of.stage c.in-Of.p c.next_of.ensures c.in-Of.is c.without.ensures in
-    let t = taken (piece_of c.in-Of.p) c.in-Of.stage (waiting_of c.without.result) in
-    let found = sym (c.find_cut.ensures _ l lent.model c.requires.parts_lent.begins-are) ∙ ap found_means c.in-Cut.is in record { by_index = λ z. c.cut.ensures.by_index z ∙ done-step (J a.job.now) l lent.model (state_of z a.self a.counts.now) t took _ found; by_index_2 = λ z. c.cut.ensures.counts_after ∙ done-spends (J a.job.now) l (state_of z a.self a.counts.now) t _ ∙ ap (λ (s : Step). counts_after s a.counts.now) (done-step (J a.job.now) l lent.model (state_of z a.self a.counts.now) t took _ found); by_index_3 = c.cut.ensures.by_index_2 }
+    let took = picked-rest a.self.waiting _ c.in-Some.p c.next_of.ensures c.in-Some.is c.without.ensures in
+    let t = taken (piece_of c.in-Some.p) c.in-Some.stage (waiting_of c.without.result) in
+    let search = c.find_cut.ensures _ l lent.model c.requires.parts_lent.begins-are in
+    let found = sym search ∙ ap found_means c.in-Some-find_cut.is in
+    let st = λ (z : ℕ). state_of z a.self a.counts.now in
+    let done = λ (z : ℕ). done-step (J a.job.now) l lent.model (st z) t took _ found in
+    let spends = λ (z : ℕ). done-spends (J a.job.now) l (st z) t _ in
+    let after = λ (z : ℕ). ap (λ (s : Step). counts_after s a.counts.now) (done z) in
+    record {
+      by_index = λ z. c.cut.ensures.by_index z ∙ done z;
+      by_index_2 = λ z. c.cut.ensures.counts_after ∙ spends z ∙ after z;
+      by_index_3 = c.cut.ensures.by_index_2;
+    }

@@ -11,15 +11,19 @@ returns-then-j-eq0 c job l h =
 pub returns-in-1 : goal.returns-in-1
 returns-in-1 c job l h =
     let a = c.args in
-    sym (wait-first l a.j.0 a.x a.y (waiting_of a.self) c.if-j-eq0.false (held_stage job l a.j.0 h c.plate_at-plate.ensures ∙ c.in-1.is))
+    sym (wait-first l a.j.0 a.x a.y (waiting_of a.self) c.if-j-eq0.false
+    (held_stage job l a.j.0 h c.plate_at-stage.ensures ∙ c.in-1.is))
 
 pub returns-in-2 : goal.returns-in-2
 returns-in-2 c job l h =
     let a = c.args in
-    sym (wait-second l a.j.0 a.x a.y (waiting_of a.self) c.if-j-eq0.false (held_stage job l a.j.0 h c.plate_at-plate.ensures ∙ c.in-2.is))
+    sym (wait-second l a.j.0 a.x a.y (waiting_of a.self) c.if-j-eq0.false
+    (held_stage job l a.j.0 h c.plate_at-stage.ensures ∙ c.in-2.is))
 
 pub returns-in_default : goal.returns-in_default
 returns-in_default c job l h =
     let a = c.args in
-    let s = held_stage job l a.j.0 h c.plate_at-plate.ensures in
-    sym (wait-third l a.j.0 a.x a.y (waiting_of a.self) c.if-j-eq0.false (λ e. c.in_default.in_default-own.rest.0.1 (sym s ∙ e)) (λ e. c.in_default.in_default-own.rest.1 (sym s ∙ e)))
+    let s = held_stage job l a.j.0 h c.plate_at-stage.ensures in
+    sym (wait-third l a.j.0 a.x a.y (waiting_of a.self) c.if-j-eq0.false
+    (λ e. c.in_default.in_default-own.rest.0.1 (sym s ∙ e))
+    (λ e. c.in_default.in_default-own.rest.1 (sym s ∙ e)))

@@ -1,2 +1,0 @@
--- The laws of this crate: buffers of full size.
-pub mod FullSize

@@ -1,2 +1,0 @@
--- The laws of this crate: parts that have been read.
-pub mod Reading
