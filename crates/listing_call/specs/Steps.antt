@@ -106,6 +106,11 @@ rest_walk job j l = over_plates max_plates max_cuts job (max_plates - j) j l
 abbrev pub rest_row : Job → ℕ → Plate → ℕ → Listing → Walk
 rest_row job j q i l = and_then (over_items max_plates max_cuts job j q i (drop (i - 1) (positions job)) l) (rest_walk job (j + 1))
 
+-- what a step says that counts in place: the numbers that it left, or its refusal
+abbrev pub went : Result (Unit {0}) Refusal → Listed → Result Listed Refusal
+went (Ok _) a = Ok a
+went (Err r) a = Err r
+
 -- a part of the walk, as the code answers it: the buffers hold a listing from which `rest` is the whole walk, or this has stopped with 6 or 7
 abbrev pub Goes : Job → (Listing → Walk) → Result Listed Refusal → List ℕ → List ℕ → List ℕ → List ℕ → Type 0
 Goes job rest (Ok a) plates index leasts cuts = Stands job rest plates index leasts cuts a.plates.0 a.cuts.0

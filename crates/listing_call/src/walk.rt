@@ -1,9 +1,9 @@
 // The walk: plate types in rising number, at each the item types in rising number, each unturned and then turned.
-ghost use Rattle.std.specs.Prelude.{◌≡◌, true, ◌+◌};
+ghost use Rattle.std.specs.Prelude.{◌≡◌, true, ◌+◌, OnErr};
 ghost use Rattle.job.specs.Job.{job_of, permitted};
 ghost use Rattle.listing.specs.Listing.{walk_start, walk};
 ghost use Rattle.listing_positions.specs.Least.{least_of};
-ghost use Rattle.listing_call.specs.Steps.{Room, Ready, Rep, Stands, top_from, right_from, rest_walk, rest_row, Goes, Stepped};
+ghost use Rattle.listing_call.specs.Steps.{Room, Ready, Rep, Stands, top_from, right_from, rest_walk, rest_row, went, Goes, Stepped};
 
 use crate::entry::enter;
 use crate::sizes::put_leasts;
@@ -43,7 +43,7 @@ fn leasts_left(mode: Mode, stage: u16, least: u16, lying: Leasts) -> Leasts
 }
 
 // The pair of plate type j, which is `plate` and has this least side, and an item in position i: if it may be cut, it becomes the next cut, and its residuals
-// are entered.
+// are entered. The numbers of plate types and cuts so far are counted in place: most pairs may not be cut and move none of them. A refusal leaves them as they were.
 // Words, mode and blade in place of a `JobRead`: what may not change (`pair_step`, which docs/requests/01-turned-items.md names).
 pub fn pair_step(
     job: &[u16],
@@ -54,23 +54,23 @@ pub fn pair_step(
     index: &mut [u16],
     leasts: &mut [u16],
     cuts: &mut [u16],
-    m: PlateTypes,
-    k: CutNumber,
+    at: &mut Listed,
     j: PlateType,
     plate: Plate,
     least: u16,
     i: ItemPosition,
-) -> Result<Listed, Refusal>
+) -> Result<(), Refusal>
     requires ready { Ready job.now mode blade table.now plates.old index.old leasts.old cuts.old }
     requires i_value { (permitted (job_of job.now) i.0 ≡ true) × (least ≡ least_of (job_of job.now) plate) }
-    requires stands { Stands (job_of job.now) (rest_row (job_of job.now) j.0 plate i.0) plates.old index.old leasts.old cuts.old m.0 k.0 }
-    ensures { Goes (job_of job.now) (rest_row (job_of job.now) j.0 plate (i.0 + 1)) result plates.new index.new leasts.new cuts.new }
+    requires stands { Stands (job_of job.now) (rest_row (job_of job.now) j.0 plate i.0) plates.old index.old leasts.old cuts.old at.old.plates.0 at.old.cuts.0 }
+    ensures goes { Goes (job_of job.now) (rest_row (job_of job.now) j.0 plate (i.0 + 1)) (went result at.new) plates.new index.new leasts.new cuts.new }
+    ensures kept { OnErr result (at.new ≡ at.old) }
 {
     let item = lying_at(table, i);
     if !may_cut(mode, item, plate) {
-        return Ok(Listed { plates: m, cuts: k });
+        return Ok(());
     }
-    let done = k.0;
+    let done = at.cuts.0;
     if MAX_CUTS <= done {
         return Err(Refusal::CutsMany);
     }
@@ -78,7 +78,7 @@ pub fn pair_step(
     let top = left.top;
     let right = left.right;
     let from = leasts_left(mode, plate.stage, least, leasts_at(table, i));
-    let t = enter(plates, index, leasts, m, top, top.height, from.top)?;
+    let t = enter(plates, index, leasts, at.plates, top, top.height, from.top)?;
     let r = enter(
         plates,
         index,
@@ -88,11 +88,12 @@ pub fn pair_step(
         right.width,
         from.right,
     )?;
-    put_cut(cuts, k, j, i, t.number, r.number);
-    Ok(Listed {
+    put_cut(cuts, at.cuts, j, i, t.number, r.number);
+    *at = Listed {
         plates: r.plates,
         cuts: CutNumber(done + 1),
-    })
+    };
+    Ok(())
 }
 
 // The plate types in rising number, at each the permitted positions in rising number; both loops are left when a 2,049th plate type or an 8,193rd cut is met.
@@ -110,13 +111,15 @@ fn walk_rows(
 {
     let head = job.head;
     let last = 2 * head.types.0 + 1;
-    let mut m = PlateTypes(head.sizes.0);
-    let mut k = CutNumber(0);
+    let mut at = Listed {
+        plates: PlateTypes(head.sizes.0),
+        cuts: CutNumber(0),
+    };
     let mut j: u16 = 0;
-    // By hand and left by its label: a rule of the project (docs/DECISIONS.md 25); m, where it ends, rises as it goes.
+    // By hand and left by its label: a rule of the project (docs/DECISIONS.md 25); the plate types, where it ends, rise as it goes.
     'walk: loop {
-        if m.0 <= j {
-            break 'walk Ok(Listed { plates: m, cuts: k });
+        if at.plates.0 <= j {
+            break 'walk Ok(at);
         }
         let plate = plate_at(plates, PlateType(j));
         let least = leasts[j as usize];
@@ -131,17 +134,13 @@ fn walk_rows(
                 index,
                 leasts,
                 cuts,
-                m,
-                k,
+                &mut at,
                 PlateType(j),
                 plate,
                 least,
                 ItemPosition(i),
             ) {
-                Ok(listed) => {
-                    m = listed.plates;
-                    k = listed.cuts;
-                }
+                Ok(()) => {}
                 Err(refusal) => {
                     break 'walk Err(refusal);
                 }

@@ -85,7 +85,8 @@ fn balance(listed: &ListedJob, counts: &[u16]) -> Result<Opening, Refused>
     );
     types_short(job, head.types, &items)?;
     types_overdrawn(&on, &left, head.sizes, listed.plates)?;
-    Ok(boards_opened(job, head.sizes, &on))
+    let opening = boards_opened(job, head.sizes, &on);
+    Ok(opening)
 }
 
 // The plan row, whole, of the counts for a listed job.

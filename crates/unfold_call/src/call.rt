@@ -58,9 +58,10 @@ pub fn unfold_plan(
     let mut begins = [0u16; BEGINS_SIZE];
     cut_begins(cuts, k, &mut begins);
     let head = head_of(job);
-    run(
+    let ran = run(
         job, head.blade, head.sizes, plates, cuts, &begins, lengths, &mut left, placements, offcuts,
-    )
+    );
+    ran
 }
 
 // Lists an admitted job into buffers of full size, tests the plan by its listing, and unfolds it.

@@ -2,30 +2,34 @@
 use Prim.Native.Nat.{ℕ, zero, suc, ◌+◌, ◌-◌, ◌≤◌, ◌<◌}
 use native.Mathlib.Numerals.{add-one}
 use native.Mathlib.Omega.{arith}
-use mathlib.Core.Path.{◌≡◌, refl}
+use mathlib.Core.Path.{◌≡◌, refl, ◌∙◌}
 use mathlib.Core.Bool.{Bool, true, false, cond}
 use mathlib.Core.List.{List, [], ◌∷◌}
-use mathlib.Core.Option.{none, some}
+use mathlib.Core.Option.{Option, none, some}
 use lib.Dec.{ltb}
-use lib.ListN.{length, get_or, set}
+use lib.ListN.{length, get_or, set, drop, drop_of_length-le}
+use lib.Seq.{drop-cons}
+use borrow.Author.Tests.{lt-ltb, le-ltb}
 use Rattle.listing.specs.Listing.{Cut, no_cut}
 use Rattle.plan.specs.Plan.{count_of}
 use Rattle.layouts.specs.Unfold.{spent}
-use Rattle.std.specs.Prelude.{Some}
-use Rattle.std.specs.List.{position_from}
 use Rattle.layouts.specs.OwnCuts.{first_left}
-use Rattle.unfold_waiting.specs.Meaning.{left_means}
 
--- the first count above 0, as the library finds it
-pub left-found : (k : ℕ) (ns : List ℕ) → left_means (position_from (λ n. ltb 0 n) k ns) ≡ first_left k ns
-unfolding first_left
-left-found k [] = refl
-left-found k (n ∷ ns) = by (ltb 0 n) (rw add-one at (left-found (k + 1) ns))
-  where
-    by : (t : Bool) → left_means (position_from (λ n. ltb 0 n) (suc k) ns) ≡ first_left (suc k) ns
-        → left_means (cond t (Some k) (position_from (λ n. ltb 0 n) (k + 1) ns)) ≡ elim t [ true ↦ some k | false ↦ first_left (suc k) ns ]
-    by true e = refl
-    by false e = rw add-one e
+module _ (ns : List ℕ) (i : ℕ) {whole : Option ℕ} (w : whole ≡ first_left i (drop i ns)) where
+  -- past the last count nothing is found
+  pub left_end : length ns ≤ i → whole ≡ none
+  unfolding first_left
+  left_end h = w ∙ rw (drop_of_length-le ns {i = i} h)
+
+  -- the first count that is not 0 is found
+  pub left_here : i < length ns → (get_or ns i 0 ≡ 0 → ⊥) → whole ≡ some i
+  unfolding first_left
+  left_here h t = w ∙ rw (drop-cons ns i 0 h, lt-ltb 0 (get_or ns i 0) (omega arith), first_left)
+
+  -- else the search goes on with the next
+  pub left_next : i < length ns → get_or ns i 0 ≡ 0 → whole ≡ first_left (i + 1) (drop (i + 1) ns)
+  unfolding first_left
+  left_next h t = w ∙ rw (drop-cons ns i 0 h, le-ltb 0 (get_or ns i 0) (omega arith), first_left, add-one)
 
 -- numbered from another cut on, the same count is found
 left-from : (k : ℕ) (ns : List ℕ) (a i : ℕ) → first_left k ns ≡ some i → first_left (a + k) ns ≡ some (a + i)

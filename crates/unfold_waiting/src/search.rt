@@ -11,10 +11,16 @@ ghost use Rattle.unfold_waiting.specs.Meaning.{left_means, found_means};
 use job::counters::{CutNumber, PlateType};
 
 // The place of the first count of a part that is left, from 0, if one is.
+#[tactic(auto, using(crate::proofs::CodeSearch::left_end, crate::proofs::CodeSearch::left_here, crate::proofs::CodeSearch::left_next))]
 fn first_left(part: &[u16]) -> Option<usize>
     ensures { left_means result ≡ first_left 0 part.now }
 {
-    part.iter().position(|&count| 0 < count)
+    for i in 0..part.len() {
+        if part[i] != 0 {
+            return Some(i);
+        }
+    }
+    None
 }
 
 // The lowest-numbered cut on plate type j that has a count left: the part of the counts from where its cuts begin to where those of the next type begin is

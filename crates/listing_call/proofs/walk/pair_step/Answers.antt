@@ -1,4 +1,5 @@
 use Rattle.std.proofs.lemmas.Result.{err_from_is_err_and}
+use mathlib.Core.Path.{refl}
 use native.Mathlib.Omega.{arith}
 use Rattle.job.specs.Job.{Job, job_of}
 use Rattle.listing.proofs.CodePlate.{may_cut-fits}
@@ -14,13 +15,13 @@ lying_at-item-requires c = in_table (begun c.args.j.0 c.args.i.0 c.args.plate c.
 pub returns-then-not-may_cut : goal.returns-then-not-may_cut
 returns-then-not-may_cut c =
     let s = begun c.args.j.0 c.args.i.0 c.args.plate c.requires.ready c.requires.i_value c.requires.stands in
-    skipped s c.lying_at-item.ensures c.may_cut.ensures c.if-not-may_cut.true
+    record { goes = skipped s c.lying_at-item.ensures c.may_cut.ensures c.if-not-may_cut.true; kept = tt }
 
 pub returns-then-done-ge-MAX_CUTS : goal.returns-then-done-ge-MAX_CUTS
 returns-then-done-ge-MAX_CUTS c =
     let s = begun c.args.j.0 c.args.i.0 c.args.plate c.requires.ready c.requires.i_value c.requires.stands in
     let may = c.if-not-may_cut.false in
-    (cuts-full s c.lying_at-item.ensures c.may_cut.ensures may c.if-done-ge-MAX_CUTS.true, omega arith)
+    record { goes = (cuts-full s c.lying_at-item.ensures c.may_cut.ensures may c.if-done-ge-MAX_CUTS.true, omega arith); kept = refl }
 
 pub cut_leaves-left-requires : goal.cut_leaves-left-requires
 cut_leaves-left-requires c = may_cut-fits c.args.mode _ c.args.plate c.may_cut.ensures c.if-not-may_cut.false
@@ -44,7 +45,7 @@ returns-in_err-t c =
     let a = c.enter.ensures (job_of c.args.job.now) s.stands.here.l.plates (held s) kept.0 in
     let full = as-full _ _ _ _ _ c.in_err-t.was a in
     let q = err_from_is_err_and c.from_residual.result c.from_residual.ensures.1 in
-    rw (q.1, q.2, full.0) (top-full s e c.may_cut.ensures may el c.if-done-ge-MAX_CUTS.false full.1, omega arith)
+    record { goes = rw (q.1, q.2, full.0) (top-full s e c.may_cut.ensures may el c.if-done-ge-MAX_CUTS.false full.1, omega arith); kept = rw q.1 refl }
 
 pub enter-requires-2 : goal.enter-requires-2
 enter-requires-2 c =
@@ -75,7 +76,7 @@ returns-in_err-r c =
     let b = c.enter-2.ensures job _ a.holding kept.1 in
     let full = as-full _ _ _ _ _ c.in_err-r.was b in
     let q = err_from_is_err_and c.from_residual-in_err-r.result c.from_residual-in_err-r.ensures.1 in
-    rw (q.1, q.2, full.0) (right-full s e c.may_cut.ensures may el c.if-done-ge-MAX_CUTS.false full.1, omega arith)
+    record { goes = rw (q.1, q.2, full.0) (right-full s e c.may_cut.ensures may el c.if-done-ge-MAX_CUTS.false full.1, omega arith); kept = rw q.1 refl }
 
 pub returns : goal.returns
 returns c =
@@ -88,4 +89,4 @@ returns c =
     let h = s.stands.here in
     let a = as-numbered c.in_ok-t.was (c.enter.ensures job h.l.plates (held s) kept.0) in
     let b = as-numbered c.in_ok-r.was (c.enter-2.ensures job _ a.holding kept.1) in
-    cut_next s e c.may_cut.ensures may el c.if-done-ge-MAX_CUTS.false a b (c.put_cut.ensures h.l.cuts h.rep.cut-count h.rep.of-cuts)
+    record { goes = cut_next s e c.may_cut.ensures may el c.if-done-ge-MAX_CUTS.false a b (c.put_cut.ensures h.l.cuts h.rep.cut-count h.rep.of-cuts); kept = tt }

@@ -15,8 +15,8 @@ use Rattle.plan_test.proofs.plan_row.balance.Goals as goal
 pub sum_counts-requires-clause-sums : goal.sum_counts-requires-clause-sums
 sum_counts-requires-clause-sums c = sums_none c.args.counts.now (max_types + 1) max_plates max_plates
 
-pub boards_opened-requires-clause-by_index : goal.boards_opened-requires-clause-by_index
-boards_opened-requires-clause-by_index c =
+pub boards_opened-opening-requires-clause-by_index : goal.boards_opened-opening-requires-clause-by_index
+boards_opened-opening-requires-clause-by_index c =
     let lent = c.args.listed.now.lent in
     let call = c.sum_counts in
     let room = zeros-room call.auto.items call.auto.on call.auto.left in
@@ -60,6 +60,6 @@ returns c l z p e =
     let plates : length l.plates ≤ max_plates = rw p c.args.listed.now.lent.few-plates in
     let said = balance-accepted job l ns _ _ _ sums room few plates c.types_short.ensures c.in_ok-types_short.was in
     let lent = c.args.listed.now.lent in
-    let opened = c.boards_opened.ensures in
+    let opened = c.boards_opened-opening.ensures in
     said (rw z (c.types_overdrawn.ensures l.plates p)) c.in_ok-types_overdrawn.was _ _ _
     (omega (arith, lent.few-sizes, room.for-plates)) z (lent-sizes lent) opened.boards_value opened.cost_value

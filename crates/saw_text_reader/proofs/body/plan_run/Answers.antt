@@ -1,4 +1,5 @@
 use native.Mathlib.Omega.{arith}
+use borrow.Author.Rules.{rules}
 use Prim.Native.Nat.{◌+◌, ◌*◌, ◌≤◌}
 use mathlib.Core.Path.{refl, sym}
 use lib.ListN.{length, take, drop, replicate}
@@ -49,12 +50,12 @@ slice_bounds-plan_numbers-end c =
 
 pub plan_numbers-here-requires : goal.plan_numbers-here-requires
 plan_numbers-here-requires c =
-    let judged : PlanNumbers (types_of c.args.job.now) (take c.in-Some.g c.complete_line.new.numbers) = plan-judged _ _ (said-passed c.in-Ok.is) c.args.job.now c.plan_line.ensures in
+    let judged : PlanNumbers (types_of c.args.job.now) (take c.in-Some.g c.complete_line.new.numbers) = plan-judged _ _ (said-passed (search rules)) c.args.job.now c.plan_line.ensures in
     more-types c.requires.words_of_head_in_bounds.1 judged
 
 pub more-plan-requires : goal.more-plan-requires
 more-plan-requires c =
-    let judged : PlanNumbers (types_of c.args.job.now) (take c.in-Some.g c.complete_line.new.numbers) = plan-judged _ _ (said-passed c.in-Ok.is) c.args.job.now c.plan_line.ensures in
+    let judged : PlanNumbers (types_of c.args.job.now) (take c.in-Some.g c.complete_line.new.numbers) = plan-judged _ _ (said-passed (search rules)) c.args.job.now c.plan_line.ensures in
     let room = c.requires.k_le_max_cuts in record { line_nonzero = (omega arith, (omega (arith, room.0, room.1.1.0), omega (arith, room.0, room.1.1.1, c.loop-at.invariant.long))); record_in = omega (arith, room.1.0, judged.plate, c.plan_numbers-here.ensures.plate-is) }
 
 pub overflow_mul-at : goal.overflow_mul-at
@@ -97,7 +98,7 @@ loop-at-preserved c =
       ten = refl;
       complete = complete;
       refusal = number_said c.plan_line.result;
-      admitted = said-passed c.in-Ok.is;
+      admitted = said-passed (search rules);
       judged = c.plan_line.ensures;
       more = λ m vs rs model line planned.
           let known = kept-modelled vs a.plates.now a.cuts.now (Listed m a.k) m a.k refl c.requires.k_le_max_cuts.1.1.0 model in

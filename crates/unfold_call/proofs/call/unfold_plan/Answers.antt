@@ -32,8 +32,8 @@ cut_begins-requires c =
     let lent = c.requires.model_lent in
     (omega (arith, cuts-there _ _ _ lent.lent, lent.cuts-number), omega (arith, size-begins))
 
-pub run-requires : goal.run-requires
-run-requires c =
+pub run-ran-requires : goal.run-ran-requires
+run-ran-requires c =
     let a = c.args in
     let lent = c.requires.model_lent.lent in
     let begins = c.cut_begins in
@@ -59,7 +59,7 @@ returns c =
     let ns = a.counts.now in
     let size = c.requires.counts_size_in_bounds in
     let e = copy ns c.copy_counts.ensures in
-    let r = c.run in
+    let r = c.run-ran in
     let m = lent.model in
     let list = copy-list a.job.now lent.admitted m ns size.0 size.1 e a.lengths r.result _ _ r.ensures in
     record {
