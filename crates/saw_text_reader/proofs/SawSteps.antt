@@ -5,7 +5,7 @@ use mathlib.Core.Path.{◌≡◌, refl, ap}
 use mathlib.Core.List.{List, []}
 use mathlib.Core.Option.{some}
 use lib.ListN.{length, length-replicate}
-use Rattle.std.specs.Prelude.{Ok, Err}
+use Rattle.std.specs.Prelude.{Result, Ok, Err}
 use Rattle.job.specs.declared.refused.Refusal.{Refusal}
 use Rattle.job.specs.Refused.{number_of}
 use Rattle.listing.specs.Holds.{Holds}
@@ -22,7 +22,7 @@ use Rattle.saw_text_lines.specs.declared.held.Taken.{Taken}
 use Rattle.saw_text_lines.specs.SawKept.{Lent, lent, Room, TakenAs}
 use Rattle.saw_text_lines.proofs.KeptSound.{room-again}
 use Rattle.saw_text_reader.specs.declared.saw.SawReader.{SawReader}
-use Rattle.saw_text_reader.specs.SawFed.{NoneHeld, SawReady, SawKept, Step, zeros, Started}
+use Rattle.saw_text_reader.specs.SawFed.{NoneHeld, SawReady, SawKept, Step, AfterLine, zeros, Started}
 
 module _ (r : Reader Saw) (f : SawReader) (b b' : Lent) (ns : List ℕ) (t' : TextReader) (k : SawKept r f b) where
   -- the numbers of a line are refused
@@ -82,6 +82,21 @@ module _ (f : SawReader) (b b' : Lent) (ns : List ℕ) (t' : TextReader) (room :
   admitted-step t took l a =
       let ready : SawReady (record { text = t'; held = t.held }) b' = record { text = at_ready t' a (omega arith); room = room } in
       record { ready = ready; kept = λ r k. step-admitted r f b b' ns t' k t (took r k) ready a }
+
+-- the numbers of a line, whether they are admitted or refused
+pub after-line-step :
+    (f : SawReader) (b b' : Lent) (ns : List ℕ) (room : Room b') (x : Result Taken Refusal)
+    → ((r : Reader Saw) → SawKept r f b → TakenAs r.state r.lines ns f.held x b')
+    → f.text.lines < max_lines
+    → {g : SawReader} → AfterLine f x g → Step (λ q. line_read saw_grammar q (some ns)) f b g b'
+after-line-step f b b' ns room (Ok t) took l {g} a = go g.held a.1
+  where
+    go : (h : SawHeld) → h ≡ t.held → Step (λ q. line_read saw_grammar q (some ns)) f b (record { text = g.text; held = h }) b'
+    go h e = rw e (admitted-step f b b' ns g.text room t took l a.0)
+after-line-step f b b' ns room (Err x) took l {g} a = go g.held a.1
+  where
+    go : (h : SawHeld) → h ≡ f.held → Step (λ q. line_read saw_grammar q (some ns)) f b (record { text = g.text; held = h }) b'
+    go h e = rw e (refused-step f b b' ns g.text room x took (omega (arith, l)) a.0)
 
 -- nothing is read yet
 zero-length : (ws : List ℕ) → length (zeros ws) ≡ length ws

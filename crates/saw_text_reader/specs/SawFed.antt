@@ -1,10 +1,13 @@
 -- Document 01, "Texts": the reader of a saw text in parts: what a state and lent buffers keep of the definition's reader, and what a part does to them.
-use Rattle.std.specs.Prelude.{ℕ, ◌≡◌, false, List, length, replicate}
+use Rattle.std.specs.Prelude.{ℕ, suc, ◌≡◌, false, List, [], length, replicate, Result, Ok, Err}
+use Rattle.job.specs.declared.refused.Refusal.{Refusal}
+use Rattle.job.specs.Refused.{number_of}
 use Rattle.saw_text_body.specs.declared.model.Model.TheVariants.{Refused}
 use Rattle.texts.specs.Reader.{Reader, started, fed}
 use Rattle.texts.specs.SawText.{Saw, saw_grammar}
-use Rattle.texts_reading.specs.Standing.{TextKept, TextReady}
+use Rattle.texts_reading.specs.Standing.{TextAt, TextKept, TextReady}
 use Rattle.saw_text_lines.specs.declared.held.SawHeld.{SawHeld}
+use Rattle.saw_text_lines.specs.declared.held.Taken.{Taken}
 use Rattle.saw_text_lines.specs.SawKept.{Lent, lent, Room, NoPlan, HeldAs}
 use Rattle.saw_text_reader.specs.declared.saw.SawReader.{SawReader}
 
@@ -31,6 +34,11 @@ pub record SawKept (r : Reader Saw) (f : SawReader) (b : Lent) : Type 0 where
 pub record Step (next : Reader Saw → Reader Saw) (f : SawReader) (b : Lent) (f' : SawReader) (b' : Lent) : Type 0 where
   pub ready : SawReady f' b'
   pub kept : (r : Reader Saw) → SawKept r f b → SawKept (next r) f' b'
+
+-- the state g after the next line of a text of state f, by what was taken of it: the line is admitted, or the text is refused and all that is kept stays
+abbrev pub AfterLine : SawReader → Result Taken Refusal → SawReader → Type 0
+AfterLine f (Ok t) g = TextAt g.text t.place (suc f.text.lines) 0 [] × (g.held ≡ t.held)
+AfterLine f (Err x) g = TextAt g.text f.text.place f.text.lines (number_of x) [] × (g.held ≡ f.held)
 
 -- every word is 0
 abbrev pub zeros : List ℕ → List ℕ

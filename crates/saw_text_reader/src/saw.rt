@@ -4,7 +4,7 @@ ghost use Rattle.std.specs.Prelude.{◌<◌};
 ghost use Rattle.texts.specs.Reader.{max_lines, line_read};
 ghost use Rattle.texts.specs.SawText.{saw_grammar};
 ghost use Rattle.saw_text_lines.specs.SawKept.{lent};
-ghost use Rattle.saw_text_reader.specs.SawFed.{NoneHeld, SawReady, Step, Started, Fed};
+ghost use Rattle.saw_text_reader.specs.SawFed.{NoneHeld, SawReady, Step, AfterLine, Started, Fed};
 
 use crate::next::{Next, next_line};
 use columns::widths::MOST_NUMBERS;
@@ -14,7 +14,7 @@ use job::words::clear;
 use saw_text_body::model::Model;
 use saw_text_body::plan_lines::PlanLines;
 use saw_text_body::price_lines::no_prices;
-use saw_text_lines::held::SawHeld;
+use saw_text_lines::held::{SawHeld, Taken};
 use saw_text_lines::numbers::{sound, take_numbers};
 use texts_reading::text::TextReader;
 
@@ -78,9 +78,18 @@ impl SawReader {
             return self;
         }
         let line = self.text.lines + 1;
-        match take_numbers(
+        let taken = take_numbers(
             self.held, place, line, numbers, job, plates, cuts, counts, prices,
-        ) {
+        );
+        self.after_line(taken)
+    }
+
+    // The reader after the next line, by what was taken of it: the line is admitted, or the text is refused and all that is kept stays.
+    fn after_line(self, taken: Result<Taken, Refusal>) -> SawReader
+        requires { self.text.lines < max_lines }
+        ensures { AfterLine self taken result }
+    {
+        match taken {
             Ok(taken) => SawReader {
                 text: self.text.admitted(taken.place),
                 held: taken.held,

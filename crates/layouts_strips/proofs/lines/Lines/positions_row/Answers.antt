@@ -21,7 +21,7 @@ next_spot-spot-requires c = (c.loop-c-test.true, c.loop-c.invariant.1)
 pub loop-c-preserved : goal.loop-c-preserved
 loop-c-preserved c =
     let l = c.loop-c in (
-      spots-next (job_of c.args.self.now.job.now) c.args.self.now.layouts.now c.args.self.now.number c.args.k l.c l.spot c.args.self.now.lent.whole l.invariant.0 c.loop-c-test.true (read-placed c.placement_at-line.ensures) c.ne.ensures c.if-ne.false c.next_spot-spot.ensures.0,
+      spots-next (job_of c.args.self.now.job.now) c.args.self.now.layouts.now c.args.self.now.number c.args.k l.c l.spot c.args.self.now.lent.whole l.invariant.0 c.loop-c-test.true (read-placed c.placement_at-line.ensures) (grind arith) c.if-ne.false c.next_spot-spot.ensures.0,
       c.next_spot-spot.ensures.1,
     )
 
@@ -29,7 +29,7 @@ pub returns-then-ne : goal.returns-then-ne
 returns-then-ne c =
     let l = c.loop-c in
     rw c.at.ensures
-    (spots-off (job_of c.args.self.now.job.now) c.args.self.now.layouts.now c.args.self.now.number c.args.k l.c l.spot c.args.self.now.lent.whole l.invariant.0 c.loop-c-test.true (read-placed c.placement_at-line.ensures) c.ne.ensures c.if-ne.true)
+    (spots-off (job_of c.args.self.now.job.now) c.args.self.now.layouts.now c.args.self.now.number c.args.k l.c l.spot c.args.self.now.lent.whole l.invariant.0 c.loop-c-test.true (read-placed c.placement_at-line.ensures) (grind arith) c.if-ne.true)
 
 pub returns : goal.returns
 returns c =

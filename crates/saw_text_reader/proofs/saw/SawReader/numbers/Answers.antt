@@ -4,7 +4,7 @@ use borrow.Author.Tests.{not-true, not-false}
 use Rattle.job.proofs.Tests.{not-both}
 use Rattle.saw_text_lines.specs.SawKept.{lent}
 use Rattle.saw_text_lines.proofs.KeptSound.{room-again, kept-sound}
-use Rattle.saw_text_reader.proofs.SawSteps.{refused-step, admitted-step}
+use Rattle.saw_text_reader.proofs.SawSteps.{after-line-step}
 use Rattle.saw_text_reader.proofs.saw.SawReader.numbers.Goals as goal
 
 -- `numbers` takes the numbers of a line, and the text stands after it or is refused.
@@ -17,30 +17,16 @@ returns-then-not-sound c = record {
   kept = λ r k. absurd (not-both (kept-sound c.args.self.text.place r.state r.lines c.args.self.held _ k.text.stands k.held) (rw c.head_of-head.ensures.of-sizes at (sym c.sound.ensures ∙ not-true _ c.if-not-sound.true-raw)));
 }
 
-pub take_numbers-requires : goal.take_numbers-requires
-take_numbers-requires c = record { room = c.requires.saw_ready.room; line_nonzero = (omega arith, rw (← c.head_of-head.ensures.of-sizes) (sym c.sound.ensures ∙ not-false _ c.if-not-sound.false-raw)) }
+pub take_numbers-taken-requires : goal.take_numbers-taken-requires
+take_numbers-taken-requires c = record { room = c.requires.saw_ready.room; line_nonzero = (omega arith, rw (← c.head_of-head.ensures.of-sizes) (sym c.sound.ensures ∙ not-false _ c.if-not-sound.false-raw)) }
 
-pub returns-in-Err : goal.returns-in-Err
-returns-in-Err c =
+pub returns : goal.returns
+returns c =
     let a = c.args in
-    let took = c.take_numbers in
-    refused-step a.self (lent a.job.now a.plates.now a.cuts.now a.counts.now a.prices.now) _ a.numbers.now c.refused.result
+    let took = c.take_numbers-taken in
+    after-line-step a.self (lent a.job.now a.plates.now a.cuts.now a.counts.now a.prices.now) _ a.numbers.now
     (room-again c.requires.saw_ready.room took.auto.job took.auto.plates took.auto.cuts took.auto.counts took.auto.prices)
-    c.in-Err.refusal
-    (λ r k. rw c.in-Err.is at (took.ensures r.state r.lines k.text.stands (omega (arith, k.text.lines)) k.held))
-    c.requires.saw_ready.text.few
-    (rw c.number.ensures at c.refused.ensures)
-
-pub admitted-requires : goal.admitted-requires
-admitted-requires c = c.requires.lines_lt_max_lines
-
-pub returns-in-Ok : goal.returns-in-Ok
-returns-in-Ok c =
-    let a = c.args in
-    let took = c.take_numbers in
-    admitted-step a.self (lent a.job.now a.plates.now a.cuts.now a.counts.now a.prices.now) _ a.numbers.now c.admitted.result
-    (room-again c.requires.saw_ready.room took.auto.job took.auto.plates took.auto.cuts took.auto.counts took.auto.prices)
-    c.in-Ok.taken
-    (λ r k. rw c.in-Ok.is at (took.ensures r.state r.lines k.text.stands (omega (arith, k.text.lines)) k.held))
+    took.result
+    (λ r k. took.ensures r.state r.lines k.text.stands (omega (arith, k.text.lines)) k.held)
     c.requires.lines_lt_max_lines
-    c.admitted.ensures
+    c.after_line.ensures
