@@ -24,5 +24,5 @@ module _ (text : List ℕ) (at : ℕ) {f f' : FoldReader} {job layouts job' layo
       rw e at (part-read (take at text) (take (end - at) (drop at text)) a p)
 
   -- up to the end
-  pub read-rest : Fed (take (length text - at) (drop at text)) f job layouts f' job' layouts' → at ≤ length text → After text f' (lent job' layouts')
-  read-rest p h = rw (take-length text) at (read-further (length text) h p)
+  pub read_rest : Fed (take (length text - at) (drop at text)) f job layouts f' job' layouts' → at ≤ length text → After text f' (lent job' layouts')
+  read_rest p h = rw (take-length text) at (read-further (length text) h p)

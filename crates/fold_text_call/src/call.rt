@@ -30,6 +30,7 @@ pub fn fold_text(
 
 // Feeds a text in parts that end at the given places, and then the rest of it.
 // One loop for both texts is no plainer: `feed` takes two lent buffers here and five in `saw_text_call`, which a trait would want as a struct of each.
+#[tactic(auto, using(crate::proofs::TextParts::read_rest))]
 fn read_in_parts(text: &[u8], ends: &[u32], job: &mut [u16], layouts: &mut [u16]) -> FoldReader
     requires { (longest_job ≤ length job.old) × (layouts_size ≤ length layouts.old) }
     ensures { After text.now result (words job.new layouts.new) }

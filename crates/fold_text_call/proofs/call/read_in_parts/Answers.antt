@@ -1,6 +1,6 @@
 use Rattle.std.proofs.Common.{arith}
 use Rattle.fold_text_reader.proofs.CodeSplits.{nothing_read}
-use Rattle.fold_text_call.proofs.TextParts.{read-further, read-rest}
+use Rattle.fold_text_call.proofs.TextParts.{read-further}
 use Rattle.fold_text_call.proofs.call.read_in_parts.Goals as goal
 
 pub loop-end-init : goal.loop-end-init
@@ -10,8 +10,3 @@ pub loop-end-preserved : goal.loop-end-preserved
 loop-end-preserved c =
     let l = c.loop-end in
     record { within = omega arith; after = read-further c.args.text.now l.at l.invariant.after _ (omega arith) c.feed-reader.ensures }
-
-pub returns : goal.returns
-returns c =
-    let l = c.loop-end in
-    read-rest c.args.text.now l.at l.invariant.after c.feed.ensures l.invariant.within
